@@ -1,0 +1,13 @@
+pub mod Lists
+pub mod Decimal
+pub mod ListLaws
+pub mod DecimalLaws
+pub mod Words
+pub mod Refusals
+pub mod Forms
+pub mod Reading
+pub mod Writable
+pub mod ReadingLaws
+pub mod DidLaws
+pub mod CommandLaws
+pub mod LengthLaws

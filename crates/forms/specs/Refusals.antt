@@ -1,0 +1,22 @@
+-- The refusals, with the paper's number for each.
+use Prim.Native.Nat.{ℕ}
+use Rattle.forms.specs.declared.Refusal.{Refusal}
+use Rattle.forms.specs.declared.Refusal.the-variants.{Unreadable, WrongCount, NoSuchHistory, HistoryTwice, OperandRange, NothingOrders, IdPending, AlreadyDone, ReadOvertaken, TableFull, WrongState, NoRoom, AboveLimit, OutOfTurn, BadLog}
+
+-- "A refusal returns its number only": the column `no.` of the table in "Refusals".
+unfoldable pub numberOf : Refusal → ℕ
+numberOf Unreadable = 1
+numberOf WrongCount = 2
+numberOf NoSuchHistory = 3
+numberOf HistoryTwice = 4
+numberOf OperandRange = 5
+numberOf NothingOrders = 6
+numberOf IdPending = 7
+numberOf AlreadyDone = 8
+numberOf ReadOvertaken = 9
+numberOf TableFull = 10
+numberOf WrongState = 11
+numberOf NoRoom = 12
+numberOf AboveLimit = 13
+numberOf OutOfTurn = 14
+numberOf BadLog = 15

@@ -1,0 +1,79 @@
+// The values that the lines of document 01 carry, and the refusals. Their printed forms and their reading are in specs/.
+
+// The rule of an update that is asked for.
+pub enum Rule {
+    Inc,
+    Set,
+    Not,
+    Unk,
+}
+
+// The rule of an update that was done: the words of a log are inc, set and not, and `unk` is logged as `inc`.
+pub enum DoneRule {
+    DidInc,
+    DidSet,
+    DidNot,
+}
+
+// The version of a history: a counter.
+pub struct Version(pub u64);
+
+// The place of a history: how many updates were done in it.
+pub struct Place(pub u64);
+
+// The log number of an operation: its position among the operations that the site has done.
+pub struct LogNumber(pub u64);
+
+// An update that is asked for, (RULE H U O).
+pub struct Asked {
+    pub rule: Rule,
+    pub history: u64,
+    pub version: Version,
+    pub operand: u64,
+}
+
+// An update that was done, (RULE H V P O): the version and the place after it.
+pub struct Done {
+    pub rule: DoneRule,
+    pub history: u64,
+    pub version: Version,
+    pub place: Place,
+    pub operand: u64,
+}
+
+// The first four updates of an add line, and how many it has.
+pub struct AskedHeld {
+    pub count: usize,
+    pub first: [Asked; 4],
+}
+
+// The first four updates of a did line, and how many it has.
+pub struct DoneHeld {
+    pub count: usize,
+    pub first: [Done; 4],
+}
+
+// A did line: the operation's id, and what is held of its updates.
+pub struct DidLine {
+    pub id: u64,
+    pub held: DoneHeld,
+}
+
+// Why a call is refused. The numbers of document 01 are given by `numberOf` in specs/Refusals.antt.
+pub enum Refusal {
+    Unreadable,
+    WrongCount,
+    NoSuchHistory,
+    HistoryTwice,
+    OperandRange,
+    NothingOrders,
+    IdPending,
+    AlreadyDone,
+    ReadOvertaken,
+    TableFull,
+    WrongState,
+    NoRoom,
+    AboveLimit,
+    OutOfTurn,
+    BadLog,
+}

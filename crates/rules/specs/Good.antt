@@ -1,0 +1,67 @@
+-- The invariant of states: what holds of every site that calls reach. Its laws are that opening and restart give it and every call keeps it.
+use mathlib.Core.Path.{_≡_}
+use mathlib.Core.Bool.{Bool, true, false, not}
+use mathlib.Core.List.{List, [], _∷_, _++_, map}
+use mathlib.Core.List.{List·Memᴰ as Mem}
+use mathlib.Core.Option.{none}
+use Prim.Native.Nat.{ℕ, _+_, _≤_}
+use lib.Dec.{T}
+use lib.ListN.{length}
+use Rattle.forms.specs.Decimal.{top}
+use Rattle.forms.specs.Lists.{all, sum}
+use Rattle.forms.specs.ListLaws.{Nodup}
+use Rattle.forms.specs.Forms.{Update, Did}
+use Rattle.forms.specs.Writable.{WritableDid}
+use Rattle.rules.specs.Book.{canRun}
+use Rattle.rules.specs.Checks.{updatesRefusal, changesRefusal}
+use Rattle.rules.specs.Log.{historiesFit, accepts}
+use Rattle.rules.specs.State.{Operation, State, liveLimit, logLimit, logBytes, liveDone, live, lineBytes}
+use Rattle.rules.specs.Calls.{mayRunNow, blocked, nothingOrders, writableUpdate}
+
+-- A line that can stand in a log of n histories: it passes 2 to 5, and can be written.
+pub record FormedDid (n : ℕ) (d : Did) : Type 0 where
+  pub passes : changesRefusal n (d .changes) ≡ none
+  pub writable : WritableDid d
+
+-- Every line of a log ran where it stands: its places were next and its updates could run.
+abbrev pub Ran : List Did → Type 0
+Ran log = (a : List Did) (d : Did) (b : List Did) → log ≡ a ++ d ∷ b → T (canRun a d)
+
+-- An operation that passed 2 to 6, and can be written.
+pub record FormedOperation (n : ℕ) (x : Operation) : Type 0 where
+  pub passes : updatesRefusal n (x .updates) ≡ none
+  pub orders : nothingOrders (x .updates) ≡ false
+  pub id : x .id ≤ top
+  pub writable : (u : Update) → Mem u (x .updates) → T (writableUpdate u)
+
+abbrev pub didIds : List Did → List ℕ
+didIds ds = map (λ (d : Did). d .id) ds
+
+abbrev pub operationIds : List Operation → List ℕ
+operationIds xs = map (λ (x : Operation). x .id) xs
+
+pub record Good (st : State) : Type 0 where
+  pub histories : T (historiesFit (st .histories))
+  -- the log is one that restart accepts
+  pub formed : (d : Did) → Mem d (st .log) → FormedDid (st .histories) d
+  pub ran : Ran (st .log)
+  pub waitingFormed : (d : Did) → Mem d (st .waiting) → FormedDid (st .histories) d
+  -- no waiting line can run: each call drains
+  pub quiet : (d : Did) → Mem d (st .waiting) → T (canRun (st .log) d) → ⊥
+  -- the printed log and the waiting lines fit the buffer
+  pub fits : length (logBytes st) + sum lineBytes (st .waiting) ≤ st .room
+  pub roomLimit : st .room ≤ logLimit
+  pub stableBelow : st .stableTo ≤ st .persistentTo
+  pub persistentBelow : st .persistentTo ≤ length (st .log)
+  -- "At most 64 operations are live"
+  pub few : live st ≤ liveLimit
+  -- live ids are distinct
+  pub ids : Nodup (didIds (liveDone st) ++ (didIds (st .waiting) ++ operationIds (st .pending)))
+  pub idle : st .restoring ≡ true → st .pending ≡ []
+  pub nobodyWaits : st .restoring ≡ false → st .waiting ≡ []
+  pub pendingFormed : (x : Operation) → Mem x (st .pending) → FormedOperation (st .histories) x
+  -- an operation in progress may still run
+  pub running : (x : Operation) → Mem x (st .pending) → T (x .running) → T (all (mayRunNow (st .log)) (x .updates))
+  -- two operations in progress never conflict
+  pub apart : (a : List Operation) (x : Operation) (b : List Operation) → st .pending ≡ a ++ x ∷ b → T (x .running) →
+      (u : Update) → Mem u (x .updates) → T (blocked (a ++ b) u) → ⊥

@@ -1,0 +1,15 @@
+pub mod Rules
+pub mod Book
+pub mod Checks
+pub mod Log
+pub mod State
+pub mod Calls
+pub mod Keeper
+pub mod Session
+pub mod Good
+pub mod LogLaws
+pub mod BookLaws
+pub mod CheckLaws
+pub mod PendingLaws
+pub mod GoodLaws
+pub mod Examples
