@@ -7,6 +7,7 @@ pub mod Refusals
 pub mod Forms
 pub mod Reading
 pub mod Writable
+pub mod Held
 pub mod ReadingLaws
 pub mod DidLaws
 pub mod CommandLaws

@@ -77,3 +77,41 @@ pub enum Refusal {
     OutOfTurn,
     BadLog,
 }
+
+// A list of at most 64 numbers: ids, histories or profiles.
+pub struct Numbers {
+    pub count: usize,
+    pub values: [u64; 64],
+}
+
+// A history as `show` gives it.
+pub struct Shown {
+    pub history: u64,
+    pub version: Version,
+    pub persistent: Version,
+    pub stable: Version,
+    pub place: Place,
+    pub profile: u64,
+}
+
+// Which form a reply has, with its single numbers. Its lists stand beside it, in `ReplyLine`.
+pub enum ReplyForm {
+    Refused(Refusal),
+    Opened,
+    Added,
+    Finished(LogNumber),
+    Withdrawn,
+    Persisted,
+    Stabilised,
+    Shows(Shown),
+    Restarted { lines: u64, used: u64 },
+    Redone(u64),
+    Ended,
+}
+
+// A reply: its form and the lists that the form has, in their printed order. `outcomeOf` in specs/Held.antt says what it means.
+pub struct ReplyLine {
+    pub form: ReplyForm,
+    pub first: Numbers,
+    pub second: Numbers,
+}
