@@ -1,11 +1,13 @@
 -- The session of "A session, whole" and the cases P1 to P10 of "At the edges", computed from the definitions.
-use mathlib.Core.Path.{_≡_, refl}
+use mathlib.Core.Path.{_≡_, refl, ap₂}
 use mathlib.Core.Bool.{Bool, true, false, _&&_, not}
 use mathlib.Core.List.{List, [], _∷_, _++_}
+use mathlib.Core.List.{List·Memᴰ as Mem, List·Memᴰ·head as here, List·Memᴰ·tail as there}
 use Prim.Native.Nat.{ℕ}
-use lib.Dec.{T, eqb}
+use lib.Dec.{T, eqb, eqb→eq}
 use lib.ListN.{length}
 use Rattle.forms.specs.Lists.{all, below}
+use Rattle.forms.specs.ListLaws.{and-left, and-right, all-at}
 use Rattle.forms.specs.Words.{bytes, word}
 use Rattle.forms.specs.Decimal.{digitsWithin, digits, more, number}
 use Rattle.forms.specs.Refusals.{numberOf}
@@ -21,13 +23,97 @@ use Rattle.rules.specs.Calls.{unless, openFull, openRefusal, opened, ope
 use Rattle.rules.specs.Keeper.{sameBytes}
 use Rattle.rules.specs.Session.{turnOf, opening, calling, obey, onCommand, turn, replies, restReply, session}
 
--- The input, and the replies, of "A session, whole".
-abbrev input : List ℕ
-input = bytes "(site 2)\n(add 5 (inc 0 1 513)(not 1 0 0))\n(add 6 (set 1 4 1000))\n(finish 5)\n(finish 6)\n(persistent 1)\n(show 0)\n(cut 60)\n(show 1)\n(redo (did 6 (set 1 4 2 1000)))\n(redo (did 6 (set 1 4 2 1000)))\n(end)\n(show 1)\n"
+-- A session: the text of its input, and the text of all its replies.
+pub record Row : Type 0 where
+  pub input : List ℕ
+  pub replies : List ℕ
 
-abbrev output : List ℕ
-output = bytes "(ok)\n(ok (ready 5))\n(ok (ready))\n(ok 1 (values 65536 0)(ready 6))\n(ok 2 (values 1000)(ready))\n(ok (histories 0)(dry 0))\n(history 0 1 1 0 1 65536)\n(ok 1 46)\n(history 1 0 0 0 1 0)\n(ok 1)\n(refused 8)\n(ok (waiting))\n(history 1 4 0 0 2 1000)\n"
+abbrev row : List ℕ → List ℕ → Row
+row input replies = record { input = input; replies = replies }
 
-pub whole-session : session input ≡ output
-unfolding entered enter enterAll cellFrom cell touches runsAt canRun unless openFull openRefusal opened openSite blockedBy blocked mayRunNow ready attempt tryFrom madeReady nothingOrders idPending idDone alreadyDone readOvertaken tableFull addRefusal arrived add changeOf lineOf valuesAfter inProgress future without logFull finished finishFound finish withdrawRefusal withdraw persistent stable show restarted restartAs restart cutAbove cut stale redoRefusal behind pick drain delivered redoRead redo end writableUpdate writable perform step check andThen wrongCount noSuchHistory historyTwice updateMisfits changeMisfits formRefusal updatesRefusal changesRefusal ended didsText logText linesFrom restFrom historiesFit accepts readLines readFirst readLog replaced turnOf opening calling obey onCommand turn replies restReply session logBytes versionAt liveDone live asks dry becameDry rose lineBytes below digitsWithin digits more number word numberOf fieldText fieldsText updateText changeText oneText siteText didText redoText numbersText answerText outcomeText itemsText tailText listText reading.field reading.rule reading.doneRule reading.update reading.change reading.one reading.did reading.add reading.redo reading.numbered reading.command readWhole readDid readSite readCommand reading.items reading.tail
-whole-session = refl
+-- "A session, whole", up to its cut.
+abbrev toCut : List ℕ
+toCut = bytes "(site 2)\n(add 5 (inc 0 1 513)(not 1 0 0))\n(add 6 (set 1 4 1000))\n(finish 5)\n(finish 6)\n(persistent 1)\n(show 0)\n"
+
+abbrev toCutReplies : List ℕ
+toCutReplies =
+    bytes "(ok)\n(ok (ready 5))\n(ok (ready))\n(ok 1 (values 65536 0)(ready 6))\n(ok 2 (values 1000)(ready))\n"
+    ++ bytes "(ok (histories 0)(dry 0))\n(history 0 1 1 0 1 65536)\n"
+
+-- "A session, whole".
+abbrev pub whole : Row
+whole =
+    row
+    (toCut ++ bytes "(cut 60)\n(show 1)\n(redo (did 6 (set 1 4 2 1000)))\n(redo (did 6 (set 1 4 2 1000)))\n(end)\n(show 1)\n")
+    (toCutReplies ++ bytes "(ok 1 46)\n(history 1 0 0 0 1 0)\n(ok 1)\n(refused 8)\n(ok (waiting))\n(history 1 4 0 0 2 1000)\n")
+
+-- That session's 71 bytes of log, and more calls.
+abbrev on71 : List ℕ → List ℕ → Row
+on71 calls answers = row (toCut ++ calls) (toCutReplies ++ answers)
+
+-- A site of one history at C = 0, and a call.
+abbrev at0 : List ℕ → List ℕ → Row
+at0 calls answers = row (bytes "(site 1)\n" ++ calls) (bytes "(ok)\n" ++ answers)
+
+-- A site of one history at C = 4, with profile 65536, and more calls.
+abbrev at4 : List ℕ → List ℕ → Row
+at4 calls answers =
+    row (bytes "(site 1)\n(add 1 (set 0 4 65536))\n(finish 1)\n" ++ calls) (bytes "(ok)\n(ok (ready 1))\n(ok 1 (values 65536)(ready))\n" ++ answers)
+
+-- "At the edges": P1 to P10.
+abbrev pub edges : List Row
+edges =
+    -- P1 to P6: "cut 8 refused 15; cut 9 and 45 `(ok 0 9)`; 46 `(ok 1 46)`; 71 `(ok 2 71)`; 72 refused 13"
+    on71 (bytes "(cut 8)\n") (bytes "(refused 15)\n")
+    ∷ on71 (bytes "(cut 9)\n") (bytes "(ok 0 9)\n")
+    ∷ on71 (bytes "(cut 45)\n") (bytes "(ok 0 9)\n")
+    ∷ on71 (bytes "(cut 46)\n") (bytes "(ok 1 46)\n")
+    ∷ on71 (bytes "(cut 71)\n") (bytes "(ok 2 71)\n")
+    ∷ on71 (bytes "(cut 72)\n") (bytes "(refused 13)\n")
+    -- P7: "cut 9, redo of 6 `(ok 0)`, redo of 5 `(ok 2)`"
+    ∷ on71
+    (bytes "(cut 9)\n(redo (did 6 (set 1 4 2 1000)))\n(redo (did 5 (inc 0 1 1 513)(not 1 0 1 0)))\n")
+    (bytes "(ok 0 9)\n(ok 0)\n(ok 2)\n")
+    -- P8: "inc at C = 0: 1 runs, 2 waits, 0 refused 8"
+    ∷ at0 (bytes "(add 5 (inc 0 1 0))\n") (bytes "(ok (ready 5))\n")
+    ∷ at0 (bytes "(add 5 (inc 0 2 0))\n") (bytes "(ok (ready))\n")
+    ∷ at0 (bytes "(add 5 (inc 0 0 0))\n") (bytes "(refused 8)\n")
+    -- P9: "at C = 4: set 5 runs, set 4 refused 8; not 4 runs, not 3 refused 9, not 5 waits"
+    ∷ at4 (bytes "(add 5 (set 0 5 0))\n") (bytes "(ok (ready 5))\n")
+    ∷ at4 (bytes "(add 5 (set 0 4 0))\n") (bytes "(refused 8)\n")
+    ∷ at4 (bytes "(add 5 (not 0 4 0))\n") (bytes "(ok (ready 5))\n")
+    ∷ at4 (bytes "(add 5 (not 0 3 0))\n") (bytes "(refused 9)\n")
+    ∷ at4 (bytes "(add 5 (not 0 5 0))\n") (bytes "(ok (ready))\n")
+    -- P10: "profile 65536 with operand 255 becomes 65791; profile 0 with 1023 becomes 4278190080"
+    ∷ at4 (bytes "(add 5 (inc 0 5 255))\n(finish 5)\n") (bytes "(ok (ready 5))\n(ok 2 (values 65791)(ready))\n")
+    ∷ at0 (bytes "(add 5 (inc 0 1 1023))\n(finish 5)\n") (bytes "(ok (ready 5))\n(ok 1 (values 4278190080)(ready))\n")
+    ∷ []
+
+-- The test of a row: the replies are these, byte for byte.
+unfoldable holds : Row → Bool
+holds r = sameBytes (session (r .input)) (r .replies)
+
+same-bytes : (a b : List ℕ) → T (sameBytes a b) → a ≡ b
+unfolding sameBytes
+same-bytes [] [] t = refl
+same-bytes [] (y ∷ b) t = absurd t
+same-bytes (x ∷ a) [] t = absurd t
+same-bytes (x ∷ a) (y ∷ b) t =
+    ap₂ (λ (z : ℕ) (l : List ℕ). z ∷ l) (eqb→eq x y (and-left (eqb x y) (sameBytes a b) t)) (same-bytes a b (and-right (eqb x y) (sameBytes a b) t))
+
+holds-is : (r : Row) → T (holds r) → session (r .input) ≡ r .replies
+unfolding holds
+holds-is r t = same-bytes (session (r .input)) (r .replies) t
+
+-- The one computed test, over the session and the whole table.
+computed : T (all holds (whole ∷ edges))
+unfolding holds sameBytes entered enter enterAll cellFrom cell touches runsAt canRun unless openFull openRefusal opened openSite blockedBy blocked mayRunNow ready attempt tryFrom madeReady nothingOrders idPending idDone alreadyDone readOvertaken tableFull addRefusal arrived add changeOf lineOf valuesAfter inProgress future without logFull finished finishFound finish withdrawRefusal withdraw persistent stable show restarted restartAs restart cutAbove cut stale redoRefusal behind pick drain delivered redoRead redo end writableUpdate writable perform step check andThen wrongCount noSuchHistory historyTwice updateMisfits changeMisfits formRefusal updatesRefusal changesRefusal ended didsText logText linesFrom restFrom historiesFit accepts readLines readFirst readLog replaced turnOf opening calling obey onCommand turn replies restReply session logBytes versionAt liveDone live asks dry becameDry rose lineBytes below digitsWithin digits more number word numberOf fieldText fieldsText updateText changeText oneText siteText didText redoText numbersText answerText outcomeText itemsText tailText listText reading.field reading.rule reading.doneRule reading.update reading.change reading.one reading.did reading.add reading.redo reading.numbered reading.command readWhole readDid readSite readCommand reading.items reading.tail
+computed = tt
+
+-- "A session, whole": that input gives these replies.
+pub whole-session : session (whole .input) ≡ whole .replies
+whole-session = holds-is whole (all-at holds (whole ∷ edges) computed whole (here refl))
+
+-- P1 to P10 hold.
+pub edges-hold : (r : Row) → Mem r edges → session (r .input) ≡ r .replies
+edges-hold r m = holds-is r (all-at holds (whole ∷ edges) computed r (there m))
