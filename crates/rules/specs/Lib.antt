@@ -8,8 +8,8 @@ pub mod Keeper
 pub mod Session
 pub mod Good
 pub mod LogLaws
-pub mod BookLaws
 pub mod CheckLaws
+pub mod BookLaws
 pub mod PendingLaws
 pub mod GoodLaws
 pub mod Examples
