@@ -112,14 +112,18 @@ pub record Formed {A : Type 0} (history : A → ℕ) (misfits : A → Bool) (n :
 twice-once : (hs : List ℕ) → historyTwice hs ≡ false → Nodup hs
 unfolding historyTwice
 twice-once [] e = tt
-twice-once (h ∷ hs) e =
-    (λ m. false-T (any (eqb h) hs) (or-false-left (any (eqb h) hs) (historyTwice hs) e) (any-of (eqb h) m (eqb-refl h)), twice-once hs (or-false-right (any (eqb h) hs) (historyTwice hs) e))
+twice-once (h ∷ hs) e = (
+  λ m. false-T (any (eqb h) hs) (or-false-left (any (eqb h) hs) (historyTwice hs) e) (any-of (eqb h) m (eqb-refl h)),
+  twice-once hs (or-false-right (any (eqb h) hs) (historyTwice hs) e),
+)
 
 once-twice : (hs : List ℕ) → Nodup hs → historyTwice hs ≡ false
 unfolding historyTwice
 once-twice [] k = refl
 once-twice (h ∷ hs) k =
-    or-false (any (eqb h) hs) (historyTwice hs) (T-false (any (eqb h) hs) (λ t. let q = any-at (eqb h) hs t in k .0 (Memᴰ·cast (eqb→eq h (q .0) (q .2)) (q .1)))) (once-twice hs (k .1))
+    or-false (any (eqb h) hs) (historyTwice hs)
+    (T-false (any (eqb h) hs) (λ t. let q = any-at (eqb h) hs t in k .0 (Memᴰ·cast (eqb→eq h (q .0) (q .2)) (q .1))))
+    (once-twice hs (k .1))
 
 module _ {A : Type 0} (history : A → ℕ) (misfits : A → Bool) (n : ℕ) (xs : List A) where
   pub formed-of : formRefusal history misfits n xs ≡ none → Formed history misfits n xs
@@ -147,11 +151,14 @@ module _ {A : Type 0} (history : A → ℕ) (misfits : A → Bool) (n : ℕ) (xs
   pub formed-none : Formed history misfits n xs → formRefusal history misfits n xs ≡ none
   unfolding formRefusal wrongCount noSuchHistory
   formed-none F =
-      none-check _ WrongCount _ (or-false (eqb (length xs) 0) (ltb 4 (length xs)) (T-false (eqb (length xs) 0) (λ t. let e = eqb→eq (length xs) 0 t in omega (arith, F .some))) (le-not-lt 4 (length xs) (F .few)))
+      none-check _ WrongCount _ (or-false (eqb (length xs) 0) (ltb 4 (length xs)) some (le-not-lt 4 (length xs) (F .few)))
       (none-check _ NoSuchHistory _ (any-false-of (leb n) (map history xs) (λ h m. known h (Memᴰ·of-map history xs m)))
       (none-check _ HistoryTwice _ (once-twice (map history xs) (F .once))
       (none-check _ OperandRange _ (any-false-of misfits xs (F .fit)) refl)))
     where
+      some : eqb (length xs) 0 ≡ false
+      some = T-false (eqb (length xs) 0) (λ t. let e = eqb→eq (length xs) 0 t in omega (arith, F .some))
+
       known : (h : ℕ) → (x : A) × Mem x xs × (history x ≡ h) → leb n h ≡ false
       known h (x, m, e) = lt-not-le n h (rw e at (F .known x m))
 

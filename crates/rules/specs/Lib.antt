@@ -9,8 +9,8 @@ pub mod Session
 pub mod Good
 pub mod LineSplitLaws
 pub mod LogLaws
-pub mod BookLaws
 pub mod CheckLaws
+pub mod BookLaws
 pub mod PendingLaws
 pub mod GoodLaws
 pub mod Examples
