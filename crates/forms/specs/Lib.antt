@@ -12,3 +12,4 @@ pub mod ReadingLaws
 pub mod DidLaws
 pub mod CommandLaws
 pub mod LengthLaws
+pub mod HeldLaws
