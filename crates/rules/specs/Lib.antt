@@ -7,6 +7,7 @@ pub mod Calls
 pub mod Keeper
 pub mod Session
 pub mod Good
+pub mod LineSplitLaws
 pub mod LogLaws
 pub mod CheckLaws
 pub mod BookLaws
