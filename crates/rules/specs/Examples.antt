@@ -21,7 +21,7 @@ use Rattle.rules.specs.Log.{ended, didsText, logText, linesFrom, restFro
 use Rattle.rules.specs.State.{logBytes, versionAt, liveDone, live, asks, dry, becameDry, rose, lineBytes, settle}
 use Rattle.rules.specs.Calls.{unless, openFull, openRefusal, opened, openSite, blockedBy, blocked, mayRunNow, ready, attempt, tryFrom, madeReady, nothingOrders, idPending, idDone, alreadyDone, readOvertaken, tableFull, addRefusal, arrived, add, changeOf, lineOf, valuesAfter, inProgress, future, without, logFull, finished, finishFound, finish, withdrawRefusal, withdraw, persistent, stable, show, restarted, restartAs, restart, cutAbove, cut, stale, redoRefusal, behind, pick, drain, delivered, redoRead, redo, end, writableUpdate, writable, perform, step}
 use Rattle.rules.specs.Keeper.{sameBytes}
-use Rattle.rules.specs.Session.{turnOf, opening, calling, obey, onCommand, turn, replies, restReply, session}
+use Rattle.rules.specs.Session.{turnOf, opening, calling, obey, onCommand, turn, replies, restReply, sessionIn, session}
 
 -- A session: the text of its input, and the text of all its replies.
 pub record Row : Type 0 where
@@ -107,7 +107,7 @@ holds-is r t = same-bytes (session (r .input)) (r .replies) t
 
 -- The one computed test, over the session and the whole table.
 computed : T (all holds (whole ∷ edges))
-unfolding holds sameBytes entered enter enterAll cellFrom cell touches runsAt canRun unless openFull openRefusal opened openSite blockedBy blocked mayRunNow ready attempt tryFrom madeReady nothingOrders idPending idDone alreadyDone readOvertaken tableFull addRefusal arrived add changeOf lineOf valuesAfter inProgress future without logFull finished finishFound finish withdrawRefusal withdraw persistent stable show restarted restartAs restart cutAbove cut stale redoRefusal behind pick drain delivered redoRead redo end writableUpdate writable perform step check andThen wrongCount noSuchHistory historyTwice updateMisfits changeMisfits formRefusal updatesRefusal changesRefusal ended didsText logText linesFrom restFrom historiesFit accepts readLines readFirst readLog replaced turnOf opening calling obey onCommand turn replies restReply session logBytes versionAt liveDone live asks dry becameDry rose lineBytes below digitsWithin digits more number word numberOf fieldText fieldsText updateText changeText oneText siteText didText redoText numbersText answerText outcomeText itemsText tailText listText reading.field reading.rule reading.doneRule reading.update reading.change reading.one reading.did reading.add reading.redo reading.numbered reading.command readWhole readDid readSite readCommand reading.items reading.tail
+unfolding holds sameBytes entered enter enterAll cellFrom cell touches runsAt canRun unless openFull openRefusal opened openSite blockedBy blocked mayRunNow ready attempt tryFrom madeReady nothingOrders idPending idDone alreadyDone readOvertaken tableFull addRefusal arrived add changeOf lineOf valuesAfter inProgress future without logFull finished finishFound finish withdrawRefusal withdraw persistent stable show restarted restartAs restart cutAbove cut stale redoRefusal behind pick drain delivered redoRead redo end writableUpdate writable perform step check andThen wrongCount noSuchHistory historyTwice updateMisfits changeMisfits formRefusal updatesRefusal changesRefusal ended didsText logText linesFrom restFrom historiesFit accepts readLines readFirst readLog replaced turnOf opening calling obey onCommand turn replies restReply sessionIn session logBytes versionAt liveDone live asks dry becameDry rose lineBytes below digitsWithin digits more number word numberOf fieldText fieldsText updateText changeText oneText siteText didText redoText numbersText answerText outcomeText itemsText tailText listText reading.field reading.rule reading.doneRule reading.update reading.change reading.one reading.did reading.add reading.redo reading.numbered reading.command readWhole readDid readSite readCommand reading.items reading.tail
 computed = tt
 
 -- "A session, whole": that input gives these replies.
