@@ -8,6 +8,7 @@ pub mod Keeper
 pub mod Session
 pub mod Good
 pub mod LineSplitLaws
+pub mod FitLaws
 pub mod LogLaws
 pub mod CheckLaws
 pub mod BookLaws
