@@ -12,6 +12,7 @@ pub mod FitLaws
 pub mod LogLaws
 pub mod CheckLaws
 pub mod BookLaws
+pub mod DrainLaws
 pub mod PendingLaws
 pub mod GoodLaws
 pub mod Examples
