@@ -14,5 +14,6 @@ pub mod CheckLaws
 pub mod BookLaws
 pub mod DrainLaws
 pub mod PendingLaws
+pub mod FinishLaws
 pub mod GoodLaws
 pub mod Examples
