@@ -15,5 +15,6 @@ pub mod BookLaws
 pub mod DrainLaws
 pub mod PendingLaws
 pub mod FinishLaws
+pub mod IdLaws
 pub mod GoodLaws
 pub mod Examples
