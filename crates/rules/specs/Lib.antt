@@ -16,5 +16,6 @@ pub mod DrainLaws
 pub mod PendingLaws
 pub mod FinishLaws
 pub mod IdLaws
+pub mod WorkLaws
 pub mod GoodLaws
 pub mod Examples

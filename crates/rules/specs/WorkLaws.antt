@@ -1,0 +1,260 @@
+-- Add, finish and withdraw keep the invariant.
+use mathlib.Core.Path.{_≡_, refl, sym, ap, _∙_, subst}
+use mathlib.Core.Logic.{_⊎_, inl, inr}
+use mathlib.Core.Bool.{Bool, true, false, cond, not, _&&_, _||_}
+use mathlib.Core.List.{List, [], _∷_, _++_, map, map-append, Memᴰ·map, Memᴰ·of-map, append-assoc}
+use mathlib.Core.List.{List·Memᴰ as Mem, List·Memᴰ·head as here, List·Memᴰ·tail as there, List·Memᴰ·not-nil, Memᴰ·append-right}
+use mathlib.Core.Option.{Option, none, some}
+use Prim.Native.Nat.{ℕ, _+_, _≤_, _<_}
+use native.Mathlib.Omega.{arith}
+use lib.Dec.{T, T-not, eqb, leb, ltb, eqb→eq, eqb-refl, leb→le}
+use lib.ListN.{length, length-append, length-map, length-drop, drop}
+use Rattle.forms.specs.Decimal.{top}
+use Rattle.forms.specs.Lists.{all, any, keep, find, sum}
+use Rattle.forms.specs.ListLaws.{Nodup, nodup-right, nodup-apart, mem-along, mem-snoc, mem-of-keep, length-keep, length-keep-less, true-T, and-left, and-right, all-at}
+use Rattle.forms.specs.Forms.{Update, Did, Answer}
+use Rattle.forms.specs.declared.Refusal.the-variants.{NothingOrders, IdPending, AlreadyDone, ReadOvertaken, TableFull, WrongState, NoRoom, OutOfTurn}
+use Rattle.rules.specs.Checks.{check, andThen, updatesRefusal}
+use Rattle.rules.specs.Log.{logText}
+use Rattle.rules.specs.State.{Operation, State, Reply, refused, ok, liveLimit, logLimit, logBytes, liveDone, live, lineBytes, withPending, withLog}
+use Rattle.rules.specs.Calls.{unless, blocked, mayRunNow, tryAll, nothingOrders, idPending, idDone, alreadyDone, readOvertaken, tableFull}
+use Rattle.rules.specs.Calls.{addRefusal, arrived, add, lineOf, inProgress, future, without, logFull, finished, finishFound, finish, withdrawRefusal, withdraw}
+use Rattle.rules.specs.Calls.{writableUpdate}
+use Rattle.rules.specs.Good.{Good, FormedDid, FormedOperation, didIds, operationIds}
+use Rattle.rules.specs.FitLaws.{length-log-snoc, few-log-lines}
+use Rattle.rules.specs.CheckLaws.{refused-not-ok, check-none, andThen-none, unless-ok, unless-check, not-lt, not-le, or-false-left}
+use Rattle.rules.specs.BookLaws.{each-once, ran-snoc}
+use Rattle.rules.specs.PendingLaws.{Pending, unblocked-apart, apart-unblocked, pending-try, pending-part, pending-more, try-ids, try-length}
+use Rattle.rules.specs.FinishLaws.{line-runs, line-good, still-may}
+use Rattle.rules.specs.IdLaws.{Fresh, fresh-tested, ids-without, ids-snoc, ids-pend, ids-do}
+
+-- An accepted call's state is the one that it was shown to give.
+pub good-ok : (s t : State) (a b : Answer) → ok s a ≡ ok t b → Good s → Good t
+good-ok s t a b e G = let p : s ≡ t = cc in subst Good p G
+
+pub true-not-false : (b : Bool) → b ≡ true → b ≡ false → ⊥
+true-not-false b p q = let z : _≡_ {A = ℕ} 0 1 = cc in omega arith
+
+-- ### Other pending operations
+
+good-pending : (st : State) → Good st → Pending (st .histories) (operationIds (st .pending)) (st .log) (st .pending)
+good-pending st G = record { idsAre = refl; formed = G .pendingFormed; may = G .running; apart = unblocked-apart (st .pending) (G .apart) }
+
+module _ (st : State) (xs : List Operation) where
+  -- The same site with other pending operations.
+  good-with : Good st → st .restoring ≡ false → Pending (st .histories) (operationIds xs) (st .log) xs →
+      length (st .waiting) + length xs + length (liveDone st) ≤ liveLimit →
+      Nodup (didIds (liveDone st) ++ (didIds (st .waiting) ++ operationIds xs)) → Good (withPending xs st)
+  unfolding live liveDone logBytes
+  good-with G off P few ids =
+      record {
+        histories = G .histories;
+        formed = G .formed;
+        ran = G .ran;
+        waitingFormed = G .waitingFormed;
+        quiet = G .quiet;
+        fits = G .fits;
+        roomLimit = G .roomLimit;
+        stableBelow = G .stableBelow;
+        persistentBelow = G .persistentBelow;
+        few = few;
+        ids = ids;
+        idle = λ on. absurd (true-not-false (st .restoring) on off);
+        nobodyWaits = G .nobodyWaits;
+        pendingFormed = P .formed;
+        running = P .may;
+        apart =
+            apart-unblocked (st .histories) (operationIds xs) (st .log) xs P
+            (nodup-right (didIds (st .waiting)) (operationIds xs) (nodup-right (didIds (liveDone st)) (didIds (st .waiting) ++ operationIds xs) ids));
+      }
+
+-- "the future operations are tried once"
+good-tried : (st : State) → Good st → st .restoring ≡ false → Good (withPending (tryAll (st .log) (st .pending)) st)
+unfolding live
+good-tried st G off =
+    let n = st .histories in
+    let log = st .log in
+    let xs = st .pending in
+    good-with st (tryAll log xs) G off
+    (subst (λ (ids : List ℕ). Pending n ids log (tryAll log xs)) (sym (try-ids log xs)) (pending-try n (operationIds xs) log xs (good-pending st G)))
+    (omega (arith, G .few, try-length (st .log) (st .pending)))
+    (subst (λ (ids : List ℕ). Nodup (didIds (liveDone st) ++ (didIds (st .waiting) ++ ids))) (sym (try-ids log xs)) (G .ids))
+
+-- ### Add
+
+add-good : (i : ℕ) (us : List Update) (st : State) → Good st → st .restoring ≡ false → FormedOperation (st .histories) (record { id = i; updates = us; running = false }) →
+    idPending i st ≡ false → idDone i st ≡ false → live st < liveLimit → Good (withPending (arrived i us st) st)
+unfolding arrived live
+add-good i us st G off F e7 e8 e10 =
+    good-with st (st .pending ++ x ∷ []) G off
+    (subst (λ (ids : List ℕ). Pending (st .histories) ids (st .log) (st .pending ++ x ∷ [])) (sym more) (pending-more (st .histories) (operationIds (st .pending)) (st .log) (st .pending) x (good-pending st G) F refl))
+    (omega (arith, length-append (st .pending) (x ∷ [])))
+    (subst (λ (ids : List ℕ). Nodup (didIds (liveDone st) ++ (didIds (st .waiting) ++ ids))) (sym more)
+    (ids-pend i (didIds (liveDone st)) (didIds (st .waiting)) (operationIds (st .pending)) (fresh-tested i st e7 e8) (G .ids)))
+  where
+    x : Operation
+    x = record { id = i; updates = us; running = false }
+
+    more : operationIds (st .pending ++ x ∷ []) ≡ operationIds (st .pending) ++ i ∷ []
+    more = map-append (λ (y : Operation). y .id) (st .pending) (x ∷ [])
+
+pub good-add : (i : ℕ) (us : List Update) (st st′ : State) (a : Answer) → Good st → i ≤ top → T (all writableUpdate us) → add i us st ≡ ok st′ a → Good st′
+unfolding add addRefusal tableFull
+good-add i us st st′ a G le w e =
+    let q = unless-ok _ _ st′ a e in
+    let q14 = check-none _ OutOfTurn _ (q .0) in
+    let q25 = andThen-none _ _ (q14 .1) in
+    let q6 = check-none _ NothingOrders _ (q25 .1) in
+    let q7 = check-none _ IdPending _ (q6 .1) in
+    let q8 = check-none _ AlreadyDone _ (q7 .1) in
+    let q9 = check-none _ ReadOvertaken _ (q8 .1) in
+    let q10 = check-none _ TableFull _ (q9 .1) in
+    let F : FormedOperation (st .histories) (record { id = i; updates = us; running = false }) =
+    record { passes = q25 .0; orders = q6 .0; id = le; writable = all-at writableUpdate us w } in
+    good-ok _ st′ _ a (q .1)
+    (good-tried (withPending (arrived i us st) st)
+    (add-good i us st G (q14 .0) F (q7 .0) (or-false-left (idDone i st) (any (alreadyDone st) us) (q8 .0)) (not-le liveLimit (live st) (q10 .0)))
+    (q14 .0))
+
+-- ### Withdraw
+
+-- What is left of the pending operations may still run.
+pending-without : (i : ℕ) (st : State) → Good st → Pending (st .histories) (operationIds (without i (st .pending))) (st .log) (without i (st .pending))
+unfolding without
+pending-without i st G =
+    let f : Operation → Bool = λ x. not (eqb (x .id) i) in
+    pending-part (st .histories) (operationIds (st .pending)) (st .log) (st .pending) (keep f (st .pending)) (st .log) (good-pending st G)
+    (λ y k. mem-of-keep f (st .pending) k .0)
+    (λ y k r. G .running y (mem-of-keep f (st .pending) k .0) r)
+
+pub good-withdraw : (i : ℕ) (st st′ : State) (a : Answer) → Good st → withdraw i st ≡ ok st′ a → Good st′
+unfolding withdraw withdrawRefusal without live
+good-withdraw i st st′ a G e =
+    let f : Operation → Bool = λ x. not (eqb (x .id) i) in
+    let q = unless-ok _ _ st′ a e in
+    let q14 = check-none _ OutOfTurn _ (q .0) in
+    good-ok _ st′ _ a (q .1)
+    (good-with st (without i (st .pending)) G (q14 .0) (pending-without i st G)
+    (omega (arith, G .few, length-keep f (st .pending)))
+    (ids-without (didIds (liveDone st)) (didIds (st .waiting)) f (st .pending) (G .ids)))
+
+-- ### Finish
+
+module _ {A : Type 0} (f : A → Bool) where
+  pub find-at : (l : List A) (x : A) → find f l ≡ some x → Mem x l × T (f x)
+  find-at [] x e = absurd (let z : _≡_ {A = ℕ} 0 1 = cc in omega arith)
+  find-at (y ∷ l) x e = go (f y) refl e (λ k. find-at l x k)
+    where
+      up : Mem x l × T (f x) → Mem x (y ∷ l) × T (f x)
+      up q = (there (q .0), q .1)
+
+      go : (b : Bool) → f y ≡ b → cond b (some y) (find f l) ≡ some x → (find f l ≡ some x → Mem x l × T (f x)) → Mem x (y ∷ l) × T (f x)
+      go true p k below = let same : y ≡ x = cc in (here (sym same), subst (λ (z : A). T (f z)) same (true-T (f y) p))
+      go false p k below = up (below k)
+
+-- An operation in progress done, and taken from the pending ones.
+finish-good : (st : State) (x : Operation) → Good st → Mem x (st .pending) → T (x .running) → st .restoring ≡ false →
+    length (logBytes st) + sum lineBytes (st .waiting) + lineBytes (lineOf (st .log) x) ≤ st .room →
+    Good (withLog (st .log ++ lineOf (st .log) x ∷ []) (withPending (without (x .id) (st .pending)) st))
+unfolding live liveDone logBytes without lineOf
+finish-good st x G at on off fits =
+    record {
+      histories = G .histories;
+      formed = λ e k. formed-one e (mem-snoc (st .log) k);
+      ran = ran-snoc (st .log) d (G .ran) (line-runs (st .log) x may);
+      waitingFormed = G .waitingFormed;
+      quiet = λ e k. absurd (List·Memᴰ·not-nil (mem-along (G .nobodyWaits off) k));
+      fits = omega (arith, length-log-snoc (st .histories) (st .log) d);
+      roomLimit = G .roomLimit;
+      stableBelow = G .stableBelow;
+      persistentBelow = omega (arith, G .persistentBelow, length-append (st .log) (d ∷ []));
+      few = omega (arith, G .few, length-append (st .log) (d ∷ []), length-drop (st .stableTo) (st .log), length-drop (st .stableTo) log′, length-keep-less f at gone, low);
+      ids = ids;
+      idle = λ restoring. absurd (true-not-false (st .restoring) restoring off);
+      nobodyWaits = G .nobodyWaits;
+      pendingFormed = P .formed;
+      running = P .may;
+      apart = apart-unblocked (st .histories) (operationIds left) log′ left P (nodup-right W (operationIds left) (nodup-right D (W ++ operationIds left) fewer));
+    }
+  where
+    d : Did
+    d = lineOf (st .log) x
+
+    log′ : List Did
+    log′ = st .log ++ d ∷ []
+
+    f : Operation → Bool
+    f y = not (eqb (y .id) (x .id))
+
+    left : List Operation
+    left = keep f (st .pending)
+
+    D : List ℕ
+    D = didIds (drop (st .stableTo) (st .log))
+
+    W : List ℕ
+    W = didIds (st .waiting)
+
+    may : T (all (mayRunNow (st .log)) (x .updates))
+    may = G .running x at on
+
+    low : st .stableTo ≤ length (st .log)
+    low = omega (arith, G .stableBelow, G .persistentBelow)
+
+    short : length (st .log) < top
+    short = omega (arith, G .fits, G .roomLimit, few-log-lines (st .histories) (st .log))
+
+    formed-one : (e : Did) → (e ≡ d) ⊎ Mem e (st .log) → FormedDid (st .histories) e
+    formed-one e (inl p) =
+        subst (FormedDid (st .histories)) (sym p)
+        (line-good (st .histories) (st .log) x (each-once (st .histories) (st .log) (G .formed)) short (G .pendingFormed x at) may)
+    formed-one e (inr k) = G .formed e k
+
+    gone : T (f x) → ⊥
+    gone t = T-not (eqb (x .id) (x .id)) t (eqb-refl (x .id))
+
+    other : (y : Operation) → Mem y left → x .id ≡ y .id → ⊥
+    other y k e = T-not (eqb (y .id) (x .id)) (mem-of-keep f (st .pending) k .1) (rw e (eqb-refl (y .id)))
+
+    P : Pending (st .histories) (operationIds left) log′ left
+    P =
+        pending-part (st .histories) (operationIds (st .pending)) (st .log) (st .pending) left log′ (good-pending st G)
+        (λ y k. mem-of-keep f (st .pending) k .0)
+        (λ y k r. let q = mem-of-keep f (st .pending) k .0 in
+        still-may (st .log) x y (unblocked-apart (st .pending) (G .apart) x y at q (other y k) on r) (G .running y q r))
+
+    fewer : Nodup (D ++ (W ++ operationIds left))
+    fewer = ids-without D W f (st .pending) (G .ids)
+
+    mine : Mem (x .id) (operationIds (st .pending))
+    mine = Memᴰ·map (λ (y : Operation). y .id) at
+
+    out : (y : Operation) × Mem y left × (y .id ≡ x .id) → ⊥
+    out (y, k, e) = other y k (sym e)
+
+    fresh : Fresh (x .id) D W (operationIds left)
+    fresh =
+        record {
+          done = λ k. nodup-apart D (G .ids) k (Memᴰ·append-right W mine);
+          waits = λ k. nodup-apart W (nodup-right D (W ++ operationIds (st .pending)) (G .ids)) k mine;
+          pends = λ k. out (Memᴰ·of-map (λ (y : Operation). y .id) left k);
+        }
+
+    ids : Nodup (didIds (drop (st .stableTo) log′) ++ (W ++ operationIds left))
+    ids = rw (ids-snoc (λ (e : Did). e .id) (st .stableTo) (st .log) d low) (ids-do (x .id) D W (operationIds left) fresh fewer)
+
+pub good-finish : (i : ℕ) (st st′ : State) (a : Answer) → Good st → finish i st ≡ ok st′ a → Good st′
+unfolding finish finishFound finished inProgress logFull
+good-finish i st st′ a G e =
+    let q = unless-check _ OutOfTurn _ st′ a e in
+    go (find (inProgress i) (st .pending)) refl (q .0) (q .1)
+  where
+    go : (o : Option Operation) → find (inProgress i) (st .pending) ≡ o → st .restoring ≡ false → finishFound o st ≡ ok st′ a → Good st′
+    go none p off r = absurd (refused-not-ok WrongState st′ a r)
+    go (some x) p off r =
+        let b = unless-check _ NoRoom _ st′ a r in
+        let k = find-at (inProgress i) (st .pending) x p in
+        good-ok _ st′ _ a (b .1)
+        (good-tried (withLog (st .log ++ lineOf (st .log) x ∷ []) (withPending (without (x .id) (st .pending)) st))
+        (finish-good st x G (k .0) (and-right (eqb (x .id) i) (x .running) (k .1)) off (not-lt (st .room) _ (b .0)))
+        off)
