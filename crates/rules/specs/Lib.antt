@@ -17,5 +17,6 @@ pub mod PendingLaws
 pub mod FinishLaws
 pub mod IdLaws
 pub mod WorkLaws
+pub mod RedoLaws
 pub mod GoodLaws
 pub mod Examples
