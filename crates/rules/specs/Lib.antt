@@ -18,5 +18,7 @@ pub mod FinishLaws
 pub mod IdLaws
 pub mod WorkLaws
 pub mod RedoLaws
+pub mod StartLaws
+pub mod Run
 pub mod GoodLaws
 pub mod Examples
