@@ -20,6 +20,10 @@ eqb-iff a b x y f g = go (eqb a b) refl
     go true e = e ∙ sym (eq-eqb x y (f (eqb-true a b e)))
     go false e = e ∙ sym (ne-eqb x y (λ q. eqb-false a b e (g q)))
 
+pub and-true-parts : (a b : Bool) → (a && b) ≡ true → (a ≡ true) × (b ≡ true)
+and-true-parts true b e = (refl, e)
+and-true-parts false b e = ((cc), (cc))
+
 -- ### The elements of an array before an index, at it and behind it
 
 module _ {A : Type 0} (l : List A) (d : A) where
