@@ -1,1 +1,4 @@
 pub mod Entries
+pub mod Cells
+pub mod Tests
+pub mod CellLaws

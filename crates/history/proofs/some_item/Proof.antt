@@ -1,0 +1,99 @@
+use Prim.Native.Nat.{ℕ, _≤_, _-_, _<_, _+_}
+use native.Mathlib.Omega.{arith}
+use mathlib.Core.Path.{_≡_, refl, sym, ap, _∙_}
+use mathlib.Core.Bool.{false}
+use lib.ListN.{take, getD, length}
+use Rattle.forms.specs.Lists.{any}
+use Rattle.history.specs.Entries.{cellsOf, noItem}
+use Rattle.history.specs.Cells.{testIn}
+use Rattle.history.specs.Tests.{any-next, any-hit}
+use Rattle.history.proofs.some_item.Statement.{statement}
+use Rattle.history.proofs.some_item.Tie as tie
+use Rattle.history.proofs.some_item.Reads as reads
+use Rattle.history.proofs.some_item.Lts as lts
+use Rattle.history.proofs.item_test.Reads as item-test-reads
+
+abbrev Inv-loop : tie.InvT-loop
+Inv-loop t histories n items i₀ i = (i ≤ n) × (any (testIn t (cellsOf histories)) (take i items) ≡ false)
+
+abbrev μ-loop : tie.MeasureT-loop
+μ-loop t histories n items i₀ i = n - i
+
+-- src/lib.rt:240:5
+loop-holds : tie.Need-loop-holds Inv-loop μ-loop
+loop-holds c = (omega arith, refl)
+
+-- src/lib.rt:241:17
+mul-x : tie.Need-mul-x Inv-loop μ-loop
+mul-x c = omega (arith, c .before .before .before .pre .few)
+
+-- src/lib.rt:241:17
+array-copy-out-x : tie.Need-array-copy-out-x Inv-loop μ-loop
+array-copy-out-x c = omega (arith, c .before .before .before .pre .few)
+
+-- src/lib.rt:242:18
+cast-at : tie.Need-cast-at Inv-loop μ-loop
+cast-at c = record { fits = omega (arith, c .before .before .before .before .before .pre .each (c .before .before .before .loop .i) (c .before .before .loop-test .taken) .history) }
+
+-- src/lib.rt:243:17
+mul-h : tie.Need-mul-h Inv-loop μ-loop
+mul-h c = omega (arith, c .before .before .before .before .before .pre .each (c .before .before .before .loop .i) (c .before .before .loop-test .taken) .history)
+
+-- src/lib.rt:243:17
+array-copy-out-h : tie.Need-array-copy-out-h Inv-loop μ-loop
+array-copy-out-h c = omega (arith, c .before .before .before .before .before .pre .each (c .before .before .before .loop .i) (c .before .before .loop-test .taken) .history)
+
+-- src/lib.rt:244:12
+item-test-requires : tie.Need-item-test-requires Inv-loop μ-loop
+item-test-requires c κs = tt
+
+-- src/lib.rt:245:13
+returns : tie.Need-returns Inv-loop μ-loop
+returns c =
+    let a = c .before .before .before .before .before .before .before .before .args in
+    let v = c .before .before .before .before .before .before .before .before .pre in
+    sym (any-hit (testIn (a .t) (cellsOf (a .t2))) (a .e .items) noItem (c .before .before .before .before .before .before .loop .i) (a .e .count) (c .before .before .before .before .before .loop-test .taken)
+    (omega (arith, v .few, v .long)) (sym (c .before .item-test .ensures) ∙ c .if1 .taken))
+
+-- src/lib.rt:247:9
+add-i : tie.Need-add-i Inv-loop μ-loop
+add-i c = omega (arith, c .before .before .before .before .before .before .before .before .pre .few)
+
+-- src/lib.rt:240:5
+loop-less : tie.Need-loop-less Inv-loop μ-loop
+loop-less c = omega arith
+
+-- src/lib.rt:240:5
+loop-again : tie.Need-loop-again Inv-loop μ-loop
+loop-again c =
+    let a = c .before .before .before .before .before .before .before .before .args in
+    let v = c .before .before .before .before .before .before .before .before .pre in (
+      omega arith,
+      any-next (testIn (a .t) (cellsOf (a .t2))) (a .e .items) noItem (c .before .before .before .before .before .before .loop .i) (omega (arith, v .few, v .long))
+          (c .before .before .before .before .before .before .loop .inv .1) (sym (c .before .item-test .ensures) ∙ c .if1 .left),
+    )
+
+-- src/lib.rt:233:1
+returns-2 : tie.Need-returns-2 Inv-loop μ-loop
+returns-2 c =
+    let q : c .before .loop .i ≡ c .before .before .before .args .e .count = omega arith in
+    sym (ap (λ (k : ℕ). any (testIn (c .before .before .before .args .t) (cellsOf (c .before .before .before .args .t2))) (take k (c .before .before .before .args .e .items))) (sym q) ∙ c .before .loop .inv .1)
+
+pub some-item-spec : {M : Type 1} → statement M
+some-item-spec =
+    tie.close
+    (tie.spec
+    Inv-loop
+    μ-loop
+    loop-holds
+    mul-x
+    array-copy-out-x
+    cast-at
+    mul-h
+    array-copy-out-h
+    item-test-requires
+    returns
+    add-i
+    loop-less
+    loop-again
+    returns-2)

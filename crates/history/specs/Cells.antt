@@ -1,0 +1,68 @@
+-- What the rule book asks of the book of a log, asked of the cells of an array of histories.
+use Prim.Native.Nat.{ℕ, _+_, _≤_, _<_, _^_}
+use mathlib.Core.Path.{_≡_}
+use mathlib.Core.Bool.{Bool, true, false, _&&_, not}
+use mathlib.Core.List.{List, [], _∷_, map}
+use lib.Dec.{leb, ltb}
+use lib.ListN.{length, getD}
+use Rattle.forms.specs.Forms.{Update, Change, Did}
+use Rattle.rules.specs.Rules.{strong, ordered, loggedAs, versionAfter}
+use Rattle.rules.specs.Book.{Cell, runsAt, enterAll}
+use Rattle.rules.specs.State.{Operation}
+use Rattle.history.specs.declared.History.{History}
+use Rattle.history.specs.declared.Item.{Item}
+use Rattle.history.specs.declared.Entry.{Entry}
+use Rattle.history.specs.declared.ItemTest.{ItemTest}
+use Rattle.history.specs.declared.ItemTest.the-variants.{Waits, Stale, Ran, Overtaken}
+use Rattle.history.specs.Entries.{cellsOf, itemChange, didOfEntry}
+
+-- ### Tests of refusals
+
+-- 8 of a redo: "a place not above the history's"
+unfoldable pub staleIn : (ℕ → Cell) → Change → Bool
+staleIn cells x = leb (x .place) (cells (x .history) .place)
+
+-- 8 of an add: "a strong ordered U ≤ C"
+unfoldable pub alreadyDoneIn : (ℕ → Cell) → Update → Bool
+alreadyDoneIn cells u = strong (u .rule) && ordered (u .rule) && leb (u .version) (cells (u .history) .version)
+
+-- 9: "a not with U < C"
+unfoldable pub readOvertakenIn : (ℕ → Cell) → Update → Bool
+readOvertakenIn cells u = not (strong (u .rule)) && ltb (u .version) (cells (u .history) .version)
+
+-- The same, and "cannot run now", of one item against the cell of its history.
+unfoldable pub itemTest : ItemTest → Cell → Item → Bool
+itemTest Waits c x = not (runsAt c (itemChange x))
+itemTest Stale c x = leb (x .place .0) (c .place)
+itemTest Ran c x = strong (x .rule) && ordered (x .rule) && leb (x .version .0) (c .version)
+itemTest Overtaken c x = not (strong (x .rule)) && ltb (x .version .0) (c .version)
+
+abbrev pub testIn : ItemTest → (ℕ → Cell) → Item → Bool
+testIn t cells x = itemTest t (cells (x .history)) x
+
+-- ### Finishing
+
+-- "an `unk` is recorded as `inc` with the version it got"; "raises each touched place by 1"
+unfoldable pub changeIn : (ℕ → Cell) → Update → Change
+changeIn cells u =
+    let c = cells (u .history) in
+    record { rule = loggedAs (u .rule); history = u .history; version = versionAfter (u .rule) (c .version) (u .version); place = c .place + 1; operand = u .operand }
+
+-- the line that finishing an operation writes
+unfoldable pub lineIn : (ℕ → Cell) → Operation → Did
+lineIn cells x = record { id = x .id; changes = map (changeIn cells) (x .updates) }
+
+-- "values after in the operation's order"
+unfoldable pub valuesIn : (ℕ → Cell) → List Update → List ℕ
+valuesIn cells us = map (λ (u : Update). cells (u .history) .profile) us
+
+-- ### Performing
+
+-- Places that can rise: a log has far fewer changes.
+abbrev pub LowPlaces : List History → Type 0
+LowPlaces hs = (h : ℕ) → h < 16 → cellsOf hs h .place < 2 ^ 63
+
+-- The histories after the changes of a line are what the book makes of them.
+pub record Applies (hs : List History) (e : Entry) (after : List History) : Type 0 where
+  pub long : length after ≡ 16
+  pub cells : (h : ℕ) → h < 16 → cellsOf after h ≡ enterAll h (didOfEntry e .changes) (cellsOf hs h)
