@@ -1,5 +1,5 @@
 -- What loops over the first elements of an array meet: one element more, the element that decides, and stores.
-use Prim.Native.Nat.{ℕ, zero, suc, _+_, _≤_, _<_}
+use Prim.Native.Nat.{ℕ, zero, suc, _+_, _-_, _≤_, _<_}
 use native.Mathlib.Numerals.{add-one}
 use native.Mathlib.Omega.{arith}
 use mathlib.Core.Path.{_≡_, refl, sym, ap, ap₂, subst, _∙_}
@@ -7,10 +7,10 @@ use mathlib.Core.Logic.{_⊎_, inl, inr}
 use mathlib.Core.Bool.{Bool, true, false, cond, _&&_, _||_, or-true, or-false, or-assoc, and-true, and-false, and-assoc}
 use mathlib.Core.List.{List, [], _∷_, _++_, map, map-append}
 use mathlib.Core.List.{List·Memᴰ as Mem, List·Memᴰ·head as here, List·Memᴰ·tail as there, List·Memᴰ·cases-cons}
-use lib.ListN.{length, getD, take, drop, set, length-take, length-append}
-use lib.Seq.{split-at, take-suc, take-take, getD-take, length-take-le, take-suc-set, take-nil}
-use Rattle.forms.specs.Lists.{any, all}
-use Rattle.forms.specs.ListLaws.{mem-at, mem-along, mem-widen}
+use lib.ListN.{length, getD, take, drop, set, length-take, drop-of-length-le}
+use lib.Seq.{split-at, take-suc, take-take, getD-take, length-take-le, take-suc-set, take-nil, take-add, drop-at, drop-append-le}
+use Rattle.forms.specs.Lists.{any, all, keep, below}
+use Rattle.forms.specs.ListLaws.{mem-at, mem-along, mem-snoc, keep-append}
 use Rattle.table.specs.declared.Found.{Found}
 use Rattle.table.specs.declared.Found.the-variants.{At, Nothing}
 use Rattle.table.specs.Lists.{later, firstAt, omit}
@@ -27,6 +27,11 @@ module _ {A : Type 0} (l : List A) (d : A) where
       let h : i < length (take n l) = omega (arith, length-take n l) in
       split-at (take n l) i d h
       ∙ ap₂ (λ (x : List A) (y : A). x ++ y ∷ drop (suc i) (take n l)) (take-take i n l (omega arith)) (getD-take n l i d p)
+
+  -- of the part that begins at an index, one element more
+  pub slice-next : (from i : ℕ) → from ≤ i → i < length l → drop from (take (i + 1) l) ≡ drop from (take i l) ++ (getD l i d ∷ [])
+  slice-next from i h g =
+      ap (drop from) (take-next i g) ∙ drop-append-le from (take i l) (getD l i d ∷ []) (omega (arith, length-take-le i l (omega arith)))
 
   pub mem-take : (i n : ℕ) → i < n → n ≤ length l → Mem (getD l i d) (take n l)
   mem-take i n p q = mem-along (sym (take-split i n p q)) (mem-at (getD l i d) (take i l) (drop (suc i) (take n l)))
@@ -52,6 +57,34 @@ module _ {A : Type 0} where
       go : (x ≡ y) ⊎ Mem x (set l i a) → (Mem x (set l i a) → (x ≡ a) ⊎ Mem x l) → (x ≡ a) ⊎ Mem x (y ∷ l)
       go (inl e) below = inr (here e)
       go (inr k) below = up (below k)
+
+  -- what holds of each element still does
+  pub push-each : (P : A → Type 0) (l : List A) (n : ℕ) (a : A) → n < length l → ((x : A) → Mem x (take n l) → P x) → P a
+      → (x : A) → Mem x (take (n + 1) (set l n a)) → P x
+  push-each P l n a h each one x m = cases (mem-snoc (take n l) (mem-along (take-push l n a h) m))
+    where
+      cases : (x ≡ a) ⊎ Mem x (take n l) → P x
+      cases (inl e) = subst P (sym e) one
+      cases (inr k) = each x k
+
+  pub take-none : (n : ℕ) (l : List A) → n ≡ 0 → take n l ≡ []
+  take-none n l e = ap (λ (k : ℕ). take k l) e ∙ nothing l
+    where
+      nothing : (l : List A) → take 0 l ≡ []
+      nothing [] = refl
+      nothing (x ∷ l) = refl
+
+  -- behind the first n of n there is nothing
+  pub drop-past : (n : ℕ) (l : List A) → drop n (take n l) ≡ []
+  drop-past n l = let h : length (take n l) ≤ n = omega (arith, length-take n l) in drop-of-length-le (take n l) h
+
+  -- a part that begins at k, read from its own start or from the list's
+  pub drop-take : (k n : ℕ) (l : List A) → k ≤ n → n ≤ length l → drop k (take n l) ≡ take (n - k) (drop k l)
+  drop-take k n l h q =
+      let e : n ≡ k + (n - k) = omega arith in
+      ap (λ (m : ℕ). drop k (take m l)) e
+      ∙ ap (drop k) (take-add k (n - k) l)
+      ∙ drop-at (take k l) (take (n - k) (drop k l)) k (length-take-le k l (omega arith))
 
 -- ### Tests over the elements passed so far
 
@@ -175,3 +208,12 @@ module _ {A : Type 0} where
 
 pub map-next : {A B : Type 0} (f : A → B) (l : List A) (d : A) (i : ℕ) → i < length l → map f (take (i + 1) l) ≡ map f (take i l) ++ (f (getD l i d) ∷ [])
 map-next f l d i h = ap (map f) (take-next l d i h) ∙ map-append f (take i l) (getD l i d ∷ [])
+
+-- ### Numbers that pass a test, rising
+
+pub below-next : (p : ℕ → Bool) (h : ℕ) (b : Bool) → p h ≡ b → keep p (below (h + 1)) ≡ keep p (below h) ++ cond b (h ∷ []) []
+unfolding below
+below-next p h b e =
+    ap (λ (n : ℕ). keep p (below n)) (add-one h)
+    ∙ keep-append p (below h) (h ∷ [])
+    ∙ ap (λ (t : Bool). keep p (below h) ++ cond t (h ∷ []) []) e

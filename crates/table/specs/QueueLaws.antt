@@ -2,20 +2,21 @@
 use Prim.Native.Nat.{ℕ, zero, suc, _+_, _-_, _≤_, _<_}
 use native.Mathlib.Omega.{arith}
 use mathlib.Core.Path.{_≡_, refl, sym, ap, subst, _∙_}
-use mathlib.Core.Logic.{_⊎_, inl, inr}
-use mathlib.Core.List.{List, [], _∷_, _++_, map}
+use mathlib.Core.Bool.{Bool, true, false, _&&_}
+use mathlib.Core.List.{List, [], _∷_, _++_, append-nil}
 use mathlib.Core.List.{List·Memᴰ as Mem, List·Memᴰ·not-nil}
 use lib.ListN.{length, getD, take, drop, set, replicate, length-set}
 use lib.Seq.{length-take-le, split-at}
+use Rattle.forms.specs.Lists.{keep, below}
 use Rattle.forms.specs.Held.{numbersOf}
 use Rattle.forms.specs.declared.Numbers.{Numbers}
-use Rattle.forms.specs.ListLaws.{mem-snoc, mem-along, mem-widen}
+use Rattle.forms.specs.ListLaws.{mem-along, mem-widen}
 use Rattle.history.specs.declared.Entry.{Entry}
 use Rattle.history.specs.Entries.{UsableEntry}
 use Rattle.table.specs.declared.Queue.{Queue}
 use Rattle.table.specs.Lists.{omit, IsNumbers}
 use Rattle.table.specs.Queues.{queueOf, UsableQueue, IsQueue, pastEntry}
-use Rattle.table.specs.LoopLaws.{take-push, take-split, mem-take, omitted}
+use Rattle.table.specs.LoopLaws.{take-push, push-each, take-none, mem-take, omitted, below-next}
 
 -- ### Numbers
 
@@ -36,6 +37,33 @@ pub no-numbers : IsNumbers (record { count = 0; values = replicate 64 0 }) []
 unfolding numbersOf
 no-numbers = record { few = omega arith; long = refl; list = refl }
 
+-- the numbers below h that pass a test
+pub record Kept (p : ℕ → Bool) (h : ℕ) (ns : Numbers) : Type 0 where
+  pub few : ns .count ≤ h
+  pub is : IsNumbers ns (keep p (below h))
+
+pub kept-yes : (p : ℕ → Bool) (ns r next : Numbers) (h : ℕ) → Kept p h ns → IsNumbers r (numbersOf ns ++ (h ∷ [])) × (r .count ≡ ns .count + 1) → next ≡ r
+    → p h ≡ true → Kept p (h + 1) next
+kept-yes p ns r next h a b f e =
+    subst (Kept p (h + 1)) (sym f)
+    (record { few = omega (arith, a .few, b .1); is = numbers-next ns r h (keep p (below h)) (keep p (below (h + 1))) (a .is) (b .0) (below-next p h true e) })
+
+pub kept-no : (p : ℕ → Bool) (ns next : Numbers) (h : ℕ) → Kept p h ns → next ≡ ns → p h ≡ false → Kept p (h + 1) next
+kept-no p ns next h a f e =
+    subst (Kept p (h + 1)) (sym f)
+    (record {
+      few = omega (arith, a .few);
+      is = record { few = a .is .few; long = a .is .long; list = a .is .list ∙ sym (append-nil (keep p (below h))) ∙ sym (below-next p h false e) };
+    })
+
+-- a test that fails in its first half
+pub and-no : (a b : Bool) → a ≡ false → (a && b) ≡ false
+and-no a b e = ap (λ (t : Bool). t && b) e
+
+pub kept-none : (p : ℕ → Bool) → Kept p 0 (record { count = 0; values = replicate 64 0 })
+unfolding below
+kept-none p = record { few = omega arith; is = no-numbers }
+
 -- ### Queues
 
 -- an entry of the queue by its index
@@ -51,17 +79,10 @@ pushed q e u h w = record {
   usable = record {
     few = omega arith;
     long = length-set (q .entries) (q .count) e ∙ u .long;
-    each = λ x m. cases x (mem-snoc (queueOf q) (mem-along list m));
+    each = push-each UsableEntry (q .entries) (q .count) e (omega (arith, u .long)) (u .each) w;
   };
-  list = list;
+  list = take-push (q .entries) (q .count) e (omega (arith, u .long));
 }
-  where
-    list : take (q .count + 1) (set (q .entries) (q .count) e) ≡ queueOf q ++ (e ∷ [])
-    list = take-push (q .entries) (q .count) e (omega (arith, u .long))
-
-    cases : (x : Entry) → (x ≡ e) ⊎ Mem x (queueOf q) → UsableEntry x
-    cases x (inl f) = subst UsableEntry (sym f) w
-    cases x (inr m) = u .each x m
 
 pub removed : (q : Queue) (at last : ℕ) (es : List Entry) → UsableQueue q → last ≡ q .count - 1 → at < q .count → length es ≡ 64
     → omit last es ≡ omit at (q .entries) → IsQueue (record { count = last; entries = es }) (take at (queueOf q) ++ drop (at + 1) (queueOf q))
@@ -91,8 +112,4 @@ none-usable q z l = record {
 }
   where
     none : queueOf q ≡ []
-    none = ap (λ (n : ℕ). take n (q .entries)) z ∙ nothing (q .entries)
-      where
-        nothing : (l : List Entry) → take 0 l ≡ []
-        nothing [] = refl
-        nothing (x ∷ l) = refl
+    none = take-none (q .count) (q .entries) z
