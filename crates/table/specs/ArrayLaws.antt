@@ -1,0 +1,55 @@
+-- Laws of the arrays with one element for each history: a store, and what stores add up to.
+use Prim.Native.Nat.{ℕ, _+_, _<_}
+use native.Mathlib.Omega.{arith}
+use mathlib.Core.Path.{_≡_, refl, sym, ap, ap₂, _∙_}
+use mathlib.Core.Bool.{Bool, true, false, cond, _||_, or-true, or-false, or-assoc}
+use mathlib.Core.List.{List, [], _∷_, _++_}
+use borrow.Author.Tests.{eqb-true, eqb-false}
+use lib.Dec.{eqb}
+use lib.ListN.{length, getD, set, take, replicate, length-set, getD-replicate}
+use lib.Seq.{getD-set-same, getD-set-other}
+use Rattle.forms.specs.Lists.{any}
+use Rattle.table.specs.Arrays.{Says}
+use Rattle.table.specs.LoopLaws.{any-more, take-none}
+
+module _ {A : Type 0} (d : A) where
+  pub says-like : (t : List A) (f g : ℕ → A) → Says d t f → ((h : ℕ) → h < 16 → f h ≡ g h) → Says d t g
+  says-like t f g s e = record { long = s .long; each = λ h l. s .each h l ∙ e h l }
+
+  pub says-itself : (t : List A) → length t ≡ 16 → Says d t (λ (h : ℕ). getD t h d)
+  says-itself t n = record { long = n; each = λ h l. refl }
+
+  pub says-store : (t : List A) (f : ℕ → A) (at : ℕ) (x : A) → Says d t f → at < 16 → Says d (set t at x) (λ (h : ℕ). cond (eqb at h) x (f h))
+  says-store t f at x s lt = record { long = length-set t at x ∙ s .long; each = λ h l. go h l (eqb at h) refl }
+    where
+      go : (h : ℕ) → h < 16 → (b : Bool) → eqb at h ≡ b → getD (set t at x) h d ≡ cond (eqb at h) x (f h)
+      go h l true e =
+          ap (λ (k : ℕ). getD (set t at x) k d) (sym (eqb-true at h e))
+          ∙ getD-set-same t at x d (omega (arith, s .long))
+          ∙ ap (λ (b : Bool). cond b x (f h)) (sym e)
+      go h l false e =
+          getD-set-other t at h x d (λ q. eqb-false at h e (sym q)) ∙ s .each h l ∙ ap (λ (b : Bool). cond b x (f h)) (sym e)
+
+pub says-nothing : Says false (replicate 16 false) (λ (h : ℕ). false)
+says-nothing = record { long = refl; each = λ h l. getD-replicate 16 h false false l }
+
+-- the marks as they are before the first element
+pub says-start : {A : Type 0} (t : List Bool) (p : ℕ → A → Bool) (l : List A) → length t ≡ 16 → Says false t (λ (h : ℕ). getD t h false || any (p h) (take 0 l))
+says-start t p l n = record { long = n; each = λ h k. sym (ap (λ (x : List _). getD t h false || any (p h) x) (take-none 0 l refl) ∙ or-false (getD t h false)) }
+
+-- a mark set where b is true
+pub or-marked : (b x : Bool) → cond b true x ≡ (x || b)
+or-marked true x = sym (or-true x)
+or-marked false x = sym (or-false x)
+
+-- The marks with those of the elements passed so far: one element more.
+pub says-next : {A : Type 0} (t t₀ : List Bool) (p : ℕ → A → Bool) (l : List A) (a : A) (i at : ℕ) → i < length l → at < 16
+    → ((h : ℕ) → eqb at h ≡ p h (getD l i a))
+    → Says false t (λ (h : ℕ). getD t₀ h false || any (p h) (take i l))
+    → Says false (set t at true) (λ (h : ℕ). getD t₀ h false || any (p h) (take (i + 1) l))
+says-next t t₀ p l a i at n lt e s =
+    says-like false (set t at true) _ _ (says-store false t _ at true s lt)
+    (λ h k. or-marked (eqb at h) (getD t₀ h false || any (p h) (take i l))
+    ∙ or-assoc (getD t₀ h false) (any (p h) (take i l)) (eqb at h)
+    ∙ ap (λ (b : Bool). getD t₀ h false || (any (p h) (take i l) || b)) (e h)
+    ∙ ap (λ (b : Bool). getD t₀ h false || b) (sym (any-more (p h) l a i n)))

@@ -1,0 +1,117 @@
+-- Laws of the list of done operations.
+use Prim.Native.Nat.{ℕ, zero, suc, _+_, _-_, _≤_, _<_}
+use native.Mathlib.Numerals.{add-one}
+use native.Mathlib.Omega.{arith}
+use mathlib.Core.Path.{_≡_, refl, sym, ap, ap₂, subst, _∙_}
+use mathlib.Core.Bool.{Bool, true, false, cond, _||_}
+use mathlib.Core.List.{List, [], _∷_, _++_}
+use mathlib.Core.List.{List·Memᴰ as Mem, List·Memᴰ·not-nil, Memᴰ·append-right}
+use lib.Dec.{eqb}
+use lib.ListN.{length, getD, take, drop, set, length-set, length-drop, take-append-drop}
+use lib.Seq.{getD-drop, take-take}
+use Rattle.forms.specs.Lists.{any}
+use Rattle.forms.specs.ListLaws.{mem-along}
+use Rattle.history.specs.declared.DoneEntry.{DoneEntry}
+use Rattle.table.specs.declared.DoneList.{DoneList}
+use Rattle.table.specs.Arrays.{Says}
+use Rattle.table.specs.Dones.{doneOf, UsableDone, UsableDones, IsDone, pastDone, doneTouches, stampedTo, versionFrom}
+use Rattle.table.specs.LoopLaws.{take-next, take-push, push-each, take-none, mem-take, drop-take, drop-past, slice-next, any-snoc}
+use Rattle.table.specs.ArrayLaws.{says-like, says-store}
+
+-- ### The list
+
+pub done-at : (l : DoneList) → UsableDones l → (i : ℕ) → i < l .count → UsableDone (getD (l .entries) i pastDone)
+done-at l u i h = u .each (getD (l .entries) i pastDone) (mem-take (l .entries) pastDone i (l .count) h (omega (arith, u .few, u .long)))
+
+pub done-pushed : (l : DoneList) (e : DoneEntry) → UsableDones l → l .count < 64 → UsableDone e
+    → IsDone (record { count = l .count + 1; entries = set (l .entries) (l .count) e }) (doneOf l ++ (e ∷ []))
+done-pushed l e u h w = record {
+  usable = record {
+    few = omega arith;
+    long = length-set (l .entries) (l .count) e ∙ u .long;
+    each = push-each UsableDone (l .entries) (l .count) e (omega (arith, u .long)) (u .each) w;
+  };
+  list = take-push (l .entries) (l .count) e (omega (arith, u .long));
+}
+
+pub done-none : (l : DoneList) → l .count ≡ 0 → length (l .entries) ≡ 64 → IsDone l []
+done-none l z n = record {
+  usable = record { few = omega arith; long = n; each = λ x m. absurd (List·Memᴰ·not-nil (mem-along none m)) };
+  list = none;
+}
+  where
+    none : doneOf l ≡ []
+    none = take-none (l .count) (l .entries) z
+
+-- moved up by k: one entry more
+pub drop-step : (es l : List DoneEntry) (k i : ℕ) → i + k < length l → i < length es → take i es ≡ take i (drop k l)
+    → take (i + 1) (set es i (getD l (i + k) pastDone)) ≡ take (i + 1) (drop k l)
+drop-step es l k i h g e =
+    let q : k + i ≡ i + k = omega arith in
+    take-push es i (getD l (i + k) pastDone) g
+    ∙ ap₂ (λ (x : List DoneEntry) (y : DoneEntry). x ++ (y ∷ [])) e (ap (λ (n : ℕ). getD l n pastDone) (sym q) ∙ sym (getD-drop k l i pastDone))
+    ∙ sym (take-next (drop k l) pastDone i (omega (arith, length-drop k l)))
+
+pub done-dropped : (l : DoneList) (k n : ℕ) (es : List DoneEntry) → UsableDones l → k ≤ l .count → n ≡ l .count - k → length es ≡ 64
+    → take n es ≡ take n (drop k (l .entries)) → IsDone (record { count = n; entries = es }) (drop k (doneOf l))
+done-dropped l k n es u h q g e = record {
+  usable = record {
+    few = omega (arith, u .few);
+    long = g;
+    each = λ x m. u .each x (mem-along (take-append-drop k (doneOf l)) (Memᴰ·append-right (take k (doneOf l)) (mem-along list m)));
+  };
+  list = list;
+}
+  where
+    list : take n es ≡ drop k (doneOf l)
+    list = e ∙ ap (λ (m : ℕ). take m (drop k (l .entries))) q ∙ sym (drop-take k (l .count) (l .entries) h (omega (arith, u .few, u .long)))
+
+-- ### Histories touched
+
+pub touched-start : (t : List Bool) (l : List DoneEntry) (from : ℕ) → Says false t (λ (h : ℕ). false) → Says false t (λ (h : ℕ). any (doneTouches h) (drop from (take from l)))
+touched-start t l from s = says-like false t _ _ s (λ h k. ap (any (doneTouches h)) (sym (drop-past from l)))
+
+pub touched-next : (r t : List Bool) (l : List DoneEntry) (from i : ℕ) → from ≤ i → i < length l
+    → Says false t (λ (h : ℕ). any (doneTouches h) (drop from (take i l)))
+    → Says false r (λ (h : ℕ). getD t h false || doneTouches h (getD l i pastDone))
+    → Says false r (λ (h : ℕ). any (doneTouches h) (drop from (take (i + 1) l)))
+touched-next r t l from i h n a b =
+    says-like false r _ _ b
+    (λ k lt. ap (λ (x : Bool). x || doneTouches k (getD l i pastDone)) (a .each k lt)
+    ∙ sym (any-snoc (doneTouches k) (drop from (take i l)) (getD l i pastDone))
+    ∙ ap (any (doneTouches k)) (sym (slice-next l pastDone from i h n)))
+
+-- ### Versions
+
+pub stamp-next : (r r₀ : List ℕ) (e : DoneEntry) (j : ℕ) → getD (e .histories) j 0 < 16
+    → Says 0 r (λ (h : ℕ). stampedTo h (getD r₀ h 0) e j)
+    → Says 0 (set r (getD (e .histories) j 0) (getD (e .versions) j 0)) (λ (h : ℕ). stampedTo h (getD r₀ h 0) e (j + 1))
+unfolding stampedTo
+stamp-next r r₀ e j lt s =
+    says-like 0 _ _ _ (says-store 0 r _ (getD (e .histories) j 0) (getD (e .versions) j 0) s lt)
+    (λ h k. ap (stampedTo h (getD r₀ h 0) e) (sym (add-one j)))
+
+version-snoc : (h v : ℕ) (l : List DoneEntry) (e : DoneEntry) → versionFrom h v (l ++ (e ∷ [])) ≡ stampedTo h (versionFrom h v l) e (e .count)
+unfolding versionFrom
+version-snoc h v [] e = refl
+version-snoc h v (x ∷ l) e = version-snoc h (stampedTo h v x (x .count)) l e
+
+pub advance-start : (t : List ℕ) (l : List DoneEntry) (from : ℕ) → length t ≡ 16 → Says 0 t (λ (h : ℕ). versionFrom h (getD t h 0) (drop from (take from l)))
+unfolding versionFrom
+advance-start t l from n = record { long = n; each = λ h k. ap (versionFrom h (getD t h 0)) (sym (drop-past from l)) }
+
+pub advance-end : (r : List ℕ) (f : ℕ → ℕ) (l : List DoneEntry) (from to i n : ℕ) → i ≡ to → to ≤ n
+    → Says 0 r (λ (h : ℕ). versionFrom h (f h) (drop from (take i l))) → Says 0 r (λ (h : ℕ). versionFrom h (f h) (drop from (take to (take n l))))
+advance-end r f l from to i n e q s =
+    says-like 0 r _ _ s (λ h k. ap (λ (x : List DoneEntry). versionFrom h (f h) (drop from x)) (ap (λ (m : ℕ). take m l) e ∙ sym (take-take to n l q)))
+
+pub advance-next : (r t : List ℕ) (f : ℕ → ℕ) (l : List DoneEntry) (from i : ℕ) → from ≤ i → i < length l
+    → Says 0 t (λ (h : ℕ). versionFrom h (f h) (drop from (take i l)))
+    → Says 0 r (λ (h : ℕ). stampedTo h (getD t h 0) (getD l i pastDone) (getD l i pastDone .count))
+    → Says 0 r (λ (h : ℕ). versionFrom h (f h) (drop from (take (i + 1) l)))
+advance-next r t f l from i h n a b =
+    let e = getD l i pastDone in
+    says-like 0 r _ _ b
+    (λ k lt. ap (λ (v : ℕ). stampedTo k v e (e .count)) (a .each k lt)
+    ∙ sym (version-snoc k (f k) (drop from (take i l)) e)
+    ∙ ap (versionFrom k (f k)) (sym (slice-next l pastDone from i h n)))

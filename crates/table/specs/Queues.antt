@@ -1,0 +1,40 @@
+-- Operations that are not done, or waiting lines: what a queue of entries means.
+use Prim.Native.Nat.{ℕ, _≤_, _<_}
+use mathlib.Core.Path.{_≡_}
+use mathlib.Core.Bool.{Bool, true, false, cond, not, _&&_}
+use mathlib.Core.List.{List, [], _∷_, _++_, map}
+use mathlib.Core.List.{List·Memᴰ as Mem}
+use lib.Dec.{eqb}
+use lib.ListN.{length, getD, take}
+use Rattle.history.specs.declared.Entry.{Entry}
+use Rattle.history.specs.Entries.{UsableEntry}
+use Rattle.table.specs.declared.Queue.{Queue}
+
+-- The entries of a queue, in order of arrival (or delivery).
+abbrev pub queueOf : Queue → List Entry
+queueOf q = take (q .count) (q .entries)
+
+pub record UsableQueue (q : Queue) : Type 0 where
+  pub few : q .count ≤ 64
+  pub long : length (q .entries) ≡ 64
+  pub each : (e : Entry) → Mem e (queueOf q) → UsableEntry e
+
+-- A queue with just these entries.
+pub record IsQueue (q : Queue) (l : List Entry) : Type 0 where
+  pub usable : UsableQueue q
+  pub list : queueOf q ≡ l
+
+-- what stands past the end of an array of entries
+abbrev pub pastEntry : Entry
+pastEntry = record { id = 0; running = false; count = 0; items = [] }
+
+-- Does the entry have this id?
+abbrev pub hasId : ℕ → Entry → Bool
+hasId i e = eqb (e .id) i
+
+-- Does the entry have this id, and is it in progress (or future, as asked)?
+unfoldable pub isEntry : ℕ → Bool → Entry → Bool
+isEntry i running e = eqb (e .id) i && cond running (e .running) (not (e .running))
+
+abbrev pub idOf : Entry → ℕ
+idOf e = e .id
