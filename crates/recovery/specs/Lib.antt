@@ -1,0 +1,6 @@
+pub mod Claim
+pub mod Invariant
+pub mod Ending
+pub mod Steps
+pub mod Counted
+pub mod Recovery

@@ -1,0 +1,1 @@
+// No code: the recovery claim of document 01 stands in specs/.
