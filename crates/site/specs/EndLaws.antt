@@ -1,0 +1,51 @@
+-- End against the rule book.
+use Prim.Native.Nat.{ℕ}
+use mathlib.Core.Path.{_≡_, refl, sym, ap, subst, _∙_}
+use mathlib.Core.Bool.{Bool, true, false, not}
+use mathlib.Core.List.{List, [], _∷_, map}
+use lib.ListN.{take}
+use Rattle.forms.specs.Held.{outcomeWith}
+use Rattle.forms.specs.Forms.{Did, Ended}
+use Rattle.forms.specs.declared.Numbers.{Numbers}
+use Rattle.forms.specs.declared.ReplyForm.{ReplyForm}
+use Rattle.forms.specs.declared.ReplyLine.{ReplyLine}
+use Rattle.forms.specs.declared.Refusal.the-variants.{OutOfTurn}
+use Rattle.rules.specs.Checks.{check}
+use Rattle.rules.specs.State.{State, Reply, refused, ok, withRestoring, withWaiting}
+use Rattle.rules.specs.Calls.{Call, unless, writable, perform, step, end}
+use Rattle.history.specs.declared.Entry.{Entry}
+use Rattle.history.specs.Entries.{didOfEntry, operationOf}
+use Rattle.table.specs.declared.Queue.{Queue}
+use Rattle.table.specs.Lists.{IsNumbers}
+use Rattle.table.specs.Queues.{queueOf, IsQueue, idOf}
+use Rattle.site.specs.declared.Site.{Site}
+use Rattle.site.specs.Model.{view, waitingIn, Carries, Valid, Does}
+use Rattle.site.specs.ModelLaws.{step-performs, accepts-step, says-lists}
+use Rattle.site.specs.QueueLaws.{withQueue, withOpen, carries-queue}
+
+pub end-refused : (s : Site) (bytes : List ℕ) → s .restoring ≡ false → step Call.End (view s bytes) ≡ refused OutOfTurn
+unfolding writable perform end check unless
+end-refused s bytes e = step-performs Call.End (view s bytes) refl ∙ rw e refl
+
+-- the ids of the lines that wait
+dids-ids : (es : List Entry) → map (λ (d : Did). d .id) (map didOfEntry es) ≡ map idOf es
+unfolding didOfEntry
+dids-ids [] = refl
+dids-ids (e ∷ es) = ap (λ (l : List ℕ). e .id ∷ l) (dids-ids es)
+
+pub end-accepted : (s : Site) (bytes : List ℕ) → s .restoring ≡ true →
+    step Call.End (view s bytes) ≡ ok (withOpen [] [] false (view s bytes)) (Ended (map idOf (queueOf (s .queue))))
+unfolding writable perform end check unless
+end-accepted s bytes e =
+    step-performs Call.End (view s bytes) refl
+    ∙ rw e (ap (λ (l : List ℕ). ok (withOpen [] [] false (view s bytes)) (Ended l)) (dids-ids (queueOf (s .queue))))
+
+pub end-does : (s : Site) (bytes : List ℕ) → Valid s bytes → s .restoring ≡ true → (q : Queue) → IsQueue q [] → (a b : Numbers) →
+    IsNumbers a (map idOf (queueOf (s .queue))) → IsNumbers b [] →
+    Does s bytes (step Call.End (view s bytes)) (record { site = withQueue q false 0 s; reply = record { form = ReplyForm.Ended; first = a; second = b } }) bytes
+unfolding Valid outcomeWith
+end-does s bytes v e q empty a b ids none =
+    accepts-step s bytes Call.End (withOpen [] [] false (view s bytes)) (Ended (map idOf (queueOf (s .queue)))) _ bytes v (end-accepted s bytes e)
+    (says-lists _ (map idOf (queueOf (s .queue))) [] ids none)
+    (carries-queue s bytes (view s bytes) (v .carries) q false 0 [] [] (empty .usable) (ap (map operationOf) (empty .list)) refl refl)
+    refl

@@ -1,0 +1,5 @@
+pub mod Model
+pub mod ModelLaws
+pub mod QueueLaws
+pub mod ShowLaws
+pub mod EndLaws

@@ -1,0 +1,97 @@
+-- The laws through which every call goes: what a site holds is its view, and so it is valid.
+use Prim.Native.Nat.{ℕ, _≤_}
+use mathlib.Core.Path.{_≡_, refl, sym, ap, ap₂, subst, _∙_}
+use mathlib.Core.Bool.{Bool, true, false}
+use mathlib.Core.List.{List, [], map}
+use lib.ListN.{length, take, drop}
+use Rattle.forms.specs.Forms.{Did, Answer, Refused, Accepted}
+use Rattle.forms.specs.Held.{outcomeWith, outcomeOf}
+use Rattle.forms.specs.declared.ReplyLine.{ReplyLine}
+use Rattle.rules.specs.LogLaws.{read-printed}
+use Rattle.rules.specs.GoodLaws.{good-step}
+use Rattle.forms.specs.declared.Refusal.{Refusal}
+use Rattle.rules.specs.Log.{Journal, journal, readLog, logText}
+use Rattle.rules.specs.State.{Operation, State, Reply, refused, ok, logBytes, settle}
+use Rattle.rules.specs.Checks.{check}
+use Rattle.rules.specs.Calls.{Call, unless, writable, perform, step}
+use Rattle.rules.specs.Good.{Good}
+use Rattle.table.specs.Lists.{IsNumbers}
+use Rattle.site.specs.declared.Site.{Site}
+use Rattle.site.specs.declared.Called.{Called}
+use Rattle.site.specs.Model.{view, didsIn, pendingIn, waitingIn, Carries, Holds, Valid, Few, Printable, Says, AcceptedAs, RefusedAs, Does}
+
+-- ### Replies
+
+-- A reply says what its form and its lists mean.
+pub says-lists : (r : ReplyLine) (xs ys : List ℕ) → IsNumbers (r .first) xs → IsNumbers (r .second) ys → Says r (outcomeWith (r .form) xs ys)
+unfolding outcomeOf
+says-lists r xs ys a b =
+    record {
+      outcome = ap₂ (outcomeWith (r .form)) (a .list) (b .list);
+      printable = record { first = record { few = a .few; long = a .long }; second = record { few = b .few; long = b .long } };
+    }
+
+-- ### What a site holds
+
+-- The log that the bytes in use say.
+pub log-is : (s : Site) (bytes : List ℕ) (st : State) → Holds s bytes st → didsIn (readLog (take (s .used) bytes)) ≡ st .log
+unfolding logBytes
+log-is s bytes st h =
+    ap (λ (b : List ℕ). didsIn (readLog b)) (h .carries .text)
+    ∙ ap didsIn (read-printed (st .histories) (st .log) (h .good .histories) (h .good .formed) (h .good .ran))
+
+-- What a site holds is its view.
+pub view-is : (s : Site) (bytes : List ℕ) (st : State) → Holds s bytes st → view s bytes ≡ st
+view-is s bytes st h =
+    λ i. record {
+      histories = c .count i;
+      room = c .room i;
+      log = log-is s bytes st h i;
+      pending = c .pending i;
+      waiting = c .waiting i;
+      persistentTo = c .persistent i;
+      stableTo = c .stable i;
+      restoring = c .restoring i;
+    }
+  where
+    c : Carries s bytes st
+    c = h .carries
+
+-- A site that holds a state is valid.
+pub valid-is : (s : Site) (bytes : List ℕ) (st : State) → Holds s bytes st → Valid s bytes
+unfolding Valid
+valid-is s bytes st h = subst (Holds s bytes) (sym (view-is s bytes st h)) h
+
+-- An accepted call: the site after it holds the rule book's next state.
+pub accepted-as : (old : List ℕ) (st : State) (a : Answer) (r : Called) (new : List ℕ) →
+    Says (r .reply) (Accepted a) → Holds (r .site) new st → drop (r .site .used) new ≡ drop (r .site .used) old →
+    AcceptedAs old st a r new
+accepted-as old st a r new answer h past =
+    record { answer = answer; valid = valid-is (r .site) new st h; state = view-is (r .site) new st h; past = past }
+
+-- ### What a call does
+
+-- A call that the rule book refuses: site and log are the very ones that came in.
+pub refuses : (s : Site) (old : List ℕ) (reply : Reply) (q : Refusal) (r : Called) → reply ≡ refused q → Says (r .reply) (Refused q) → r .site ≡ s →
+    Does s old reply r old
+refuses s old reply q r e says same = subst (λ (x : Reply). Does s old x r old) (sym e) (record { answer = says; site = same; bytes = refl })
+
+-- A call that the rule book accepts: the site after it holds the next state.
+pub accepts : (s : Site) (old : List ℕ) (reply : Reply) (st : State) (a : Answer) (r : Called) (new : List ℕ) → reply ≡ ok st a →
+    Says (r .reply) (Accepted a) → Holds (r .site) new st → drop (r .site .used) new ≡ drop (r .site .used) old → Does s old reply r new
+accepts s old reply st a r new e says h past = subst (λ (x : Reply). Does s old x r new) (sym e) (accepted-as old st a r new says h past)
+
+-- A call whose numbers can be written is performed.
+pub step-performs : (c : Call) (st : State) → writable c ≡ true → step c st ≡ perform c st
+unfolding step check unless
+step-performs c st e = rw e refl
+
+-- A call that is accepted: the site after it carries the next state, which the rule book's laws make good.
+pub accepts-step : (s : Site) (old : List ℕ) (c : Call) (st : State) (a : Answer) (r : Called) (new : List ℕ) → Valid s old → step c (view s old) ≡ ok st a →
+    Says (r .reply) (Accepted a) → Carries (r .site) new st → drop (r .site .used) new ≡ drop (r .site .used) old → Does s old (step c (view s old)) r new
+unfolding Valid settle
+accepts-step s old c st a r new v e says carries past =
+    accepts s old (step c (view s old)) st a r new e says (record { carries = carries; good = good }) past
+  where
+    good : Good st
+    good = subst (λ (x : Reply). Good (settle x (view s old))) e (good-step c (view s old) (v .good))

@@ -1,0 +1,74 @@
+-- A call that leaves the log as it is: the queue, the restoring flag and the reserved bytes change.
+use Prim.Native.Nat.{ℕ}
+use mathlib.Core.Path.{_≡_, refl}
+use mathlib.Core.Bool.{Bool}
+use mathlib.Core.List.{List}
+use Rattle.forms.specs.Lists.{sum}
+use Rattle.forms.specs.Forms.{Did}
+use Rattle.rules.specs.State.{Operation, State, logBytes, versionAt, liveDone, lineBytes}
+use Rattle.table.specs.declared.Queue.{Queue}
+use Rattle.table.specs.Queues.{UsableQueue}
+use Rattle.site.specs.declared.Site.{Site}
+use Rattle.site.specs.Model.{pendingIn, waitingIn, Carries}
+
+-- the site with another queue
+abbrev pub withQueue : Queue → Bool → ℕ → Site → Site
+withQueue q restoring reserved s =
+    record {
+      count = s .count;
+      used = s .used;
+      done = s .done;
+      persistent = s .persistent;
+      stable = s .stable;
+      restoring = restoring;
+      reserved = reserved;
+      histories = s .histories;
+      persisted = s .persisted;
+      stabilised = s .stabilised;
+      queue = q;
+      finished = s .finished;
+    }
+
+-- the state with other operations that are not done, and other lines that wait
+abbrev pub withOpen : List Operation → List Did → Bool → State → State
+withOpen pending waiting restoring st =
+    record {
+      histories = st .histories;
+      room = st .room;
+      log = st .log;
+      pending = pending;
+      waiting = waiting;
+      persistentTo = st .persistentTo;
+      stableTo = st .stableTo;
+      restoring = restoring;
+    }
+
+pub carries-queue : (s : Site) (bytes : List ℕ) (st : State) → Carries s bytes st → (q : Queue) (restoring : Bool) (reserved : ℕ)
+    (pending : List Operation) (waiting : List Did) → UsableQueue q → pendingIn restoring (withQueue q restoring reserved s) ≡ pending →
+    waitingIn restoring (withQueue q restoring reserved s) ≡ waiting → reserved ≡ sum lineBytes waiting →
+    Carries (withQueue q restoring reserved s) bytes (withOpen pending waiting restoring st)
+unfolding logBytes versionAt liveDone
+carries-queue s bytes st c q restoring reserved pending waiting usable p w n =
+    record {
+      within = c .within;
+      text = c .text;
+      count = c .count;
+      room = c .room;
+      done = c .done;
+      persistent = c .persistent;
+      stable = c .stable;
+      restoring = refl;
+      pending = p;
+      waiting = w;
+      reserved = n;
+      historiesLong = c .historiesLong;
+      book = c .book;
+      persistedLong = c .persistedLong;
+      persisted = c .persisted;
+      stabilisedLong = c .stabilisedLong;
+      stabilised = c .stabilised;
+      usable = usable;
+      finishedFew = c .finishedFew;
+      finishedLong = c .finishedLong;
+      finished = c .finished;
+    }

@@ -1,0 +1,80 @@
+// One site: its histories, its table of live operations, and its log in a lent buffer.
+ghost use mathlib.Core.Path.{_≡_};
+ghost use mathlib.Core.List.{[]};
+ghost use Rattle.forms.specs.Forms.{Refused};
+ghost use Rattle.table.specs.Lists.{IsNumbers};
+ghost use Rattle.site.specs.Model.{Says};
+use forms::LogNumber;
+use forms::Numbers;
+use forms::Refusal;
+use forms::ReplyForm;
+use forms::ReplyLine;
+use history::History;
+use table::DoneList;
+use table::Queue;
+
+pub mod end;
+pub mod show;
+
+// A site by value. Its log stands in the first `used` bytes of a buffer that the caller lends to each call.
+pub struct Site {
+    // how many histories there are
+    pub count: usize,
+    // bytes of the log buffer in use
+    pub used: usize,
+    // how many operations are done, persistent and stable
+    pub done: LogNumber,
+    pub persistent: LogNumber,
+    pub stable: LogNumber,
+    pub restoring: bool,
+    // bytes that the waiting redo lines will take in the log
+    pub reserved: usize,
+    pub histories: [History; 16],
+    // each history's persistent and stable version
+    pub persisted: [u64; 16],
+    pub stabilised: [u64; 16],
+    // operations that are not done; while restoring, the redo lines that wait
+    pub queue: Queue,
+    // done operations that are not yet stable
+    pub finished: DoneList,
+}
+
+// What a call hands back: the site after it, and the reply.
+pub struct Called {
+    pub site: Site,
+    pub reply: ReplyLine,
+}
+
+impl Site {
+    // "A site has 1 to 16 histories"
+    pub const HISTORIES: usize = 16;
+    // "At most 64 operations are live"
+    pub const LIVE: usize = 64;
+    // "1 to 4 updates"
+    pub const UPDATES: usize = 4;
+    // "a log buffer at most 65,536"
+    pub const LOG_BYTES: usize = 65536;
+    // "above 1,024 bytes without its end"
+    pub const LINE_BYTES: usize = 1024;
+}
+
+// No numbers.
+pub fn no_numbers() -> Numbers
+    ensures { λ r. ⌜ IsNumbers r [] ⌝ }
+{
+    Numbers {
+        count: 0,
+        values: [0; 64],
+    }
+}
+
+// The reply of a refusal.
+pub fn refusal(q: Refusal) -> ReplyLine
+    ensures { λ r. ⌜ Says r (Refused q) ⌝ }
+{
+    ReplyLine {
+        form: ReplyForm::Refused(q),
+        first: no_numbers(),
+        second: no_numbers(),
+    }
+}

@@ -1,0 +1,48 @@
+// Show: what a history is now.
+ghost use Rattle.rules.specs.Calls.{Call, step};
+ghost use Rattle.site.specs.Model.{view, Valid, Does};
+use super::Called;
+use super::Site;
+use super::no_numbers;
+use super::refusal;
+use forms::Refusal;
+use forms::ReplyForm;
+use forms::ReplyLine;
+use forms::Shown;
+use forms::Version;
+
+impl Site {
+    // "Show: history, version, persistent, stable, place, profile."
+    pub fn show(self, log: &[u8], h: u64) -> Called
+        requires { ⌜ Valid self (now log) ⌝ }
+        ensures { λ r. ⌜ Does self (now (log .entry)) (step (Call.Show h) (view self (now (log .entry)))) r (now (log .entry)) ⌝ }
+    {
+        let n = self.count;
+        if n as u64 <= h {
+            return Called {
+                site: self,
+                reply: refusal(Refusal::NoSuchHistory),
+            };
+        }
+        let i = h as usize;
+        let c = self.histories[i];
+        let version = c.version;
+        let place = c.place;
+        let shown = Shown {
+            history: h,
+            version,
+            persistent: Version(self.persisted[i]),
+            stable: Version(self.stabilised[i]),
+            place,
+            profile: c.profile as u64,
+        };
+        Called {
+            site: self,
+            reply: ReplyLine {
+                form: ReplyForm::Shows(shown),
+                first: no_numbers(),
+                second: no_numbers(),
+            },
+        }
+    }
+}
