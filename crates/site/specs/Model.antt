@@ -16,7 +16,7 @@ use Rattle.rules.specs.State.{Operation, State, Reply, refused, ok, logBytes, v
 use Rattle.rules.specs.Good.{Good}
 use Rattle.history.specs.Entries.{cellsOf, operationOf, didOfEntry, doneEntryOf, noHistory}
 use Rattle.table.specs.Queues.{queueOf, UsableQueue}
-use Rattle.history.specs.declared.DoneEntry.{DoneEntry}
+use Rattle.table.specs.Dones.{IsDone}
 use Rattle.site.specs.declared.Site.{Site}
 use Rattle.site.specs.declared.Called.{Called}
 
@@ -51,10 +51,6 @@ view s bytes =
 
 -- ### The invariant
 
--- done operations that are not yet stable, in log order
-abbrev pub finishedIn : Site → List DoneEntry
-finishedIn s = take (s .finished .count) (s .finished .entries)
-
 -- The site carries the parts of the state st, whose log stands in the first bytes of the buffer.
 pub record Carries (s : Site) (bytes : List ℕ) (st : State) : Type 0 where
   pub within : s .used ≤ length bytes
@@ -75,9 +71,8 @@ pub record Carries (s : Site) (bytes : List ℕ) (st : State) : Type 0 where
   pub stabilisedLong : length (s .stabilised) ≡ 16
   pub stabilised : (h : ℕ) → h < 16 → getD (s .stabilised) h 0 ≡ versionAt (st .stableTo) h st
   pub usable : UsableQueue (s .queue)
-  pub finishedFew : s .finished .count ≤ 64
-  pub finishedLong : length (s .finished .entries) ≡ 64
-  pub finished : finishedIn s ≡ map doneEntryOf (liveDone st)
+  -- done operations that are not yet stable, in log order
+  pub finished : IsDone (s .finished) (map doneEntryOf (liveDone st))
 
 -- The site holds the state st: it carries its parts, and st is one that calls reach.
 pub record Holds (s : Site) (bytes : List ℕ) (st : State) : Type 0 where

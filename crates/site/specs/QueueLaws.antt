@@ -68,7 +68,5 @@ carries-queue s bytes st c q restoring reserved pending waiting usable p w n =
       stabilisedLong = c .stabilisedLong;
       stabilised = c .stabilised;
       usable = usable;
-      finishedFew = c .finishedFew;
-      finishedLong = c .finishedLong;
       finished = c .finished;
     }
