@@ -1,20 +1,20 @@
 -- Checks that refuse nothing: what an accepted call, and a line or operation that passes 2 to 5, say of each test.
-use mathlib.Core.Path.{_≡_, refl, sym, ap, subst}
-use mathlib.Core.Logic.{_⊎_, inl, inr}
+use mathlib.Core.Path.{_≡_, refl, sym}
 use mathlib.Core.Bool.{Bool, true, false, not, _||_}
 use mathlib.Core.List.{List, [], _∷_, map, Memᴰ·map, Memᴰ·of-map}
-use mathlib.Core.List.{List·Memᴰ as Mem, List·Memᴰ·head as here, List·Memᴰ·tail as there, Memᴰ·cast}
+use mathlib.Core.List.{List·Memᴰ as Mem, Memᴰ·cast}
 use mathlib.Core.Option.{Option, none, some}
 use Prim.Native.Nat.{ℕ, zero, suc, _≤_, _<_}
 use native.Mathlib.Omega.{arith}
-use lib.Dec.{T, leb, ltb, eqb, eqb→eq, eqb-refl, nltb→le, nleb→lt, leb→le, le→leb, ltb→lt, lt→ltb}
+use lib.Dec.{T, leb, ltb, eqb, eqb→eq, eqb-refl, nltb→le, nleb→lt, leb→le, ltb→lt}
 use lib.ListN.{length}
 use Rattle.forms.specs.Lists.{any}
 use Rattle.forms.specs.ListLaws.{Nodup, T-false, false-T, any-at, any-of}
 use Rattle.forms.specs.Forms.{Update, Change, Answer}
 use Rattle.forms.specs.declared.Refusal.{Refusal}
 use Rattle.forms.specs.declared.Refusal.the-variants.{WrongCount, NoSuchHistory, HistoryTwice, OperandRange}
-use Rattle.rules.specs.Checks.{check, andThen, wrongCount, noSuchHistory, historyTwice, updateMisfits, changeMisfits, formRefusal, updatesRefusal, changesRefusal, passes}
+use Rattle.rules.specs.Checks.{check, andThen, wrongCount, noSuchHistory, historyTwice, updateMisfits, changeMisfits, formRefusal, updatesRefusal}
+use Rattle.rules.specs.Checks.{changesRefusal, passes}
 use Rattle.rules.specs.State.{State, Reply, refused, ok}
 use Rattle.rules.specs.Calls.{unless}
 

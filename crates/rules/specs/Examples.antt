@@ -1,25 +1,30 @@
 -- The session of "A session, whole" and the cases P1 to P10 of "At the edges", computed from the definitions.
 use mathlib.Core.Path.{_≡_, refl, ap₂}
-use mathlib.Core.Bool.{Bool, true, false, _&&_, not}
+use mathlib.Core.Bool.{Bool, not}
 use mathlib.Core.List.{List, [], _∷_, _++_}
 use mathlib.Core.List.{List·Memᴰ as Mem, List·Memᴰ·head as here, List·Memᴰ·tail as there}
 use Prim.Native.Nat.{ℕ}
 use lib.Dec.{T, eqb, eqb→eq}
-use lib.ListN.{length}
 use Rattle.forms.specs.Lists.{all, below}
 use Rattle.forms.specs.ListLaws.{and-left, and-right, all-at}
 use Rattle.forms.specs.Words.{bytes, word}
 use Rattle.forms.specs.Decimal.{digitsWithin, digits, more, number}
 use Rattle.forms.specs.Refusals.{numberOf}
-use Rattle.forms.specs.Forms.{fieldText, fieldsText, itemsText, tailText, listText, updateText, changeText, oneText, siteText, didText, redoText, numbersText, answerText, outcomeText}
+use Rattle.forms.specs.Forms.{fieldText, fieldsText, itemsText, tailText, listText, updateText, changeText, oneText, siteText, didText, redoText}
+use Rattle.forms.specs.Forms.{numbersText, answerText, outcomeText}
 use Rattle.forms.specs.Reading as reading
 use Rattle.forms.specs.Reading.{readDid, readSite, readCommand, readWhole}
 use Rattle.rules.specs.Rules.{replaced}
 use Rattle.rules.specs.Book.{entered, enter, enterAll, cellFrom, cell, touches, runsAt, canRun}
-use Rattle.rules.specs.Checks.{check, andThen, wrongCount, noSuchHistory, historyTwice, updateMisfits, changeMisfits, formRefusal, updatesRefusal, changesRefusal}
+use Rattle.rules.specs.Checks.{check, andThen, wrongCount, noSuchHistory, historyTwice, updateMisfits, changeMisfits, formRefusal, updatesRefusal}
+use Rattle.rules.specs.Checks.{changesRefusal}
 use Rattle.rules.specs.Log.{ended, didsText, logText, linesFrom, restFrom, historiesFit, accepts, readLines, readFirst, readLog}
-use Rattle.rules.specs.State.{logBytes, versionAt, liveDone, live, asks, dry, becameDry, rose, lineBytes, settle}
-use Rattle.rules.specs.Calls.{unless, openFull, openRefusal, opened, openSite, blockedBy, blocked, mayRunNow, ready, attempt, tryFrom, madeReady, nothingOrders, idPending, idDone, alreadyDone, readOvertaken, tableFull, addRefusal, arrived, add, changeOf, lineOf, valuesAfter, inProgress, future, without, logFull, finished, finishFound, finish, withdrawRefusal, withdraw, persistent, stable, show, restarted, restartAs, restart, cutAbove, cut, stale, redoRefusal, behind, pick, drain, delivered, redoRead, redo, end, writableUpdate, writable, perform, step}
+use Rattle.rules.specs.State.{logBytes, versionAt, liveDone, live, asks, dry, becameDry, rose, lineBytes}
+use Rattle.rules.specs.Calls.{unless, openFull, openRefusal, opened, openSite, blockedBy, blocked, mayRunNow, ready, attempt, tryFrom, madeReady}
+use Rattle.rules.specs.Calls.{nothingOrders, idPending, idDone, alreadyDone, readOvertaken, tableFull, addRefusal, arrived, add, changeOf, lineOf}
+use Rattle.rules.specs.Calls.{valuesAfter, inProgress, future, without, logFull, finished, finishFound, finish, withdrawRefusal, withdraw, persistent}
+use Rattle.rules.specs.Calls.{stable, show, restarted, restartAs, restart, cutAbove, cut, stale, redoRefusal, behind, pick, drain, delivered}
+use Rattle.rules.specs.Calls.{redoRead, redo, end, writableUpdate, writable, perform, step}
 use Rattle.rules.specs.Keeper.{sameBytes}
 use Rattle.rules.specs.Session.{turnOf, opening, calling, obey, onCommand, turn, replies, restReply, sessionIn, session}
 
@@ -107,8 +112,21 @@ holds-is r t = same-bytes (session (r .input)) (r .replies) t
 
 -- The one computed test, over the session and the whole table.
 computed : T (all holds (whole ∷ edges))
-unfolding holds sameBytes entered enter enterAll cellFrom cell touches runsAt canRun unless openFull openRefusal opened openSite blockedBy blocked mayRunNow ready attempt tryFrom madeReady nothingOrders idPending idDone alreadyDone readOvertaken tableFull addRefusal arrived add changeOf lineOf valuesAfter inProgress future without logFull finished finishFound finish withdrawRefusal withdraw persistent stable show restarted restartAs restart cutAbove cut stale redoRefusal behind pick drain delivered redoRead redo end writableUpdate writable perform step check andThen wrongCount noSuchHistory historyTwice updateMisfits changeMisfits formRefusal updatesRefusal changesRefusal ended didsText logText linesFrom restFrom historiesFit accepts readLines readFirst readLog replaced turnOf opening calling obey onCommand turn replies restReply sessionIn session logBytes versionAt liveDone live asks dry becameDry rose lineBytes below digitsWithin digits more number word numberOf fieldText fieldsText updateText changeText oneText siteText didText redoText numbersText answerText outcomeText itemsText tailText listText reading.field reading.rule reading.doneRule reading.update reading.change reading.one reading.did reading.add reading.redo reading.numbered reading.command readWhole readDid readSite readCommand reading.items reading.tail
-computed = tt
+computed =
+    unfold holds sameBytes below word digitsWithin digits more number numberOf in
+    unfold fieldText fieldsText itemsText tailText listText updateText changeText oneText siteText didText redoText numbersText answerText outcomeText in
+    unfold reading.field reading.rule reading.doneRule reading.update reading.change reading.one reading.items reading.tail reading.did reading.add in
+    unfold reading.redo reading.numbered reading.command readDid readSite readCommand readWhole in
+    unfold replaced entered enter enterAll cellFrom cell touches runsAt canRun in
+    unfold check andThen wrongCount noSuchHistory historyTwice updateMisfits changeMisfits formRefusal updatesRefusal changesRefusal in
+    unfold ended didsText logText linesFrom restFrom historiesFit accepts readLines readFirst readLog in
+    unfold logBytes versionAt liveDone live asks dry becameDry rose lineBytes in
+    unfold unless openFull openRefusal opened openSite blockedBy blocked mayRunNow ready attempt tryFrom madeReady nothingOrders idPending idDone in
+    unfold alreadyDone readOvertaken tableFull addRefusal arrived add changeOf lineOf valuesAfter inProgress future without logFull finished in
+    unfold finishFound finish withdrawRefusal withdraw persistent stable show restarted restartAs restart cutAbove cut stale redoRefusal behind pick in
+    unfold drain delivered redoRead redo end writableUpdate writable perform step in
+    unfold turnOf opening calling obey onCommand turn replies restReply sessionIn session in
+    tt
 
 -- "A session, whole": that input gives these replies.
 pub whole-session : session (whole .input) ≡ whole .replies

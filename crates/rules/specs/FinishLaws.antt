@@ -1,17 +1,16 @@
 -- The line that finishing an operation writes: it can run, it passes 2 to 5, it can be written, and other operations in progress still may run behind it.
-use mathlib.Core.Path.{_≡_, refl, sym, ap, _∙_, subst}
-use mathlib.Core.Bool.{Bool, true, false, cond, not, _&&_, _||_}
+use mathlib.Core.Path.{_≡_, refl, ap, _∙_, subst}
+use mathlib.Core.Bool.{Bool, true, false, cond, not, _&&_}
 use mathlib.Core.List.{List, [], _∷_, _++_, map, Memᴰ·of-map}
 use mathlib.Core.List.{List·Memᴰ as Mem, List·Memᴰ·head as here, List·Memᴰ·tail as there}
 use Prim.Native.Nat.{ℕ, _+_, _≤_, _<_}
 use native.Mathlib.Omega.{arith}
-use lib.Dec.{T, leb, ltb, eqb, eqb→eq, eqb-refl, leb→le, ltb→lt}
-use lib.ListN.{length, length-append, length-map}
+use lib.Dec.{T, leb, eqb, eqb→eq, eqb-refl, leb→le, ltb→lt}
+use lib.ListN.{length, length-map}
 use Rattle.forms.specs.Decimal.{top}
-use Rattle.forms.specs.Lists.{all}
-use Rattle.forms.specs.ListLaws.{Nodup, T-true, true-T, and-left, and-right, or-left, all-at, all-of}
+use Rattle.forms.specs.ListLaws.{T-true, true-T, and-left, and-right, or-left, all-at, all-of}
 use Rattle.forms.specs.Forms.{Update, Change, Did}
-use Rattle.forms.specs.Writable.{WritableChange, WritableDid}
+use Rattle.forms.specs.Writable.{WritableChange}
 use Rattle.forms.specs.declared.Rule.{Rule}
 use Rattle.forms.specs.declared.Rule.the-variants.{Inc, Set, Not, Unk}
 use Rattle.rules.specs.Rules.{ruleOf, loggedAs, mayRun, strong, versionAfter, operandFits}

@@ -2,7 +2,7 @@
 use mathlib.Core.Path.{_≡_, refl}
 use mathlib.Core.Bool.{not}
 use mathlib.Core.List.{List, [], _∷_, _++_}
-use Prim.Native.Nat.{ℕ, _≤_, max}
+use Prim.Native.Nat.{ℕ, max}
 use native.Mathlib.Omega.{arith}
 use lib.Dec.{T, leb, leb→le}
 use lib.ListN.{length, length-drop}
@@ -12,7 +12,8 @@ use Rattle.forms.specs.ListLaws.{true-T, and-left, and-right}
 use Rattle.forms.specs.Forms.{Did, Answer}
 use Rattle.forms.specs.declared.Refusal.the-variants.{Unreadable, NoSuchHistory, AboveLimit}
 use Rattle.rules.specs.State.{State, Reply, refused, ok, logBytes, liveDone, live, settle}
-use Rattle.rules.specs.Calls.{persistent, stable, show, Call, Add, Finish, Withdraw, Persistent, Stable, Show, Cut, Redo, End, writableUpdate, writable, perform, step}
+use Rattle.rules.specs.Calls.{persistent, stable, show, Call, Add, Finish, Withdraw, Persistent, Stable, Show, Cut, Redo, End, writableUpdate}
+use Rattle.rules.specs.Calls.{writable, perform, step}
 use Rattle.rules.specs.Good.{Good, didIds, operationIds}
 use Rattle.rules.specs.CheckLaws.{unless-check, not-lt, not-false}
 use Rattle.rules.specs.IdLaws.{ids-later}

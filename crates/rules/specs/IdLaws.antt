@@ -1,12 +1,12 @@
 -- Live ids: how the ids of done, waiting and pending operations change, and stay distinct.
-use mathlib.Core.Path.{_≡_, refl, sym, ap, _∙_, subst}
+use mathlib.Core.Path.{_≡_, sym, ap, _∙_}
 use mathlib.Core.Logic.{_⊎_, inl, inr}
-use mathlib.Core.Bool.{Bool, true, false, cond, _||_}
+use mathlib.Core.Bool.{Bool, true, false, cond}
 use mathlib.Core.List.{List, [], _∷_, _++_, map, map-append, Memᴰ·map, Memᴰ·of-map, append-assoc, append-nil}
 use mathlib.Core.List.{List·Memᴰ as Mem, Memᴰ·cast, List·Memᴰ·append-cases}
 use Prim.Native.Nat.{ℕ, zero, suc, _≤_, zero-le}
 use native.Mathlib.Nat.{not-suc-le-zero, le-of-suc-le-suc}
-use lib.Dec.{T, eqb, eqb-refl}
+use lib.Dec.{eqb, eqb-refl}
 use lib.ListN.{length, drop}
 use lib.Seq.{drop-append-le}
 use Rattle.forms.specs.Lists.{any, keep}
@@ -53,7 +53,8 @@ module _ {A : Type 0} (id : A → ℕ) where
   ids-snoc s l x le = ap (map id) (drop-append-le s l (x ∷ []) le) ∙ map-append id (drop s l) (x ∷ [])
 
 -- Two parts of the live ids stay where the third is thinned.
-pub ids-without : (D W : List ℕ) (f : Operation → Bool) (xs : List Operation) → Nodup (D ++ (W ++ operationIds xs)) → Nodup (D ++ (W ++ operationIds (keep f xs)))
+pub ids-without : (D W : List ℕ) (f : Operation → Bool) (xs : List Operation) → Nodup (D ++ (W ++ operationIds xs)) →
+    Nodup (D ++ (W ++ operationIds (keep f xs)))
 ids-without D W f xs h =
     let id : Operation → ℕ = λ x. x .id in
     rw append-assoc at
@@ -94,7 +95,8 @@ pub ids-do : (i : ℕ) (D W C : List ℕ) → Fresh i D W C → Nodup (D ++ (W +
 ids-do i D W C F h = rw (append-assoc D (i ∷ []) (W ++ C)) (nodup-insert D i (W ++ C) h (λ m. fresh-out i D W C F m))
 
 -- 7 and 8 find no live operation with the id.
-pub fresh-tested : (i : ℕ) (st : State) → idPending i st ≡ false → idDone i st ≡ false → Fresh i (didIds (liveDone st)) (didIds (st .waiting)) (operationIds (st .pending))
+pub fresh-tested : (i : ℕ) (st : State) → idPending i st ≡ false → idDone i st ≡ false →
+    Fresh i (didIds (liveDone st)) (didIds (st .waiting)) (operationIds (st .pending))
 unfolding idPending idDone
 fresh-tested i st p q =
     let pends = any (λ (x : Operation). eqb (x .id) i) (st .pending) in

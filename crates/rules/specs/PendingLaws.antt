@@ -2,30 +2,19 @@
 use mathlib.Core.Path.{_≡_, refl, sym, ap, _∙_, subst}
 use mathlib.Core.Logic.{_⊎_, inl, inr}
 use mathlib.Core.Bool.{Bool, true, false, not, _&&_, _||_}
-use mathlib.Core.List.{List, [], _∷_, _++_, map, map-append, Memᴰ·map, Memᴰ·of-map, append-assoc, append-nil}
-use mathlib.Core.List.{List·Memᴰ as Mem, List·Memᴰ·head as here, List·Memᴰ·tail as there, List·Memᴰ·not-nil, Memᴰ·cast}
-use Prim.Native.Nat.{ℕ, _+_, _≤_, _<_}
-use native.Mathlib.Omega.{arith}
-use lib.Dec.{T, T-not, not-T, leb, ltb, eqb, eqb→eq, eqb-refl, leb→le, ltb→lt}
-use lib.ListN.{length, length-append, length-map}
-use Rattle.forms.specs.Decimal.{top}
-use Rattle.forms.specs.Lists.{all, any, keep}
+use mathlib.Core.List.{List, [], _∷_, _++_, map, map-append, Memᴰ·map, append-assoc, append-nil}
+use mathlib.Core.List.{List·Memᴰ as Mem, List·Memᴰ·head as here, Memᴰ·cast}
+use Prim.Native.Nat.{ℕ}
+use lib.Dec.{T, T-not, eqb, eqb→eq, eqb-refl}
+use lib.ListN.{length, length-map}
+use Rattle.forms.specs.Lists.{all}
 use Rattle.forms.specs.ListLaws.{Nodup, nodup-mid, mem-split, mem-at, mem-snoc, mem-along, mem-mid, mem-widen}
-use Rattle.forms.specs.ListLaws.{T-true, T-false, false-T, and-intro, and-left, and-right, or-cases, or-left, or-right, all-at, all-of, any-at, any-of, mem-of-keep}
-use Rattle.forms.specs.Forms.{Update, Change, Did}
-use Rattle.forms.specs.Writable.{WritableChange, WritableDid}
-use Rattle.forms.specs.declared.Rule.{Rule}
-use Rattle.forms.specs.declared.Rule.the-variants.{Inc, Set, Not, Unk}
-use Rattle.forms.specs.declared.DoneRule.{DoneRule}
-use Rattle.forms.specs.declared.DoneRule.the-variants.{DidInc, DidSet, DidNot}
-use Rattle.rules.specs.Rules.{ruleOf, loggedAs, mayRun, strong, versionAfter, operandFits}
-use Rattle.rules.specs.Book.{Cell, entered, enter, enterAll, cell, canRun, runsAt}
-use Rattle.rules.specs.Checks.{updateMisfits, changeMisfits}
+use Rattle.forms.specs.ListLaws.{false-T, and-intro, and-left, and-right, or-cases, all-at, all-of, any-at, any-of}
+use Rattle.forms.specs.Forms.{Update, Did}
+use Rattle.rules.specs.Rules.{strong}
 use Rattle.rules.specs.State.{Operation}
-use Rattle.rules.specs.Calls.{blockedBy, blocked, mayRunNow, ready, attempt, tryFrom, tryAll, changeOf, lineOf, writableUpdate}
-use Rattle.rules.specs.Good.{FormedDid, FormedOperation, operationIds}
-use Rattle.rules.specs.CheckLaws.{FormedUpdates, FormedChanges, formed-updates, changes-none, not-false}
-use Rattle.rules.specs.BookLaws.{cell-snoc, can-run-of, runs-of}
+use Rattle.rules.specs.Calls.{blockedBy, blocked, mayRunNow, ready, attempt, tryFrom, tryAll}
+use Rattle.rules.specs.Good.{FormedOperation, operationIds}
 
 -- Each update of the operation may run after the log.
 abbrev pub MayRun : List Did → Operation → Type 0
@@ -62,22 +51,32 @@ blocked-of others y u w k r q e s =
     (any-of (λ (v : Update). eqb (v .history) (u .history) && (strong (u .rule) || strong (v .rule))) q
     (and-intro (eqb (w .history) (u .history)) (strong (u .rule) || strong (w .rule)) (rw e (eqb-refl (u .history))) s)))
 
-pub blocked-at : (others : List Operation) (u : Update) → T (blocked others u) →
-    (y : Operation) × (w : Update) × Mem y others × T (y .running) × Mem w (y .updates) × (w .history ≡ u .history) × T (strong (u .rule) || strong (w .rule))
+-- An operation in progress among the others, and its update that is in the way of u.
+pub record Blocker (others : List Operation) (u : Update) : Type 0 where
+  pub operation : Operation
+  pub update : Update
+  pub among : Mem operation others
+  pub inProgress : T (operation .running)
+  pub has : Mem update (operation .updates)
+  pub here : update .history ≡ u .history
+  pub strong : T (strong (u .rule) || strong (update .rule))
+
+pub blocked-at : (others : List Operation) (u : Update) → T (blocked others u) → Blocker others u
 unfolding blocked blockedBy
 blocked-at others u t =
     let p = any-at (blockedBy u) others t in
     let y = p .0 in
     let q = any-at (λ (v : Update). eqb (v .history) (u .history) && (strong (u .rule) || strong (v .rule))) (y .updates) (and-right (y .running) _ (p .2)) in
-    let w = q .0 in (
-      y,
-      w,
-      p .1,
-      and-left (y .running) _ (p .2),
-      q .1,
-      eqb→eq (w .history) (u .history) (and-left (eqb (w .history) (u .history)) (strong (u .rule) || strong (w .rule)) (q .2)),
-      and-right (eqb (w .history) (u .history)) (strong (u .rule) || strong (w .rule)) (q .2),
-    )
+    let w = q .0 in
+    record {
+      operation = y;
+      update = w;
+      among = p .1;
+      inProgress = and-left (y .running) _ (p .2);
+      has = q .1;
+      here = eqb→eq (w .history) (u .history) (and-left (eqb (w .history) (u .history)) (strong (u .rule) || strong (w .rule)) (q .2));
+      strong = and-right (eqb (w .history) (u .history)) (strong (u .rule) || strong (w .rule)) (q .2);
+    }
 
 ready-at : (log : List Did) (others : List Operation) (x : Operation) → T (ready log others x) → (u : Update) → Mem u (x .updates) →
     T (mayRunNow log u) × T (not (blocked others u))
@@ -218,10 +217,18 @@ pending-more n ids log xs x G F idle =
     apart-one y z (inr m) (inl e) ne r s = absurd (stopped z e s)
     apart-one y z (inr m) (inr k) ne r s = G .apart y z m k ne r s
 
+-- No operation in progress is blocked by another.
+abbrev pub Unblocked : List Operation → Type 0
+Unblocked xs =
+    (a : List Operation) (x : Operation) (b : List Operation) → xs ≡ a ++ x ∷ b → T (x .running) →
+    (u : Update) → Mem u (x .updates) → T (blocked (a ++ b) u) → ⊥
+
 -- With distinct ids, "not in each other's way" is "not blocked by another in progress".
-pub apart-unblocked : (n : ℕ) (ids : List ℕ) (log : List Did) (xs : List Operation) → Pending n ids log xs → Nodup ids →
-    (a : List Operation) (x : Operation) (b : List Operation) → xs ≡ a ++ x ∷ b → T (x .running) → (u : Update) → Mem u (x .updates) → T (blocked (a ++ b) u) → ⊥
-apart-unblocked n ids log xs G once a x b e r u m t = go (blocked-at (a ++ b) u t)
+pub apart-unblocked : (n : ℕ) (ids : List ℕ) (log : List Did) (xs : List Operation) → Pending n ids log xs → Nodup ids → Unblocked xs
+apart-unblocked n ids log xs G once a x b e r u m t =
+    let B = blocked-at (a ++ b) u t in
+    G .apart x (B .operation) (mem-along (sym e) (mem-at x a b)) (mem-along (sym e) (mem-widen x a b (B .among))) (other (B .operation) (B .among)) r
+    (B .inProgress) u (B .update) m (B .has) (sym (B .here)) (B .strong)
   where
     id : Operation → ℕ
     id y = y .id
@@ -231,12 +238,7 @@ apart-unblocked n ids log xs G once a x b e r u m t = go (blocked-at (a ++ b) u 
         nodup-mid (map id a) (x .id) (map id b) (rw (ap (map id) e ∙ map-append id a (x ∷ b)) at (rw (sym (G .idsAre)) at once)) .0
         (Memᴰ·cast p (rw (map-append id a b) at (Memᴰ·map id k)))
 
-    go : (y : Operation) × (w : Update) × Mem y (a ++ b) × T (y .running) × Mem w (y .updates) × (w .history ≡ u .history) × T (strong (u .rule) || strong (w .rule)) → ⊥
-    go (y, w, k, s, q, h, st) =
-        G .apart x y (mem-along (sym e) (mem-at x a b)) (mem-along (sym e) (mem-widen x a b k)) (other y k) r s u w m q (sym h) st
-
-pub unblocked-apart : (xs : List Operation) →
-    ((a : List Operation) (x : Operation) (b : List Operation) → xs ≡ a ++ x ∷ b → T (x .running) → (u : Update) → Mem u (x .updates) → T (blocked (a ++ b) u) → ⊥) →
+pub unblocked-apart : (xs : List Operation) → Unblocked xs →
     (x y : Operation) → Mem x xs → Mem y xs → (x .id ≡ y .id → ⊥) → T (x .running) → T (y .running) → Apart x y
 unblocked-apart xs free x y m k ne r s u w p q e t = go (mem-split m)
   where

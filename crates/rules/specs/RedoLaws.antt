@@ -1,7 +1,7 @@
 -- Redo and end keep the invariant.
-use mathlib.Core.Path.{_≡_, refl, sym, ap, _∙_, subst}
+use mathlib.Core.Path.{_≡_, refl, sym, subst}
 use mathlib.Core.Logic.{_⊎_, inl, inr}
-use mathlib.Core.Bool.{Bool, true, false, not, _||_}
+use mathlib.Core.Bool.{true, false}
 use mathlib.Core.List.{List, [], _∷_, _++_, map, map-append, append-assoc}
 use mathlib.Core.List.{List·Memᴰ as Mem, List·Memᴰ·not-nil, Memᴰ·append-right}
 use Prim.Native.Nat.{ℕ, suc, _+_, _≤_, _<_}
@@ -12,13 +12,12 @@ use Rattle.forms.specs.Decimal.{Step}
 use Rattle.forms.specs.Decimal.Step.{got, bad}
 use Rattle.forms.specs.Lists.{any, sum}
 use Rattle.forms.specs.ListLaws.{Nodup, nodup-right, nodup-sub, nodup-move, mem-at, mem-along, mem-snoc, mem-widen, sum-mid, sum-append}
-use Rattle.forms.specs.Forms.{Did, Answer, siteText}
+use Rattle.forms.specs.Forms.{Did, Answer}
 use Rattle.forms.specs.Reading.{readDid}
 use Rattle.forms.specs.DidLaws.{readDid-read}
 use Rattle.forms.specs.declared.Refusal.the-variants.{Unreadable, IdPending, AlreadyDone, TableFull, NoRoom, OutOfTurn}
 use Rattle.rules.specs.Book.{canRun}
-use Rattle.rules.specs.Log.{ended, logText}
-use Rattle.rules.specs.State.{State, Reply, refused, ok, liveLimit, logBytes, liveDone, live, lineBytes, withLog, withWaiting, withRestoring}
+use Rattle.rules.specs.State.{State, ok, liveLimit, logBytes, liveDone, live, lineBytes, withLog, withWaiting}
 use Rattle.rules.specs.Calls.{idPending, idDone, tableFull, logFull, stale, redoRefusal, drain, delivered, redoRead, redo, end}
 use Rattle.rules.specs.Good.{Good, FormedDid, Ran, didIds, operationIds}
 use Rattle.rules.specs.FitLaws.{length-log}

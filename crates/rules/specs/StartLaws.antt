@@ -1,25 +1,25 @@
 -- A site just opened, restarted or cut has the invariant.
-use mathlib.Core.Path.{_≡_, refl, sym, ap, _∙_, subst}
-use mathlib.Core.Bool.{true, false, not, _||_}
-use mathlib.Core.List.{List, [], _++_, append-nil}
-use mathlib.Core.List.{List·Memᴰ as Mem, List·Memᴰ·not-nil, Memᴰ·append-right}
-use Prim.Native.Nat.{ℕ, _+_, _≤_}
+use mathlib.Core.Path.{_≡_, refl, sym, ap}
+use mathlib.Core.Bool.{_||_}
+use mathlib.Core.List.{List, []}
+use mathlib.Core.List.{List·Memᴰ as Mem, List·Memᴰ·not-nil}
+use Prim.Native.Nat.{ℕ, _≤_}
 use native.Mathlib.Nat.{le-refl}
 use native.Mathlib.Omega.{arith}
 use lib.Dec.{T, ltb}
-use lib.ListN.{length, length-append, length-take, length-drop, drop, take}
+use lib.ListN.{length, length-append, length-take, length-drop, take}
 use lib.Seq.{drop-length}
 use Rattle.forms.specs.ListLaws.{true-T, mem-at, mem-along}
 use Rattle.forms.specs.Forms.{Did, Answer, siteText}
 use Rattle.forms.specs.declared.Refusal.the-variants.{WrongCount, NoRoom, AboveLimit, BadLog}
 use Rattle.rules.specs.Log.{Journal, journal, noJournal, historiesFit, ended, didsText, logText, restOf, readLog}
-use Rattle.rules.specs.State.{Operation, State, Reply, ok, logLimit, logBytes, liveDone, live}
+use Rattle.rules.specs.State.{State, ok, logLimit, logBytes, liveDone, live}
 use Rattle.rules.specs.Calls.{openFull, openRefusal, opened, openSite, restarted, restartAs, restart, cutAbove, cut}
 use Rattle.rules.specs.Good.{Good, FormedDid, Ran}
 use Rattle.rules.specs.LogLaws.{read-accepted}
 use Rattle.rules.specs.CheckLaws.{refused-not-ok, check-none, unless-ok, unless-check, not-lt, not-false, or-false-left, or-false-right}
 use Rattle.rules.specs.BookLaws.{ran-nil}
-use Rattle.rules.specs.WorkLaws.{good-ok, true-not-false}
+use Rattle.rules.specs.WorkLaws.{good-ok}
 
 -- ### Open
 
@@ -53,7 +53,8 @@ good-open n room st a e =
     let q12 = check-none _ NoRoom _ (q2 .1) in
     let q13 = check-none _ AboveLimit _ (q12 .1) in
     good-ok _ st _ a (q .1)
-    (opened-good n room (true-T (historiesFit n) (not-false (historiesFit n) (q2 .0))) (not-lt room (length (ended (siteText n))) (q12 .0)) (not-lt logLimit room (q13 .0)))
+    (opened-good n room (true-T (historiesFit n) (not-false (historiesFit n) (q2 .0)))
+    (not-lt room (length (ended (siteText n))) (q12 .0)) (not-lt logLimit room (q13 .0)))
 
 -- ### Restart and cut
 

@@ -1,24 +1,24 @@
 -- Add, finish and withdraw keep the invariant.
-use mathlib.Core.Path.{_≡_, refl, sym, ap, _∙_, subst}
+use mathlib.Core.Path.{_≡_, refl, sym, subst}
 use mathlib.Core.Logic.{_⊎_, inl, inr}
-use mathlib.Core.Bool.{Bool, true, false, cond, not, _&&_, _||_}
-use mathlib.Core.List.{List, [], _∷_, _++_, map, map-append, Memᴰ·map, Memᴰ·of-map, append-assoc}
+use mathlib.Core.Bool.{Bool, true, false, cond, not}
+use mathlib.Core.List.{List, [], _∷_, _++_, map-append, Memᴰ·map, Memᴰ·of-map}
 use mathlib.Core.List.{List·Memᴰ as Mem, List·Memᴰ·head as here, List·Memᴰ·tail as there, List·Memᴰ·not-nil, Memᴰ·append-right}
 use mathlib.Core.Option.{Option, none, some}
 use Prim.Native.Nat.{ℕ, _+_, _≤_, _<_}
 use native.Mathlib.Omega.{arith}
-use lib.Dec.{T, T-not, eqb, leb, ltb, eqb→eq, eqb-refl, leb→le}
-use lib.ListN.{length, length-append, length-map, length-drop, drop}
+use lib.Dec.{T, T-not, eqb, eqb-refl}
+use lib.ListN.{length, length-append, length-drop, drop}
 use Rattle.forms.specs.Decimal.{top}
 use Rattle.forms.specs.Lists.{all, any, keep, find, sum}
-use Rattle.forms.specs.ListLaws.{Nodup, nodup-right, nodup-apart, mem-along, mem-snoc, mem-of-keep, length-keep, length-keep-less, true-T, and-left, and-right, all-at}
+use Rattle.forms.specs.ListLaws.{Nodup, nodup-right, nodup-apart, mem-along, mem-snoc, mem-of-keep, length-keep, length-keep-less, true-T}
+use Rattle.forms.specs.ListLaws.{and-right, all-at}
 use Rattle.forms.specs.Forms.{Update, Did, Answer}
 use Rattle.forms.specs.declared.Refusal.the-variants.{NothingOrders, IdPending, AlreadyDone, ReadOvertaken, TableFull, WrongState, NoRoom, OutOfTurn}
-use Rattle.rules.specs.Checks.{check, andThen, updatesRefusal}
-use Rattle.rules.specs.Log.{logText}
-use Rattle.rules.specs.State.{Operation, State, Reply, refused, ok, liveLimit, logLimit, logBytes, liveDone, live, lineBytes, withPending, withLog}
-use Rattle.rules.specs.Calls.{unless, blocked, mayRunNow, tryAll, nothingOrders, idPending, idDone, alreadyDone, readOvertaken, tableFull}
-use Rattle.rules.specs.Calls.{addRefusal, arrived, add, lineOf, inProgress, future, without, logFull, finished, finishFound, finish, withdrawRefusal, withdraw}
+use Rattle.rules.specs.State.{Operation, State, ok, liveLimit, logBytes, liveDone, live, lineBytes, withPending, withLog}
+use Rattle.rules.specs.Calls.{mayRunNow, tryAll, idPending, idDone, alreadyDone, tableFull}
+use Rattle.rules.specs.Calls.{addRefusal, arrived, add, lineOf, inProgress, without, logFull, finished, finishFound, finish, withdrawRefusal}
+use Rattle.rules.specs.Calls.{withdraw}
 use Rattle.rules.specs.Calls.{writableUpdate}
 use Rattle.rules.specs.Good.{Good, FormedDid, FormedOperation, didIds, operationIds}
 use Rattle.rules.specs.FitLaws.{length-log-snoc, few-log-lines}
@@ -82,12 +82,14 @@ good-tried st G off =
 
 -- ### Add
 
-add-good : (i : ℕ) (us : List Update) (st : State) → Good st → st .restoring ≡ false → FormedOperation (st .histories) (record { id = i; updates = us; running = false }) →
-    idPending i st ≡ false → idDone i st ≡ false → live st < liveLimit → Good (withPending (arrived i us st) st)
+add-good : (i : ℕ) (us : List Update) (st : State) → Good st → st .restoring ≡ false →
+    FormedOperation (st .histories) (record { id = i; updates = us; running = false }) → idPending i st ≡ false →
+    idDone i st ≡ false → live st < liveLimit → Good (withPending (arrived i us st) st)
 unfolding arrived live
 add-good i us st G off F e7 e8 e10 =
     good-with st (st .pending ++ x ∷ []) G off
-    (subst (λ (ids : List ℕ). Pending (st .histories) ids (st .log) (st .pending ++ x ∷ [])) (sym more) (pending-more (st .histories) (operationIds (st .pending)) (st .log) (st .pending) x (good-pending st G) F refl))
+    (subst (λ (ids : List ℕ). Pending (st .histories) ids (st .log) (st .pending ++ x ∷ [])) (sym more)
+    (pending-more (st .histories) (operationIds (st .pending)) (st .log) (st .pending) x (good-pending st G) F refl))
     (omega (arith, length-append (st .pending) (x ∷ [])))
     (subst (λ (ids : List ℕ). Nodup (didIds (liveDone st) ++ (didIds (st .waiting) ++ ids))) (sym more)
     (ids-pend i (didIds (liveDone st)) (didIds (st .waiting)) (operationIds (st .pending)) (fresh-tested i st e7 e8) (G .ids)))
@@ -168,13 +170,24 @@ finish-good st x G at on off fits =
       roomLimit = G .roomLimit;
       stableBelow = G .stableBelow;
       persistentBelow = omega (arith, G .persistentBelow, length-append (st .log) (d ∷ []));
-      few = omega (arith, G .few, length-append (st .log) (d ∷ []), length-drop (st .stableTo) (st .log), length-drop (st .stableTo) log′, length-keep-less f at gone, low);
+      few =
+          omega (
+            arith,
+            G .few,
+            length-append (st .log) (d ∷ []),
+            length-drop (st .stableTo) (st .log),
+            length-drop (st .stableTo) log′,
+            length-keep-less f at gone,
+            low,
+          );
       ids = ids;
       idle = λ restoring. absurd (true-not-false (st .restoring) restoring off);
       nobodyWaits = G .nobodyWaits;
       pendingFormed = P .formed;
       running = P .may;
-      apart = apart-unblocked (st .histories) (operationIds left) log′ left P (nodup-right W (operationIds left) (nodup-right D (W ++ operationIds left) fewer));
+      apart =
+          apart-unblocked (st .histories) (operationIds left) log′ left P
+          (nodup-right W (operationIds left) (nodup-right D (W ++ operationIds left) fewer));
     }
   where
     d : Did
