@@ -2,7 +2,8 @@
 use mathlib.Core.Path.{_≡_, refl}
 use mathlib.Core.Bool.{not}
 use mathlib.Core.List.{List, [], _∷_, _++_}
-use Prim.Native.Nat.{ℕ, max}
+use Prim.Native.Nat.{ℕ, _≤_, max}
+use native.Mathlib.Nat.{le-refl}
 use native.Mathlib.Omega.{arith}
 use lib.Dec.{T, leb, leb→le}
 use lib.ListN.{length, length-drop}
@@ -11,7 +12,7 @@ use Rattle.forms.specs.Lists.{all}
 use Rattle.forms.specs.ListLaws.{true-T, and-left, and-right}
 use Rattle.forms.specs.Forms.{Did, Answer}
 use Rattle.forms.specs.declared.Refusal.the-variants.{Unreadable, NoSuchHistory, AboveLimit}
-use Rattle.rules.specs.State.{State, Reply, refused, ok, logBytes, liveDone, live, settle}
+use Rattle.rules.specs.State.{State, Reply, refused, ok, logBytes, liveDone, live, withMarks, settle}
 use Rattle.rules.specs.Calls.{persistent, stable, show, Call, Add, Finish, Withdraw, Persistent, Stable, Show, Cut, Redo, End, writableUpdate}
 use Rattle.rules.specs.Calls.{writable, perform, step}
 use Rattle.rules.specs.Good.{Good, didIds, operationIds}
@@ -26,56 +27,44 @@ use Rattle.rules.specs.Run.{run}
 
 -- ### Marks and show
 
+-- Marks that rise, and stay in order and within the log.
+good-marks : (p s : ℕ) (st : State) → Good st → st .stableTo ≤ s → s ≤ p → p ≤ length (st .log) → Good (withMarks p s st)
+unfolding live liveDone logBytes
+good-marks p s st G up low high =
+    record {
+      histories = G .histories;
+      formed = G .formed;
+      ran = G .ran;
+      waitingFormed = G .waitingFormed;
+      quiet = G .quiet;
+      fits = G .fits;
+      roomLimit = G .roomLimit;
+      stableBelow = low;
+      persistentBelow = high;
+      few = omega (arith, G .few, length-drop (st .stableTo) (st .log), length-drop s (st .log));
+      ids = ids-later (λ (d : Did). d .id) (st .stableTo) s up (st .log) (didIds (st .waiting) ++ operationIds (st .pending)) (G .ids);
+      idle = G .idle;
+      nobodyWaits = G .nobodyWaits;
+      pendingFormed = G .pendingFormed;
+      running = G .running;
+      apart = G .apart;
+    }
+
 good-persistent : (n : ℕ) (st st′ : State) (a : Answer) → Good st → persistent n st ≡ ok st′ a → Good st′
-unfolding persistent live liveDone logBytes
+unfolding persistent
 good-persistent n st st′ a G e =
     let q = unless-check _ AboveLimit _ st′ a e in
     let le = not-lt (length (st .log)) n (q .0) in
     good-ok _ st′ _ a (q .1)
-    (record {
-      histories = G .histories;
-      formed = G .formed;
-      ran = G .ran;
-      waitingFormed = G .waitingFormed;
-      quiet = G .quiet;
-      fits = G .fits;
-      roomLimit = G .roomLimit;
-      stableBelow = omega (arith, G .stableBelow);
-      persistentBelow = omega (arith, G .persistentBelow);
-      few = G .few;
-      ids = G .ids;
-      idle = G .idle;
-      nobodyWaits = G .nobodyWaits;
-      pendingFormed = G .pendingFormed;
-      running = G .running;
-      apart = G .apart;
-    })
+    (good-marks (max (st .persistentTo) n) (st .stableTo) st G (le-refl (st .stableTo)) (omega (arith, G .stableBelow)) (omega (arith, G .persistentBelow)))
 
 good-stable : (n : ℕ) (st st′ : State) (a : Answer) → Good st → stable n st ≡ ok st′ a → Good st′
-unfolding stable live liveDone logBytes
+unfolding stable
 good-stable n st st′ a G e =
     let q = unless-check _ AboveLimit _ st′ a e in
     let le = not-lt (st .persistentTo) n (q .0) in
-    let later = max (st .stableTo) n in
     good-ok _ st′ _ a (q .1)
-    (record {
-      histories = G .histories;
-      formed = G .formed;
-      ran = G .ran;
-      waitingFormed = G .waitingFormed;
-      quiet = G .quiet;
-      fits = G .fits;
-      roomLimit = G .roomLimit;
-      stableBelow = omega (arith, G .stableBelow);
-      persistentBelow = G .persistentBelow;
-      few = omega (arith, G .few, length-drop (st .stableTo) (st .log), length-drop later (st .log));
-      ids = ids-later (λ (d : Did). d .id) (st .stableTo) later (omega arith) (st .log) (didIds (st .waiting) ++ operationIds (st .pending)) (G .ids);
-      idle = G .idle;
-      nobodyWaits = G .nobodyWaits;
-      pendingFormed = G .pendingFormed;
-      running = G .running;
-      apart = G .apart;
-    })
+    (good-marks (st .persistentTo) (max (st .stableTo) n) st G (omega arith) (omega (arith, G .stableBelow)) (G .persistentBelow))
 
 good-show : (h : ℕ) (st st′ : State) (a : Answer) → Good st → show h st ≡ ok st′ a → Good st′
 unfolding show

@@ -1,6 +1,6 @@
 -- A site just opened, restarted or cut has the invariant.
 use mathlib.Core.Path.{_≡_, refl, sym, ap}
-use mathlib.Core.Bool.{_||_}
+use mathlib.Core.Bool.{Bool, true, false, _||_}
 use mathlib.Core.List.{List, []}
 use mathlib.Core.List.{List·Memᴰ as Mem, List·Memᴰ·not-nil}
 use Prim.Native.Nat.{ℕ, _≤_}
@@ -21,47 +21,12 @@ use Rattle.rules.specs.CheckLaws.{refused-not-ok, check-none, unless-ok,
 use Rattle.rules.specs.BookLaws.{ran-nil}
 use Rattle.rules.specs.WorkLaws.{good-ok}
 
--- ### Open
-
-opened-good : (n room : ℕ) → T (historiesFit n) → length (ended (siteText n)) ≤ room → room ≤ logLimit → Good (opened n room)
-unfolding opened live liveDone logBytes logText didsText
-opened-good n room h fits limit =
-    record {
-      histories = h;
-      formed = λ d m. absurd (List·Memᴰ·not-nil m);
-      ran = ran-nil;
-      waitingFormed = λ d m. absurd (List·Memᴰ·not-nil m);
-      quiet = λ d m. absurd (List·Memᴰ·not-nil m);
-      fits = omega (arith, length-append (ended (siteText n)) []);
-      roomLimit = limit;
-      stableBelow = le-refl 0;
-      persistentBelow = le-refl 0;
-      few = omega arith;
-      ids = tt;
-      idle = λ on. refl;
-      nobodyWaits = λ off. refl;
-      pendingFormed = λ x m. absurd (List·Memᴰ·not-nil m);
-      running = λ x m. absurd (List·Memᴰ·not-nil m);
-      apart = λ a x b e. absurd (List·Memᴰ·not-nil (mem-along (sym e) (mem-at x a b)));
-    }
-
-pub good-open : (n room : ℕ) (st : State) (a : Answer) → openSite n room ≡ ok st a → Good st
-unfolding openSite openRefusal openFull
-good-open n room st a e =
-    let q = unless-ok _ _ st a e in
-    let q2 = check-none _ WrongCount _ (q .0) in
-    let q12 = check-none _ NoRoom _ (q2 .1) in
-    let q13 = check-none _ AboveLimit _ (q12 .1) in
-    good-ok _ st _ a (q .1)
-    (opened-good n room (true-T (historiesFit n) (not-false (historiesFit n) (q2 .0)))
-    (not-lt room (length (ended (siteText n))) (q12 .0)) (not-lt logLimit room (q13 .0)))
-
--- ### Restart and cut
-
-restarted-good : (room n : ℕ) (log : List Did) → T (historiesFit n) → ((d : Did) → Mem d log → FormedDid n d) → Ran log →
-    length (logText n log) ≤ room → room ≤ logLimit → Good (restarted room n log)
-unfolding restarted live liveDone logBytes
-restarted-good room n log h formed ran fits limit =
+-- A log that restart accepts, in a buffer that holds it, with nothing live.
+at-rest : (room n : ℕ) (log : List Did) (restoring : Bool) → T (historiesFit n) → ((d : Did) → Mem d log → FormedDid n d) → Ran log →
+    length (logText n log) ≤ room → room ≤ logLimit →
+    Good (record { histories = n; room = room; log = log; pending = []; waiting = []; persistentTo = length log; stableTo = length log; restoring = restoring })
+unfolding live liveDone logBytes
+at-rest room n log restoring h formed ran fits limit =
     record {
       histories = h;
       formed = formed;
@@ -81,9 +46,25 @@ restarted-good room n log h formed ran fits limit =
       apart = λ a x b e. absurd (List·Memᴰ·not-nil (mem-along (sym e) (mem-at x a b)));
     }
 
+-- ### Open
+
+pub good-open : (n room : ℕ) (st : State) (a : Answer) → openSite n room ≡ ok st a → Good st
+unfolding openSite openRefusal openFull opened logText didsText
+good-open n room st a e =
+    let q = unless-ok _ _ st a e in
+    let q2 = check-none _ WrongCount _ (q .0) in
+    let q12 = check-none _ NoRoom _ (q2 .1) in
+    let q13 = check-none _ AboveLimit _ (q12 .1) in
+    good-ok _ st _ a (q .1)
+    (at-rest room n [] false (true-T (historiesFit n) (not-false (historiesFit n) (q2 .0))) (λ d m. absurd (List·Memᴰ·not-nil m)) ran-nil
+    (omega (arith, length-append (ended (siteText n)) [], not-lt room (length (ended (siteText n))) (q12 .0)))
+    (not-lt logLimit room (q13 .0)))
+
+-- ### Restart and cut
+
 -- From any bytes that the buffer holds.
 good-restarted : (room : ℕ) (bs : List ℕ) (st : State) (a : Answer) → length bs ≤ room → room ≤ logLimit → restartAs room (readLog bs) ≡ ok st a → Good st
-unfolding restartAs
+unfolding restartAs restarted
 good-restarted room bs st a fits limit e = go (readLog bs) refl e
   where
     go : (j : Journal) → readLog bs ≡ j → restartAs room j ≡ ok st a → Good st
@@ -91,7 +72,8 @@ good-restarted room bs st a fits limit e = go (readLog bs) refl e
     go (journal n log) p q =
         let R = read-accepted bs n log p in
         good-ok _ st _ a q
-        (restarted-good room n log (R .histories) (R .formed) (R .ran) (omega (arith, ap length (R .same), length-append (logText n log) (restOf bs))) limit)
+        (at-rest room n log true (R .histories) (R .formed) (R .ran)
+        (omega (arith, ap length (R .same), length-append (logText n log) (restOf bs))) limit)
 
 pub good-restart : (buffer : List ℕ) (k : ℕ) (st : State) (a : Answer) → restart buffer k ≡ ok st a → Good st
 unfolding restart
