@@ -6,7 +6,9 @@ use mathlib.Core.List.{List, [], _∷_, map}
 use lib.Dec.{leb, ltb}
 use lib.ListN.{length, getD}
 use Rattle.forms.specs.Forms.{Update, Change, Did}
-use Rattle.rules.specs.Rules.{strong, ordered, loggedAs, versionAfter}
+use Rattle.forms.specs.Held.{numbersOf}
+use Rattle.forms.specs.declared.Numbers.{Numbers}
+use Rattle.rules.specs.Rules.{strong, ordered, ruleOf, loggedAs, versionAfter}
 use Rattle.rules.specs.Book.{Cell, runsAt, enterAll}
 use Rattle.rules.specs.State.{Operation}
 use Rattle.history.specs.declared.History.{History}
@@ -14,7 +16,7 @@ use Rattle.history.specs.declared.Item.{Item}
 use Rattle.history.specs.declared.Entry.{Entry}
 use Rattle.history.specs.declared.ItemTest.{ItemTest}
 use Rattle.history.specs.declared.ItemTest.the-variants.{Waits, Stale, Ran, Overtaken}
-use Rattle.history.specs.Entries.{cellsOf, itemChange, didOfEntry}
+use Rattle.history.specs.Entries.{cellsOf, itemChange, operationOf, didOfEntry, UsableEntry}
 
 -- ### Tests of refusals
 
@@ -52,9 +54,32 @@ changeIn cells u =
 unfoldable pub lineIn : (ℕ → Cell) → Operation → Did
 lineIn cells x = record { id = x .id; changes = map (changeIn cells) (x .updates) }
 
+-- An item that is done: its rule, version and place as the line has them.
+abbrev pub stamped : Cell → Item → Item
+stamped c x =
+    record {
+      rule = ruleOf (loggedAs (x .rule));
+      history = x .history;
+      version = record { 0 = versionAfter (x .rule) (c .version) (x .version .0) };
+      place = record { 0 = c .place + 1 };
+      operand = x .operand;
+    }
+
+-- The entry after finishing stands for the line that finishing writes.
+pub record Stamps (cells : ℕ → Cell) (e after : Entry) : Type 0 where
+  pub usable : UsableEntry after
+  pub running : after .running ≡ false
+  pub line : didOfEntry after ≡ lineIn cells (operationOf e)
+
 -- "values after in the operation's order"
 unfoldable pub valuesIn : (ℕ → Cell) → List Update → List ℕ
 valuesIn cells us = map (λ (u : Update). cells (u .history) .profile) us
+
+-- A list of numbers that can be written in a reply.
+pub record Values (ns : List ℕ) (r : Numbers) : Type 0 where
+  pub few : r .count ≤ 64
+  pub long : length (r .values) ≡ 64
+  pub numbers : numbersOf r ≡ ns
 
 -- ### Performing
 

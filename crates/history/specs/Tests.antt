@@ -1,14 +1,15 @@
 -- Tests over lists, and over the part of an array that counts.
 use Prim.Native.Nat.{ℕ, zero, suc, _+_, _-_, _≤_, _<_}
-use mathlib.Core.Path.{_≡_, refl, sym, ap, ap₂, _∙_}
+use mathlib.Core.Path.{_≡_, refl, sym, ap, ap₂, subst, _∙_}
 use mathlib.Core.Bool.{Bool, true, false, _&&_, _||_, not, or-true, and-false}
 use mathlib.Core.List.{List, [], _∷_, _++_, map}
-use mathlib.Core.List.{List·Memᴰ as Mem, List·Memᴰ·head as here, List·Memᴰ·tail as there}
+use mathlib.Core.Logic.{_⊎_, inl, inr}
+use mathlib.Core.List.{List·Memᴰ as Mem, List·Memᴰ·head as here, List·Memᴰ·tail as there, List·Memᴰ·not-nil, List·Memᴰ·cases-cons}
 use native.Mathlib.Omega.{arith}
 use native.Mathlib.Numerals.{add-one}
 use borrow.Author.Tests.{eq-eqb, ne-eqb, eqb-true, eqb-false}
 use lib.Dec.{eqb}
-use lib.ListN.{length, getD, take, drop, length-take, length-map}
+use lib.ListN.{length, getD, take, drop, length-take, length-map, List·getD-map, List·getD-eq-default}
 use lib.Seq.{split-at, take-suc, take-take, getD-take, length-take-le}
 use Rattle.forms.specs.Lists.{all, any}
 use Rattle.forms.specs.Held.{firstFour}
@@ -108,3 +109,48 @@ module _ {A B : Type 0} (f : A → B) (d : A) where
 -- the part of an array of four that counts, by its length
 pub length-part : {A : Type 0} (n : ℕ) (l : List A) → length l ≡ 4 → n ≤ 4 → length (take n l) ≡ n
 length-part n l e h = length-take-le n l (omega arith)
+
+-- an element of the part that counts, and what stands behind it
+module _ {A : Type 0} (n : ℕ) (l : List A) (i : ℕ) (d : A) where
+  pub part-in : i < n → getD l i d ≡ getD (take n l) i d
+  part-in h = sym (getD-take n l i d h)
+
+  pub part-out : n ≤ i → d ≡ getD (take n l) i d
+  part-out h = sym (List·getD-eq-default (take n l) d {n = i} (omega (arith, length-take n l)))
+
+module _ {A : Type 0} where
+  pub four-eq : {a a′ b b′ c c′ e e′ : A} → a ≡ a′ → b ≡ b′ → c ≡ c′ → e ≡ e′ → _≡_ {A = List A} (a ∷ b ∷ c ∷ e ∷ []) (a′ ∷ b′ ∷ c′ ∷ e′ ∷ [])
+  four-eq p q r s = ap₂ (λ (f g : List A). f ++ g) (ap₂ (λ (x y : A). x ∷ y ∷ []) p q) (ap₂ (λ (x y : A). x ∷ y ∷ []) r s)
+
+pub four-map : {A B C : Type 0} (f : A → B) (g : B → C) (d : A) (l : List A) → firstFour (λ (x : A). g (f x)) d l ≡ firstFour g (f d) (map f l)
+four-map {A} {B} {C} f g d l = four-eq (one 0) (one 1) (one 2) (one 3)
+  where
+    one : (i : ℕ) → g (f (getD l i d)) ≡ g (getD (map f l) i (f d))
+    one i = ap g (sym (List·getD-map f l i d))
+
+pub four-at : {A B : Type 0} (f : A → B) (d : A) (l : List A) (i : ℕ) (e : B) → i < 4 → getD (firstFour f d l) i e ≡ f (getD l i d)
+four-at f d l zero e h = refl
+four-at f d l (suc zero) e h = refl
+four-at f d l (suc (suc zero)) e h = refl
+four-at f d l (suc (suc (suc zero))) e h = refl
+four-at f d l (suc (suc (suc (suc i)))) e h = absurd (omega arith)
+
+-- ### What holds of every element
+
+module _ {A : Type 0} where
+  pub all-get : (p : A → Bool) (l : List A) (d : A) (i : ℕ) → i < length l → all p l ≡ true → p (getD l i d) ≡ true
+  all-get p [] d i h e = absurd (omega arith)
+  all-get p (x ∷ xs) d zero h e = and-true-parts (p x) (all p xs) e .0
+  all-get p (x ∷ xs) d (suc i) h e = all-get p xs d i (omega arith) (and-true-parts (p x) (all p xs) e .1)
+
+  pub mem-each : (P : A → Type 0) (l : List A) (d : A) → ((i : ℕ) → i < length l → P (getD l i d)) → (x : A) → Mem x l → P x
+  mem-each P [] d h x m = absurd (List·Memᴰ·not-nil m)
+  mem-each P (y ∷ l) d h x m = cases (List·Memᴰ·cases-cons m) (mem-each P l d (λ i lt. h (suc i) (omega arith)) x)
+    where
+      cases : (x ≡ y) ⊎ Mem x l → (Mem x l → P x) → P x
+      cases (inl e) below = subst P (sym e) (h 0 (omega arith))
+      cases (inr k) below = below k
+
+pub map-same : {A : Type 0} (f : A → A) (l : List A) → ((x : A) → f x ≡ x) → map f l ≡ l
+map-same f [] h = refl
+map-same {A} f (x ∷ xs) h = ap₂ (λ (y : A) (r : List A). y ∷ r) (h x) (map-same f xs h)

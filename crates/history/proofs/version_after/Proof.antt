@@ -1,8 +1,6 @@
-use Prim.Native.Nat.{ℕ, _+_, _≤_}
+use Prim.Native.Nat.{ℕ, _+_, _<_}
 use native.Mathlib.Omega.{arith}
-use Rattle.forms.specs.declared.Rule.{Rule}
 use Rattle.forms.specs.Decimal.{top}
-use Rattle.rules.specs.Rules.{versionAfter}
 use mathlib.Core.Path.{_≡_, refl, sym, ap, subst, _∙_}
 use borrow.Author.Needs.{needs}
 use Rattle.history.proofs.version_after.Statement.{statement}
@@ -30,7 +28,7 @@ enum-told-4 c = search needs
 add-t5 : tie.Need-add-t5
 add-t5 c =
     let a = c .before .before .before .args in
-    let h : a .c .0 + 1 ≤ top = subst (λ (r : Rule). versionAfter r (a .c .0) (a .u .0) ≤ top) (c .before .enum-told4 .given .1) (c .before .before .before .pre) in
+    let h : a .c .0 < top = c .before .before .before .pre (c .before .enum-told4 .given .1) in
     record { fits = omega arith }
 
 -- src/lib.rt:125:1

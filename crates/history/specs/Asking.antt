@@ -1,0 +1,67 @@
+-- Updates that are asked for, and did lines that come, before they are entries.
+use Prim.Native.Nat.{ℕ, _≤_, _<_}
+use mathlib.Core.Path.{_≡_}
+use mathlib.Core.Bool.{Bool, true, false, _&&_, not}
+use mathlib.Core.List.{List, [], _∷_, map}
+use mathlib.Core.Option.{Option, none, some}
+use lib.Dec.{leb, eqb}
+use lib.ListN.{length, getD, take}
+use Rattle.forms.specs.Forms.{Update, Change}
+use Rattle.forms.specs.Held.{asUpdate, asAsked, asDone, noUpdate, noChange}
+use Rattle.forms.specs.declared.Asked.{Asked}
+use Rattle.forms.specs.declared.Done.{Done}
+use Rattle.forms.specs.declared.AskedHeld.{AskedHeld}
+use Rattle.forms.specs.declared.DidLine.{DidLine}
+use Rattle.forms.specs.declared.Refusal.{Refusal}
+use Rattle.rules.specs.Rules.{ruleOf, strong, ordered, operandFits}
+use Rattle.rules.specs.Checks.{updateMisfits}
+use Rattle.rules.specs.State.{Operation}
+use Rattle.history.specs.declared.Entry.{Entry}
+use Rattle.history.specs.declared.AskedTest.{AskedTest}
+use Rattle.history.specs.declared.AskedTest.the-variants.{Absent, In, Misfits, Strong, Orders}
+use Rattle.history.specs.declared.Verdict.{Verdict}
+use Rattle.history.specs.declared.Verdict.the-variants.{Passes, Refused}
+use Rattle.history.specs.Entries.{operationOf, didOfEntry, UsableEntry}
+
+-- The first check that refuses, or none.
+unfoldable pub verdictOf : Option Refusal → Verdict
+verdictOf none = Passes
+verdictOf (some r) = Refused r
+
+-- The tests of which the checks 3 to 6 are made.
+unfoldable pub askedTest : AskedTest → Update → Bool
+askedTest (Absent n) u = leb n (u .history)
+askedTest (In h) u = eqb h (u .history)
+askedTest Misfits u = updateMisfits u
+askedTest Strong u = strong (u .rule)
+askedTest Orders u = strong (u .rule) && ordered (u .rule)
+
+abbrev pub asked : AskedTest → Asked → Bool
+asked t a = askedTest t (asUpdate a)
+
+-- what fills the places in which no update is held
+abbrev pub noAsked : Asked
+noAsked = asAsked noUpdate
+
+abbrev pub noDone : Done
+noDone = asDone noChange
+
+-- ### Updates and did lines that passed 2 to 5 in a site of at most 16 histories
+
+pub record UsableHeld (h : AskedHeld) : Type 0 where
+  pub few : h .count ≤ 4
+  pub long : length (h .first) ≡ 4
+  pub histories : (i : ℕ) → i < h .count → getD (h .first) i noAsked .history < 16
+  pub operands : (i : ℕ) → i < h .count → operandFits (getD (h .first) i noAsked .rule) (getD (h .first) i noAsked .version .0) (getD (h .first) i noAsked .operand) ≡ true
+
+pub record UsableDid (d : DidLine) : Type 0 where
+  pub few : d .held .count ≤ 4
+  pub long : length (d .held .first) ≡ 4
+  pub histories : (i : ℕ) → i < d .held .count → getD (d .held .first) i noDone .history < 16
+  pub operands : (i : ℕ) → i < d .held .count
+      → operandFits (ruleOf (getD (d .held .first) i noDone .rule)) (getD (d .held .first) i noDone .version .0) (getD (d .held .first) i noDone .operand) ≡ true
+
+-- The entry stands for this operation.
+pub record Enters (x : Operation) (e : Entry) : Type 0 where
+  pub usable : UsableEntry e
+  pub operation : operationOf e ≡ x
