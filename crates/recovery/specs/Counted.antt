@@ -2,7 +2,7 @@
 use mathlib.Core.Path.{_≡_, refl, sym, ap, _∙_}
 use mathlib.Core.Option.{Option, none, some}
 use mathlib.Core.List.{List, [], _∷_}
-use Prim.Native.Nat.{ℕ, max}
+use Prim.Native.Nat.{ℕ}
 use lib.ListN.{length, take}
 use Rattle.forms.specs.Decimal.{Step}
 use Rattle.forms.specs.Decimal.Step.{got, bad}
@@ -12,7 +12,7 @@ use Rattle.forms.specs.Reading.{readDid}
 use Rattle.forms.specs.declared.Refusal.the-variants.{Unreadable, AboveLimit, OutOfTurn, NoRoom, NoSuchHistory}
 use Rattle.rules.specs.Log.{Journal, journal, noJournal, readLog}
 use Rattle.rules.specs.State.{Operation, State, Reply, refused, ok, settle, logBytes}
-use Rattle.rules.specs.Calls.{unless, opened, openSite, inProgress, finished, finishFound, finish, add, withdraw, persistent, stable, show, restarted, restartAs, restart, cut, delivered, redoRead, redo, end, Call, Add, Finish, Withdraw, Persistent, Stable, Show, Cut, Redo, End, perform, step}
+use Rattle.rules.specs.Calls.{opened, openSite, inProgress, finished, finishFound, finish, add, withdraw, persistent, stable, show, restarted, restartAs, restart, cut, delivered, redoRead, redo, end, Call, Add, Finish, Withdraw, Persistent, Stable, Show, Cut, Redo, End, perform, step}
 use Rattle.rules.specs.CheckLaws.{refused-not-ok, unless-ok, unless-check}
 use Rattle.rules.specs.Run.{run}
 use Rattle.recovery.specs.Claim.{Start, justOpened, justRestarted, countedAfter, counted}

@@ -4,3 +4,5 @@ pub mod Ending
 pub mod Steps
 pub mod Counted
 pub mod Recovery
+pub mod Checking
+pub mod Instance

@@ -3,34 +3,34 @@ use mathlib.Core.Path.{_≡_, refl, sym, ap, _∙_, subst}
 use mathlib.Core.Logic.{_⊎_, inl, inr}
 use mathlib.Core.Bool.{Bool, true, false, not, _||_}
 use mathlib.Core.Option.{Option, none, some}
-use mathlib.Core.List.{List, [], _∷_, _++_, append-nil}
-use mathlib.Core.List.{List·Memᴰ as Mem, List·Memᴰ·head as here, List·Memᴰ·not-nil, Memᴰ·cast, Memᴰ·append-left, Memᴰ·append-right, List·Memᴰ·append-cases}
-use Prim.Native.Nat.{ℕ, zero, suc, _+_, _-_, _≤_, _<_, max}
+use mathlib.Core.List.{List, [], _∷_, _++_}
+use mathlib.Core.List.{List·Memᴰ as Mem, List·Memᴰ·head as here, Memᴰ·cast, Memᴰ·append-right, List·Memᴰ·append-cases}
+use Prim.Native.Nat.{ℕ, suc, _+_, _-_, _≤_, _<_}
 use native.Mathlib.Omega.{arith}
 use native.Mathlib.Nat.{le-refl}
-use lib.Dec.{T, eqb, eqb→eq, eqb-refl, leb, ltb, leb→le, le→leb, ltb→lt}
+use lib.Dec.{T, eqb, eqb→eq, eqb-refl, leb, leb→le, le→leb, ltb→lt}
 use lib.ListN.{length, length-append, length-drop, take, drop}
 use Rattle.forms.specs.Decimal.{Step}
-use Rattle.forms.specs.Decimal.Step.{got, bad}
+use Rattle.forms.specs.Decimal.Step.{got}
 use Rattle.forms.specs.DecimalLaws.{lt-or-ge}
 use Rattle.forms.specs.Lists.{any, sum}
-use Rattle.forms.specs.ListLaws.{Prefix, mem-along, mem-snoc, Nodup, nodup-right, nodup-append, nodup-snoc, sum-append, sum-sub, sum-one, mem-drop, T-false, true-T, false-T, or-cases, or-left, or-right, any-at, any-of}
-use Rattle.forms.specs.Forms.{Update, Change, Did, siteText, didText, Answer}
+use Rattle.forms.specs.ListLaws.{Prefix, mem-along, mem-snoc, Nodup, nodup-append, nodup-snoc, sum-append, sum-sub, sum-one, mem-drop, T-false, true-T, false-T, or-cases, or-left, or-right, any-at, any-of}
+use Rattle.forms.specs.Forms.{Change, Did, siteText, didText, Answer}
 use Rattle.forms.specs.Reading.{readDid}
 use Rattle.forms.specs.declared.Refusal.{Refusal}
 use Rattle.forms.specs.declared.Refusal.the-variants.{Unreadable, IdPending, AlreadyDone, TableFull, NoRoom, OutOfTurn, AboveLimit, NoSuchHistory}
 use Rattle.rules.specs.Book.{cell}
 use Rattle.rules.specs.Checks.{check, andThen, changesRefusal}
-use Rattle.rules.specs.Log.{Journal, journal, noJournal, historiesFit, ended, logText, readLog}
+use Rattle.rules.specs.Log.{historiesFit, ended, logText, readLog}
 use Rattle.rules.specs.State.{Operation, State, Reply, refused, ok, settle, liveDone, live, lineBytes, logBytes, withLog, withWaiting, withMarks}
-use Rattle.rules.specs.Calls.{unless, idPending, idDone, tableFull, logFull, stale, redoRefusal, drain, delivered, redoRead, redo, restarted, restartAs, cutAbove, cut, addRefusal, add, finishFound, finish, withdrawRefusal, withdraw, persistent, stable, show, end, Call, Add, Finish, Withdraw, Persistent, Stable, Show, Cut, Redo, End, writable, perform, step}
+use Rattle.rules.specs.Calls.{unless, idPending, idDone, tableFull, logFull, stale, redoRefusal, drain, delivered, redoRead, redo, restarted, restartAs, cut, addRefusal, add, finish, withdrawRefusal, withdraw, persistent, stable, show, end, Call, Add, Finish, Withdraw, Persistent, Stable, Show, Cut, Redo, End, writable, perform, step}
 use Rattle.rules.specs.Good.{FormedDid, Ran, Good}
 use Rattle.rules.specs.CheckLaws.{refused-not-ok, check-none, unless-ok, unless-check, formed-changes}
 use Rattle.rules.specs.BookLaws.{proj, EachOnce, place-is, place-below, each-once, nodup-ran}
 use Rattle.rules.specs.DrainLaws.{drain-keeps}
 use Rattle.rules.specs.FitLaws.{fit, fit-prefix, length-log}
 use Rattle.rules.specs.LogLaws.{formed-read, cut-reads, cut-short}
-use Rattle.recovery.specs.Claim.{byCall, comesAfter}
+use Rattle.recovery.specs.Claim.{comesAfter}
 use Rattle.recovery.specs.Invariant.{Setting, Inv, at-first, past, inv-one, inv-again, inv-add, inv-cut}
 use Rattle.recovery.specs.Ending.{in-ran, in-log}
 

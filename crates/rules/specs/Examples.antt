@@ -98,7 +98,7 @@ edges =
 unfoldable holds : Row → Bool
 holds r = sameBytes (session (r .input)) (r .replies)
 
-same-bytes : (a b : List ℕ) → T (sameBytes a b) → a ≡ b
+pub same-bytes : (a b : List ℕ) → T (sameBytes a b) → a ≡ b
 unfolding sameBytes
 same-bytes [] [] t = refl
 same-bytes [] (y ∷ b) t = absurd t
