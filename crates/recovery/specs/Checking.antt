@@ -89,7 +89,8 @@ module _ (lost : List Did) (chosen : Did → Bool) where
 
   module _ (m : ℕ) (s : State) (xs : List Call) (k room : ℕ) (ys : List Call) where
     -- A call behind the picked cut that is accepted may be.
-    may-be : T (allFine (counted m (xs ++ Cut k room ∷ []) s) (run (xs ++ Cut k room ∷ []) s) ys) → (a : List Call) (c : Call) (b : List Call) → ys ≡ a ++ c ∷ b →
+    may-be : T (allFine (counted m (xs ++ Cut k room ∷ []) s) (run (xs ++ Cut k room ∷ []) s) ys) →
+        (a : List Call) (c : Call) (b : List Call) → ys ≡ a ++ c ∷ b →
         (after : State) (answer : Answer) → step c (run (xs ++ Cut k room ∷ a) s) ≡ ok after answer →
         T (mayBeAccepted (counted m (xs ++ Cut k room ∷ a) s) (run (xs ++ Cut k room ∷ a) s) c after)
     may-be t a c b e after answer q =
