@@ -147,7 +147,9 @@ module _ (chosen : Did → Bool) (ys : List Call) where
 
     -- (2) The lines that have run are, byte for byte, those that the computed log has behind the kept ones.
     ran-bytes : didsText (result .ran) ≡ text
-    ran-bytes = append-cancel-left (bytes "(site 3)\n(did 9 (inc 2 1 1 256))\n") (didsText (result .ran)) text (ap front (sym (to-cut .kept)) ∙ sym (result .bytes) ∙ C .log)
+    ran-bytes =
+        append-cancel-left (bytes "(site 3)\n(did 9 (inc 2 1 1 256))\n") (didsText (result .ran)) text
+        (ap front (sym (to-cut .kept)) ∙ sym (result .bytes) ∙ C .log)
       where
         front : List ℕ → List ℕ
         front l = l ++ didsText (result .ran)
