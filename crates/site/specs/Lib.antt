@@ -1,5 +1,6 @@
 pub mod Model
 pub mod ModelLaws
 pub mod QueueLaws
+pub mod MarkLaws
 pub mod ShowLaws
 pub mod EndLaws
