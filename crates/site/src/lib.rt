@@ -1,6 +1,7 @@
 // One site: its histories, its table of live operations, and its log in a lent buffer.
 ghost use mathlib.Core.Path.{_≡_};
 ghost use mathlib.Core.List.{[]};
+ghost use Prim.Native.Nat.{max};
 ghost use Rattle.forms.specs.Forms.{Refused};
 ghost use Rattle.table.specs.Lists.{IsNumbers};
 ghost use Rattle.site.specs.Model.{Says};
@@ -15,6 +16,7 @@ use table::Queue;
 
 pub mod end;
 pub mod show;
+pub mod stable;
 
 // A site by value. Its log stands in the first `used` bytes of a buffer that the caller lends to each call.
 pub struct Site {
@@ -77,4 +79,11 @@ pub fn refusal(q: Refusal) -> ReplyLine
         first: no_numbers(),
         second: no_numbers(),
     }
+}
+
+// The greater of two numbers.
+pub fn greater(a: u64, b: u64) -> u64
+    ensures { λ r. ⌜ r ≡ max a b ⌝ }
+{
+    if a < b { b } else { a }
 }
