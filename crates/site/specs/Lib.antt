@@ -1,6 +1,8 @@
 pub mod Model
 pub mod ModelLaws
 pub mod QueueLaws
+pub mod Busy
+pub mod BusyLaws
 pub mod MarkLaws
 pub mod StableLaws
 pub mod ShowLaws

@@ -14,6 +14,7 @@ use history::History;
 use table::DoneList;
 use table::Queue;
 
+pub mod busy;
 pub mod end;
 pub mod show;
 pub mod stable;

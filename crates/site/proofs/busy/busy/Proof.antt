@@ -1,0 +1,33 @@
+use Rattle.site.specs.BusyLaws.{busy-restoring, busy-working}
+use borrow.Author.Needs.{needs}
+use Rattle.site.proofs.busy.busy.Statement.{statement}
+use Rattle.site.proofs.busy.busy.Tie as tie
+use Rattle.site.proofs.busy.busy.Reads as reads
+use Rattle.site.proofs.busy.busy.Lts as lts
+use Rattle.site.proofs.busy.either.Reads as either-reads
+use Rattle.table.proofs.DoneList.touched.Reads as DoneList-touched-reads
+use Rattle.table.proofs.Queue.touched.Reads as Queue-touched-reads
+
+-- src/busy.rt:44:9
+touched-requires : tie.Need-touched-requires
+touched-requires c κs = search needs
+
+-- src/busy.rt:46:9
+returns : tie.Need-returns
+returns c = busy-restoring _ _ _ _ _ (c .if1 .taken) (c .before .touched .ensures)
+
+-- src/busy.rt:48:9
+touched-requires-2 : tie.Need-touched-requires-2
+touched-requires-2 c κs = search needs
+
+-- src/busy.rt:49:5
+either-requires : tie.Need-either-requires
+either-requires c κs = search needs
+
+-- src/busy.rt:38:1
+returns-2 : tie.Need-returns-2
+returns-2 c = busy-working _ _ _ _ _ _ _ (c .before .before .if1 .left) (c .before .touched2 .ensures) (c .before .before .before .touched .ensures) (c .either .ensures)
+
+pub busy-spec : {M : Type 1} → statement M
+busy-spec =
+    tie.close (tie.spec touched-requires returns touched-requires-2 either-requires returns-2)

@@ -1,0 +1,71 @@
+use Prim.Native.Nat.{_+_, _-_, _≤_, _<_}
+use native.Mathlib.Omega.{arith}
+use mathlib.Core.Path.{refl}
+use mathlib.Core.Bool.{false}
+use Rattle.table.specs.Arrays.{Says}
+use Rattle.site.specs.BusyLaws.{joinedTo, joined-none, joined-next, joined-all}
+use Rattle.site.proofs.busy.either.Statement.{statement}
+use Rattle.site.proofs.busy.either.Tie as tie
+use Rattle.site.proofs.busy.either.Reads as reads
+use Rattle.site.proofs.busy.either.Lts as lts
+use Rattle.site.proofs.busy.or.Reads as or-reads
+
+abbrev Inv-loop : tie.InvT-loop
+Inv-loop a b r₀ h₀ r h = Says false r (joinedTo h a b) × (h ≤ 16)
+
+abbrev μ-loop : tie.MeasureT-loop
+μ-loop a b r₀ h₀ r h = 16 - h
+
+-- src/busy.rt:29:5
+loop-holds : tie.Need-loop-holds Inv-loop μ-loop
+loop-holds c = (joined-none _ (c .args .t1) (c .args .t2) refl, omega arith)
+
+-- src/busy.rt:30:20
+array-read-or : tie.Need-array-read-or Inv-loop μ-loop
+array-read-or c = omega (arith, c .loop-test .taken)
+
+-- src/busy.rt:30:26
+array-read-or-2 : tie.Need-array-read-or-2 Inv-loop μ-loop
+array-read-or-2 c = omega (arith, c .loop-test .taken)
+
+-- src/busy.rt:30:13
+or-requires : tie.Need-or-requires Inv-loop μ-loop
+or-requires c κs = tt
+
+-- src/busy.rt:31:9
+array-write-r : tie.Need-array-write-r Inv-loop μ-loop
+array-write-r c = omega (arith, c .before .loop-test .taken)
+
+-- src/busy.rt:32:9
+add-h : tie.Need-add-h Inv-loop μ-loop
+add-h c = omega (arith, c .before .loop-test .taken)
+
+-- src/busy.rt:29:5
+loop-less : tie.Need-loop-less Inv-loop μ-loop
+loop-less c = omega (arith, c .before .loop-test .taken)
+
+-- src/busy.rt:29:5
+loop-again : tie.Need-loop-again Inv-loop μ-loop
+loop-again c =
+    let l = c .before .before .loop in
+    (joined-next (l .r) (c .before .before .before .args .t1) (c .before .before .before .args .t2) (l .h) _ (c .before .loop-test .taken) (c .or .ensures) (l .inv .0), omega (arith, c .before .loop-test .taken))
+
+-- src/busy.rt:24:1
+returns : tie.Need-returns Inv-loop μ-loop
+returns c = joined-all _ (c .before .before .args .t1) (c .before .before .args .t2) (c .before .loop .h) (c .loop-test .left) (c .before .loop .inv .0)
+
+pub either-spec : {M : Type 1} → statement M
+either-spec =
+    tie.close
+    (tie.spec
+    Inv-loop
+    μ-loop
+    loop-holds
+    array-read-or
+    array-read-or-2
+    or-requires
+    array-write-r
+    add-h
+    loop-less
+    loop-again
+    returns)

@@ -1,0 +1,46 @@
+// Which histories are not dry.
+ghost use mathlib.Core.Path.{_≡_};
+ghost use mathlib.Core.Bool.{false, _||_};
+ghost use Prim.Native.Nat.{ℕ, _≤_};
+ghost use lib.ListN.{length, getD};
+ghost use Rattle.table.specs.Arrays.{Says};
+ghost use Rattle.table.specs.Dones.{UsableDones};
+ghost use Rattle.table.specs.Queues.{UsableQueue};
+ghost use Rattle.site.specs.Busy.{busyIn};
+use table::DoneList;
+use table::Queue;
+
+pub fn or(a: bool, b: bool) -> bool
+    ensures { λ r. ⌜ r ≡ (a || b) ⌝ }
+{
+    if a { true } else { b }
+}
+
+// The histories that are marked in one array or in the other.
+pub fn either(a: [bool; 16], b: [bool; 16]) -> [bool; 16]
+    ensures { λ r. ⌜ Says false r (λ (h : ℕ). getD a h false || getD b h false) ⌝ }
+{
+    let mut r = [false; 16];
+    let mut h = 0;
+    while h < 16 {
+        let x = or(a[h], b[h]);
+        r[h] = x;
+        h += 1;
+    }
+    r
+}
+
+// Whether each history has a future, in-progress or volatile update; the operations behind the first `from` are volatile.
+pub fn busy(restoring: bool, queue: Queue, finished: DoneList, from: usize) -> [bool; 16]
+    requires { ⌜ UsableQueue queue ⌝ }
+    requires { ⌜ UsableDones finished ⌝ }
+    requires { ⌜ from ≤ finished .count ⌝ }
+    ensures { λ r. ⌜ Says false r (busyIn restoring queue finished from) ⌝ }
+{
+    let volatile = finished.touched(from);
+    if restoring {
+        return volatile;
+    }
+    let pending = queue.touched();
+    either(pending, volatile)
+}
