@@ -1,17 +1,17 @@
 -- The forms of a session's input: what is written is read back, and each line that is read is the one way to write what it means.
 use Prim.Native.Nat.{ℕ, _≤_, _<_}
 use mathlib.Core.Path.{_≡_, refl, ap, ap₂, sym, subst, _∙_}
-use mathlib.Core.List.{List, [], _∷_, _++_, append-assoc, append-nil}
-use mathlib.Core.Logic.{_⊎_, inl, inr, ⊎-elim}
+use mathlib.Core.List.{List, [], _++_, append-assoc, append-nil}
+use mathlib.Core.Logic.{⊎-elim}
 use native.Mathlib.Omega.{arith}
 use lib.ListN.{length}
-use Rattle.forms.specs.Decimal.{digits, number, Step, top}
+use Rattle.forms.specs.Decimal.{digits, number, top}
 use Rattle.forms.specs.Decimal.Step.{got, bad}
 use Rattle.forms.specs.DecimalLaws.{number-written}
 use Rattle.forms.specs.Words.{bytes, word, word-written, word-read}
 use Rattle.forms.specs.Forms.{Update, Did, Command, SiteOf, Add, Finish, Withdraw, Persistent, Stable, Show, Cut, Redo, End, fieldText, tailText, oneText, ruleText, updateText, siteText, didText, redoText, commandText}
-use Rattle.forms.specs.Reading.{choose, field, rule, update, tail, did, one, add, redo, numbered, orElse, command, readCommand}
-use Rattle.forms.specs.Writable.{WritableUpdate, WritableDid, WritableCommand}
+use Rattle.forms.specs.Reading.{choose, field, rule, update, tail, did, one, add, redo, numbered, command, readCommand}
+use Rattle.forms.specs.Writable.{WritableUpdate, WritableCommand}
 use Rattle.forms.specs.ReadingLaws.{never, bind-then, choose-read, orElse-read, spaced, end, field-written, field-read, Item, tail-written, list-text, list-id, list-read, one-text, one-read, readWhole-written, readWhole-read}
 use Rattle.forms.specs.DidLaws.{did-written, did-read}
 use Rattle.forms.specs.declared.Rule.{Rule}
@@ -34,9 +34,9 @@ rule-read l r rest h =
     ⊎-elim (λ p. that Not (p .0) (p .1)) (λ h₃.
     ⊎-elim (λ p. that Unk (p .0) (p .1)) (λ h₄. never h₄)
     (choose-read (word (bytes "(unk") l) Unk bad r rest h₃))
-    (choose-read (word (bytes "(not") l) Not (choose (word (bytes "(unk") l) Unk bad) r rest h₂))
-    (choose-read (word (bytes "(set") l) Set (choose (word (bytes "(not") l) Not (choose (word (bytes "(unk") l) Unk bad)) r rest h₁))
-    (choose-read (word (bytes "(inc") l) Inc (choose (word (bytes "(set") l) Set (choose (word (bytes "(not") l) Not (choose (word (bytes "(unk") l) Unk bad))) r rest h)
+    (choose-read (word (bytes "(not") l) Not _ r rest h₂))
+    (choose-read (word (bytes "(set") l) Set _ r rest h₁))
+    (choose-read (word (bytes "(inc") l) Inc _ r rest h)
   where
     that : (q : Rule) → word (ruleText q) l ≡ got tt rest → q ≡ r → l ≡ ruleText r ++ rest
     that q w e = word-read (ruleText q) l tt rest w ∙ ap (λ (x : Rule). ruleText x ++ rest) e
@@ -130,7 +130,11 @@ front-written (Stable n) rest h = rw (one-text (bytes "(stable ") n rest, number
 front-written (Show n) rest h = rw (one-text (bytes "(show ") n rest, number-written n (end rest) h refl)
 front-written (Cut n) rest h = rw (one-text (bytes "(cut ") n rest, number-written n (end rest) h refl)
 front-written (Add i us) rest h =
-    rw (add-text i us rest, list-id update updateText WritableUpdate update-item i us rest (h .0), tail-written update updateText WritableUpdate update-item us rest (h .1))
+    rw (
+      add-text i us rest,
+      list-id update updateText WritableUpdate update-item i us rest (h .0),
+      tail-written update updateText WritableUpdate update-item us rest (h .1),
+    )
 front-written (Redo d) rest h = rw (redo-text d rest, did-written d (end rest) h)
 front-written End rest h = refl
 

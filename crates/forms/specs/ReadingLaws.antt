@@ -1,5 +1,5 @@
 -- Laws of reading: what a step made of steps tells of them, and fields, lists of items and forms, written and read.
-use Prim.Native.Nat.{ℕ, zero, suc, _+_, _≤_, _<_}
+use Prim.Native.Nat.{ℕ, zero, suc, _≤_, _<_}
 use mathlib.Core.Path.{_≡_, refl, ap, ap₂, sym, subst, _∙_}
 use mathlib.Core.List.{List, [], _∷_, _++_, append-assoc, append-nil}
 use mathlib.Core.List.{List·Memᴰ as Mem, List·Memᴰ·head as here, List·Memᴰ·tail as there, List·Memᴰ·not-nil, List·Memᴰ·cases-cons}
@@ -82,7 +82,11 @@ module _ {A : Type 0} (item : List ℕ → Step A) (text : A → List ℕ) (Fit 
   items-written xs x zero vs rest f fs h = absurd (omega arith)
   items-written [] x (suc k) vs rest f fs h = rw (laws .written x (end rest) f, word-written (bytes ")") rest)
   items-written (y ∷ xs) x (suc k) vs rest f fs h =
-      rw (laws .written x (text y ++ itemsText text xs ++ end rest) f, append-assoc (text y) (itemsText text xs) (end rest), laws .opens y (itemsText text xs ++ end rest))
+      rw (
+        laws .written x (text y ++ itemsText text xs ++ end rest) f,
+        append-assoc (text y) (itemsText text xs) (end rest),
+        laws .opens y (itemsText text xs ++ end rest),
+      )
       (items-written xs y k (vs ++ (x ∷ [])) rest (fs y (here refl)) (λ z m. fs z (there m)) (omega arith)
       ∙ ap (λ (z : List A). got z rest) (append-assoc vs (x ∷ []) (y ∷ xs)))
 

@@ -1,15 +1,14 @@
 -- Laws of the kinds of bytes.
 use Prim.Native.Nat.{ℕ, _-_, _≤_, _<_}
-use mathlib.Core.Path.{_≡_, refl, sym, _∙_}
+use mathlib.Core.Path.{_≡_, refl}
 use mathlib.Core.Bool.{Bool, true, false, cond, _&&_}
 use mathlib.Core.Logic.{_⊎_, inl, inr}
 use native.Mathlib.Omega.{arith}
 use lib.Dec.{leb, eqb}
-use borrow.Author.Tests.{le-leb, lt-leb, eq-eqb, ne-eqb}
+use borrow.Author.Tests.{le-leb, lt-leb, ne-eqb}
 use Rattle.forms.specs.Decimal.{isDigit}
 use Rattle.forms.specs.DecimalLaws.{digit-range}
 use Rattle.reader.specs.Read.{isLetter, kindOf}
-use Rattle.reader.specs.declared.Kind.{Kind}
 use Rattle.reader.specs.declared.Kind.the-variants.{Digit, Letter, Open, Close, Space, Other}
 
 -- a byte in a range, below it and above it

@@ -6,3 +6,4 @@ pub mod ItemLaws
 pub mod FromLaws
 pub mod LoopLaws
 pub mod WholeLaws
+pub mod AnswerLaws
