@@ -16,6 +16,7 @@ use table::Queue;
 
 pub mod busy;
 pub mod end;
+pub mod persistent;
 pub mod show;
 pub mod stable;
 
