@@ -3,3 +3,4 @@ pub mod ModelLaws
 pub mod QueueLaws
 pub mod ShowLaws
 pub mod EndLaws
+pub mod LineLaws
