@@ -2,7 +2,7 @@
 use Prim.Native.Nat.{ℕ, _+_, _<_}
 use native.Mathlib.Omega.{arith}
 use mathlib.Core.Path.{_≡_, refl, sym, ap, ap₂, _∙_}
-use mathlib.Core.Bool.{Bool, true, false, cond, _||_, or-true, or-false, or-assoc}
+use mathlib.Core.Bool.{Bool, true, false, cond, _&&_, _||_, or-false, or-assoc}
 use mathlib.Core.List.{List, [], _∷_, _++_}
 use borrow.Author.Tests.{eqb-true, eqb-false}
 use lib.Dec.{eqb}
@@ -37,19 +37,23 @@ says-nothing = record { long = refl; each = λ h l. getD-replicate 16 h false fa
 pub says-start : {A : Type 0} (t : List Bool) (p : ℕ → A → Bool) (l : List A) → length t ≡ 16 → Says false t (λ (h : ℕ). getD t h false || any (p h) (take 0 l))
 says-start t p l n = record { long = n; each = λ h k. sym (ap (λ (x : List _). getD t h false || any (p h) x) (take-none 0 l refl) ∙ or-false (getD t h false)) }
 
--- a mark set where b is true
-pub or-marked : (b x : Bool) → cond b true x ≡ (x || b)
-or-marked true x = sym (or-true x)
-or-marked false x = sym (or-false x)
+-- a mark raised by b
+pub says-mark : (t : List Bool) (f : ℕ → Bool) (at : ℕ) (x b : Bool) → Says false t f → at < 16 → x ≡ (getD t at false || b)
+    → Says false (set t at x) (λ (h : ℕ). f h || (eqb at h && b))
+says-mark t f at x b s lt e =
+    says-like false (set t at x) _ _ (says-store false t f at x s lt) (λ h k. go h k (eqb at h) refl)
+  where
+    go : (h : ℕ) → h < 16 → (c : Bool) → eqb at h ≡ c → cond (eqb at h) x (f h) ≡ (f h || (eqb at h && b))
+    go h k true q = rw q (e ∙ ap (λ (y : Bool). y || b) (s .each at lt ∙ ap f (eqb-true at h q)))
+    go h k false q = rw q (sym (or-false (f h)))
 
 -- The marks with those of the elements passed so far: one element more.
-pub says-next : {A : Type 0} (t t₀ : List Bool) (p : ℕ → A → Bool) (l : List A) (a : A) (i at : ℕ) → i < length l → at < 16
-    → ((h : ℕ) → eqb at h ≡ p h (getD l i a))
+pub says-next : {A : Type 0} (t t₀ : List Bool) (p : ℕ → A → Bool) (l : List A) (a : A) (i at : ℕ) (x b : Bool) → i < length l → at < 16
+    → x ≡ (getD t at false || b) → ((h : ℕ) → (eqb at h && b) ≡ p h (getD l i a))
     → Says false t (λ (h : ℕ). getD t₀ h false || any (p h) (take i l))
-    → Says false (set t at true) (λ (h : ℕ). getD t₀ h false || any (p h) (take (i + 1) l))
-says-next t t₀ p l a i at n lt e s =
-    says-like false (set t at true) _ _ (says-store false t _ at true s lt)
-    (λ h k. or-marked (eqb at h) (getD t₀ h false || any (p h) (take i l))
-    ∙ or-assoc (getD t₀ h false) (any (p h) (take i l)) (eqb at h)
-    ∙ ap (λ (b : Bool). getD t₀ h false || (any (p h) (take i l) || b)) (e h)
-    ∙ ap (λ (b : Bool). getD t₀ h false || b) (sym (any-more (p h) l a i n)))
+    → Says false (set t at x) (λ (h : ℕ). getD t₀ h false || any (p h) (take (i + 1) l))
+says-next t t₀ p l a i at x b n lt q e s =
+    says-like false (set t at x) _ _ (says-mark t _ at x b s lt q)
+    (λ h k. or-assoc (getD t₀ h false) (any (p h) (take i l)) (eqb at h && b)
+    ∙ ap (λ (y : Bool). getD t₀ h false || (any (p h) (take i l) || y)) (e h)
+    ∙ ap (λ (y : Bool). getD t₀ h false || y) (sym (any-more (p h) l a i n)))

@@ -2,8 +2,11 @@
 pub mod Lists
 pub mod Arrays
 pub mod Queues
+pub mod Tries
 pub mod Dones
 pub mod LoopLaws
 pub mod ArrayLaws
 pub mod QueueLaws
+pub mod MarkLaws
+pub mod TryLaws
 pub mod DoneLaws

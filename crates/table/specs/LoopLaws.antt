@@ -11,6 +11,7 @@ use lib.ListN.{length, getD, take, drop, set, length-take, drop-of-length-le}
 use lib.Seq.{split-at, take-suc, take-take, getD-take, length-take-le, take-suc-set, take-nil, take-add, drop-at, drop-append-le}
 use Rattle.forms.specs.Lists.{any, all, keep, below}
 use Rattle.forms.specs.ListLaws.{mem-at, mem-along, mem-snoc, keep-append}
+use Rattle.history.specs.Tests.{take-split}
 use Rattle.table.specs.declared.Found.{Found}
 use Rattle.table.specs.declared.Found.the-variants.{At, Nothing}
 use Rattle.table.specs.Lists.{later, firstAt, omit}
@@ -21,20 +22,13 @@ module _ {A : Type 0} (l : List A) (d : A) where
   pub take-next : (i : ℕ) → i < length l → take (i + 1) l ≡ take i l ++ (getD l i d ∷ [])
   take-next i h = rw (add-one) (take-suc l i d h)
 
-  -- What stands before an index, at it and behind it.
-  pub take-split : (i n : ℕ) → i < n → n ≤ length l → take n l ≡ take i l ++ getD l i d ∷ drop (suc i) (take n l)
-  take-split i n p q =
-      let h : i < length (take n l) = omega (arith, length-take n l) in
-      split-at (take n l) i d h
-      ∙ ap₂ (λ (x : List A) (y : A). x ++ y ∷ drop (suc i) (take n l)) (take-take i n l (omega arith)) (getD-take n l i d p)
-
   -- of the part that begins at an index, one element more
   pub slice-next : (from i : ℕ) → from ≤ i → i < length l → drop from (take (i + 1) l) ≡ drop from (take i l) ++ (getD l i d ∷ [])
   slice-next from i h g =
       ap (drop from) (take-next i g) ∙ drop-append-le from (take i l) (getD l i d ∷ []) (omega (arith, length-take-le i l (omega arith)))
 
   pub mem-take : (i n : ℕ) → i < n → n ≤ length l → Mem (getD l i d) (take n l)
-  mem-take i n p q = mem-along (sym (take-split i n p q)) (mem-at (getD l i d) (take i l) (drop (suc i) (take n l)))
+  mem-take i n p q = mem-along (sym (take-split l d i n p q)) (mem-at (getD l i d) (take i l) (drop (suc i) (take n l)))
 
 module _ {A : Type 0} where
   -- one more at the end
@@ -123,16 +117,6 @@ module _ {A : Type 0} (p : A → Bool) where
 module _ {A : Type 0} (p : A → Bool) (l : List A) (d : A) where
   pub any-more : (i : ℕ) → i < length l → any p (take (i + 1) l) ≡ (any p (take i l) || p (getD l i d))
   any-more i h = ap (any p) (take-next l d i h) ∙ any-snoc p (take i l) (getD l i d)
-
-  pub any-next : (i : ℕ) → i < length l → any p (take i l) ≡ false → p (getD l i d) ≡ false → any p (take (i + 1) l) ≡ false
-  any-next i h e q = any-more i h ∙ ap₂ _||_ e q
-
-  pub any-hit : (i n : ℕ) → i < n → n ≤ length l → p (getD l i d) ≡ true → any p (take n l) ≡ true
-  any-hit i n h g q =
-      ap (any p) (take-split l d i n h g)
-      ∙ any-append p (take i l) (getD l i d ∷ drop (suc i) (take n l))
-      ∙ ap (λ (t : Bool). any p (take i l) || (t || any p (drop (suc i) (take n l)))) q
-      ∙ or-true (any p (take i l))
 
   pub all-next : (i : ℕ) → i < length l → all p (take i l) ≡ true → p (getD l i d) ≡ true → all p (take (i + 1) l) ≡ true
   all-next i h e q =

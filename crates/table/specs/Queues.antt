@@ -6,8 +6,9 @@ use mathlib.Core.List.{List, [], _∷_, _++_, map}
 use mathlib.Core.List.{List·Memᴰ as Mem}
 use lib.Dec.{eqb}
 use lib.ListN.{length, getD, take}
+use Rattle.rules.specs.Book.{Cell}
 use Rattle.history.specs.declared.Entry.{Entry}
-use Rattle.history.specs.Entries.{UsableEntry}
+use Rattle.history.specs.Entries.{UsableEntry, canRunIn, didOfEntry}
 use Rattle.table.specs.declared.Queue.{Queue}
 
 -- The entries of a queue, in order of arrival (or delivery).
@@ -38,3 +39,7 @@ isEntry i running e = eqb (e .id) i && cond running (e .running) (not (e .runnin
 
 abbrev pub idOf : Entry → ℕ
 idOf e = e .id
+
+-- Can the entry run, as a did line?
+abbrev pub canRunEntry : (ℕ → Cell) → Entry → Bool
+canRunEntry cells e = canRunIn cells (didOfEntry e)

@@ -6,11 +6,13 @@ ghost use Prim.Native.Nat.{ℕ, suc, _+_, _-_, _≤_, _<_};
 ghost use lib.ListN.{length, take, drop, getD, set};
 ghost use Rattle.forms.specs.Lists.{any, all, keep, below};
 ghost use Rattle.forms.specs.Held.{numbersOf};
-ghost use Rattle.history.specs.Entries.{UsableEntry};
+ghost use Rattle.rules.specs.State.{asks};
+ghost use Rattle.history.specs.Entries.{UsableEntry, UsableItem, cellsOf, canRunIn, didOfEntry, operationOf, itemUpdate};
 ghost use Rattle.table.specs.Lists.{firstAt, omit, IsNumbers};
 ghost use Rattle.table.specs.Arrays.{Says, rises, ceases};
 ghost use Rattle.table.specs.Dones.{doneOf, UsableDone, UsableDones, IsDone, doneHasId, doneTouches, stampedTo, versionFrom};
-ghost use Rattle.table.specs.Queues.{queueOf, UsableQueue, IsQueue, hasId, isEntry, idOf};
+ghost use Rattle.table.specs.Tries.{updatesOf, heldOf, gather, Marked, More, freeBy, readyBy, startsBy, operationsOf, Tries};
+ghost use Rattle.table.specs.Queues.{queueOf, UsableQueue, IsQueue, hasId, isEntry, idOf, canRunEntry};
 use forms::Numbers;
 use forms::Place;
 use forms::Rule;
@@ -19,6 +21,9 @@ use history::DoneEntry;
 use history::Entry;
 use history::History;
 use history::Item;
+use history::can_run;
+use history::is_strong;
+use history::may_run;
 
 // Entries that are not done: the first `count` count.
 pub struct Queue {
@@ -30,6 +35,18 @@ pub struct Queue {
 pub struct DoneList {
     pub count: usize,
     pub entries: [DoneEntry; 64],
+}
+
+// Of each history: whether an update of those counted is in it, and whether a strong one is.
+pub struct Marks {
+    pub any: [bool; 16],
+    pub strong: [bool; 16],
+}
+
+// A queue after a pass over its future operations, and the ids made ready.
+pub struct Tried {
+    pub queue: Queue,
+    pub ready: Numbers,
 }
 
 // Where an entry was found.
@@ -61,6 +78,105 @@ pub fn is_entry(e: Entry, id: u64, running: bool) -> bool
     } else {
         false
     }
+}
+
+pub fn either(a: bool, b: bool) -> bool
+    ensures { λ r. ⌜ r ≡ (a || b) ⌝ }
+{
+    if a { true } else { b }
+}
+
+// The marks with those of an entry.
+pub fn marked(m: Marks, e: Entry) -> Marks
+    requires { ⌜ UsableEntry e ⌝ }
+    requires { ⌜ (length (m .any) ≡ 16) × (length (m .strong) ≡ 16) ⌝ }
+    ensures { λ r. ⌜ More r m (updatesOf e) ⌝ }
+{
+    let mut any = m.any;
+    let mut strong = m.strong;
+    let n = e.count;
+    let mut i = 0;
+    while i < n {
+        let x = e.items[i];
+        let at = x.history as usize;
+        let rule = x.rule;
+        any[at] = true;
+        strong[at] = either(strong[at], is_strong(rule));
+        i += 1;
+    }
+    Marks {
+        any: any,
+        strong: strong,
+    }
+}
+
+// The marks with those of an entry, where it is in progress.
+pub fn marked_by(m: Marks, e: Entry) -> Marks
+    requires { ⌜ UsableEntry e ⌝ }
+    requires { ⌜ (length (m .any) ≡ 16) × (length (m .strong) ≡ 16) ⌝ }
+    ensures { λ r. ⌜ More r m (heldOf e) ⌝ }
+{
+    if e.running { marked(m, e) } else { m }
+}
+
+// Whether an update is not blocked, by the marks of what is in progress.
+pub fn is_free(m: Marks, x: Item) -> bool
+    requires { ⌜ x .history < 16 ⌝ }
+    ensures { λ r. ⌜ r ≡ freeBy m (itemUpdate x) ⌝ }
+{
+    let at = x.history as usize;
+    let rule = x.rule;
+    if is_strong(rule) {
+        !m.any[at]
+    } else {
+        !m.strong[at]
+    }
+}
+
+// Whether each update of an operation may run and is not blocked.
+pub fn all_ready(histories: [History; 16], m: Marks, e: Entry) -> bool
+    requires { ⌜ UsableEntry e ⌝ }
+    ensures { λ r. ⌜ r ≡ all (readyBy (cellsOf histories) m) (updatesOf e) ⌝ }
+{
+    let n = e.count;
+    let mut i = 0;
+    while i < n {
+        let x = e.items[i];
+        let at = x.history as usize;
+        let h = histories[at];
+        let rule = x.rule;
+        let u = x.version;
+        let c = h.version;
+        if !may_run(rule, c, u) {
+            return false;
+        }
+        if !is_free(m, x) {
+            return false;
+        }
+        i += 1;
+    }
+    true
+}
+
+// Whether an entry is a future operation that is ready.
+pub fn may_start(histories: [History; 16], m: Marks, e: Entry) -> bool
+    requires { ⌜ UsableEntry e ⌝ }
+    ensures { λ r. ⌜ r ≡ startsBy (cellsOf histories) m (operationOf e) ⌝ }
+{
+    if e.running {
+        false
+    } else {
+        all_ready(histories, m, e)
+    }
+}
+
+// The entry in progress.
+pub fn started(e: Entry) -> Entry
+    ensures { λ r. ⌜ r ≡ record { id = e .id; running = true; count = e .count; items = e .items } ⌝ }
+{
+    let mut r = e;
+    r.running = true;
+    r
 }
 
 impl Queue {
@@ -169,6 +285,93 @@ impl Queue {
             i += 1;
         }
         ns
+    }
+
+    // Which histories the entries' updates are in.
+    pub fn touched(self) -> [bool; 16]
+        requires { ⌜ UsableQueue self ⌝ }
+        ensures { λ r. ⌜ Says false r (λ (h : ℕ). any (asks h) (operationsOf (queueOf self))) ⌝ }
+    {
+        let n = self.count;
+        let mut m = Marks {
+            any: [false; 16],
+            strong: [false; 16],
+        };
+        let mut i = 0;
+        while i < n {
+            let e = self.entries[i];
+            m = marked(m, e);
+            i += 1;
+        }
+        m.any
+    }
+
+    // The marks of what is in progress.
+    pub fn marks(self) -> Marks
+        requires { ⌜ UsableQueue self ⌝ }
+        ensures { λ r. ⌜ Marked r (gather heldOf (queueOf self)) ⌝ }
+    {
+        let n = self.count;
+        let mut m = Marks {
+            any: [false; 16],
+            strong: [false; 16],
+        };
+        let mut i = 0;
+        while i < n {
+            let e = self.entries[i];
+            m = marked_by(m, e);
+            i += 1;
+        }
+        m
+    }
+
+    // The first entry that can run as a did line.
+    pub fn first_ready_line(self, histories: [History; 16]) -> Found
+        requires { ⌜ UsableQueue self ⌝ }
+        ensures { λ r. ⌜ r ≡ firstAt (canRunEntry (cellsOf histories)) (queueOf self) ⌝ }
+    {
+        let n = self.count;
+        let mut i = 0;
+        while i < n {
+            let e = self.entries[i];
+            if can_run(histories, e) {
+                return Found::At(i);
+            }
+            i += 1;
+        }
+        Found::Nothing
+    }
+
+    // One pass over the future operations: each is examined once, oldest first.
+    pub fn try_all(self, histories: [History; 16]) -> Tried
+        requires { ⌜ UsableQueue self ⌝ }
+        ensures { λ r. ⌜ Tries (cellsOf histories) (queueOf self) r ⌝ }
+        ensures { λ r. ⌜ r .queue .count ≡ self .count ⌝ }
+    {
+        let n = self.count;
+        let mut m = self.marks();
+        let mut entries = self.entries;
+        let mut ready = Numbers {
+            count: 0,
+            values: [0; 64],
+        };
+        let mut i = 0;
+        while i < n {
+            let e = entries[i];
+            if may_start(histories, m, e) {
+                m = marked(m, e);
+                entries[i] = started(e);
+                ready = push_number(ready, e.id);
+            }
+            i += 1;
+        }
+        Tried {
+            queue: Queue {
+                count: n,
+                entries: entries,
+            },
+            ready: ready,
+        }
     }
 }
 

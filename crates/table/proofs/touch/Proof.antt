@@ -2,7 +2,7 @@ use Prim.Native.Nat.{ℕ, _≤_, _-_, _+_}
 use native.Mathlib.Omega.{arith}
 use borrow.Author.Needs.{needs}
 use mathlib.Core.Path.{_≡_, refl, sym, ap, _∙_}
-use mathlib.Core.Bool.{Bool, false, _||_, or-false}
+use mathlib.Core.Bool.{Bool, true, false, _||_, or-true, and-true}
 use lib.Dec.{eqb}
 use lib.ListN.{length, getD, take}
 use Rattle.forms.specs.Lists.{any}
@@ -43,7 +43,8 @@ loop-again c =
     let l = c .before .before .loop in (
       omega arith,
       refl,
-      says-next (l .r) (c .before .before .before .args .t) (λ (h k : ℕ). eqb k h) (e .histories) 0 (l .j) _ (omega (arith, p .few, p .long)) (p .each (l .j) (omega arith)) (λ h. refl) (l .inv .2),
+      says-next (l .r) (c .before .before .before .args .t) (λ (h k : ℕ). eqb k h) (e .histories) 0 (l .j) (getD (e .histories) (l .j) 0) true true
+          (omega (arith, p .few, p .long)) (p .each (l .j) (omega arith)) (sym (or-true (getD (l .r) (getD (e .histories) (l .j) 0) false))) (λ h. and-true (eqb (getD (e .histories) (l .j) 0) h)) (l .inv .2),
     )
 
 returns : tie.Need-returns Inv-loop μ-loop

@@ -6,7 +6,7 @@ use borrow.Author.Tests.{eq-eqb, ne-eqb}
 use lib.ListN.{length, take}
 use Rattle.forms.specs.Lists.{any}
 use Rattle.table.specs.Queues.{hasId, pastEntry}
-use Rattle.table.specs.LoopLaws.{any-next, any-hit}
+use Rattle.history.specs.Tests.{any-next, any-hit}
 use Rattle.table.proofs.Queue.has_id.Statement.{statement}
 use Rattle.table.proofs.Queue.has_id.Tie as tie
 

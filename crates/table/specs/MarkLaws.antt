@@ -1,0 +1,167 @@
+-- Laws of the marks: what they say of the updates counted, and that they answer the rule book's "blocked".
+use Prim.Native.Nat.{ℕ, zero, suc, _+_, _≤_, _<_}
+use native.Mathlib.Omega.{arith}
+use mathlib.Core.Path.{_≡_, refl, sym, ap, ap₂, subst, fun-ext, _∙_}
+use mathlib.Core.Bool.{Bool, true, false, cond, not, _&&_, _||_, or-true, or-false, or-assoc, or-comm, and-true}
+use mathlib.Core.List.{List, [], _∷_, _++_, map, append-assoc, append-nil}
+use lib.Dec.{eqb}
+use lib.ListN.{length, getD, take, set, replicate}
+use Rattle.forms.specs.Lists.{any, all}
+use Rattle.forms.specs.Forms.{Update}
+use Rattle.forms.specs.declared.Rule.{Rule}
+use Rattle.forms.specs.declared.Rule.the-variants.{Inc, Set, Not, Unk}
+use Rattle.rules.specs.Rules.{strong}
+use Rattle.rules.specs.State.{Operation, asks}
+use Rattle.rules.specs.Calls.{blockedBy, blocked}
+use Rattle.history.specs.declared.Item.{Item}
+use Rattle.history.specs.declared.Entry.{Entry}
+use Rattle.history.specs.Entries.{noItem, itemUpdate, itemsOf, operationOf, UsableEntry}
+use Rattle.history.specs.Tests.{any-map}
+use Rattle.table.specs.declared.Marks.{Marks}
+use Rattle.table.specs.Arrays.{Says}
+use Rattle.table.specs.Queues.{pastEntry}
+use Rattle.table.specs.Tries.{gather, inHistory, strongIn, updatesOf, held, heldOf, Marked, More, freeBy, operationsOf}
+use Rattle.table.specs.LoopLaws.{take-next, any-append, any-snoc}
+use Rattle.table.specs.ArrayLaws.{says-like, says-start, says-next, says-nothing}
+
+-- ### Lists one behind the other
+
+module _ {A B : Type 0} (f : A → List B) where
+  pub gather-append : (a b : List A) → gather f (a ++ b) ≡ gather f a ++ gather f b
+  unfolding gather
+  gather-append [] b = refl
+  gather-append (x ∷ a) b = ap (λ (l : List B). f x ++ l) (gather-append a b) ∙ sym (append-assoc (f x) (gather f a) (gather f b))
+
+  gather-snoc : (l : List A) (a : A) → gather f (l ++ (a ∷ [])) ≡ gather f l ++ f a
+  unfolding gather
+  gather-snoc l a = gather-append l (a ∷ []) ∙ ap (λ (k : List B). gather f l ++ k) (append-nil (f a))
+
+  pub any-gather : (p : B → Bool) (l : List A) → any p (gather f l) ≡ any (λ (x : A). any p (f x)) l
+  unfolding gather
+  any-gather p [] = refl
+  any-gather p (x ∷ l) = any-append p (f x) (gather f l) ∙ ap (λ (t : Bool). any p (f x) || t) (any-gather p l)
+
+pub gather-map : {A B C : Type 0} (f : A → B) (g : B → List C) (l : List A) → gather g (map f l) ≡ gather (λ (x : A). g (f x)) l
+unfolding gather
+gather-map f g [] = refl
+gather-map f g (x ∷ l) = ap (λ (k : List _). g (f x) ++ k) (gather-map f g l)
+
+-- ### The marks of one entry
+
+-- The marks that a loop over the items of an entry has set.
+pub record Marking (i : ℕ) (e : Entry) (m₀ m : Marks) : Type 0 where
+  pub each : Says false (m .any) (λ (h : ℕ). getD (m₀ .any) h false || any (λ (x : Item). inHistory h (itemUpdate x)) (take i (e .items)))
+  pub strongs : Says false (m .strong) (λ (h : ℕ). getD (m₀ .strong) h false || any (λ (x : Item). strongIn h (itemUpdate x)) (take i (e .items)))
+
+pub marking-start : (e : Entry) (m : Marks) → length (m .any) ≡ 16 → length (m .strong) ≡ 16 → Marking 0 e m m
+marking-start e m p q = record {
+  each = says-start (m .any) (λ (h : ℕ) (x : Item). inHistory h (itemUpdate x)) (e .items) p;
+  strongs = says-start (m .strong) (λ (h : ℕ) (x : Item). strongIn h (itemUpdate x)) (e .items) q;
+}
+
+pub marking-next : (i : ℕ) (e : Entry) (m₀ m : Marks) (b : Bool) → UsableEntry e → i < e .count → Marking i e m₀ m
+    → b ≡ (getD (m .strong) (getD (e .items) i noItem .history) false || strong (getD (e .items) i noItem .rule))
+    → Marking (i + 1) e m₀
+    (record { any = set (m .any) (getD (e .items) i noItem .history) true; strong = set (m .strong) (getD (e .items) i noItem .history) b })
+marking-next i e m₀ m b u lt a q = record {
+  each = says-next (m .any) (m₀ .any) (λ (h : ℕ) (x : Item). inHistory h (itemUpdate x)) (e .items) noItem i at true true
+      (omega (arith, u .few, u .long)) (u .each i lt .history) (sym (or-true (getD (m .any) at false))) (λ h. and-true (eqb at h)) (a .each);
+  strongs = says-next (m .strong) (m₀ .strong) (λ (h : ℕ) (x : Item). strongIn h (itemUpdate x)) (e .items) noItem i at b (strong (getD (e .items) i noItem .rule))
+      (omega (arith, u .few, u .long)) (u .each i lt .history) q (λ h. refl) (a .strongs);
+}
+  where
+    at : ℕ
+    at = getD (e .items) i noItem .history
+
+pub marking-end : (i : ℕ) (e : Entry) (m₀ m : Marks) → i ≡ e .count → Marking i e m₀ m → More m m₀ (updatesOf e)
+unfolding operationOf
+marking-end i e m₀ m q a = record {
+  each = says-like false (m .any) _ _ (a .each) (λ h l. ap (λ (b : Bool). getD (m₀ .any) h false || b) (whole (inHistory h)));
+  strongs = says-like false (m .strong) _ _ (a .strongs) (λ h l. ap (λ (b : Bool). getD (m₀ .strong) h false || b) (whole (strongIn h)));
+}
+  where
+    whole : (p : Update → Bool) → any (λ (x : Item). p (itemUpdate x)) (take i (e .items)) ≡ any p (map itemUpdate (take (e .count) (e .items)))
+    whole p =
+        ap (λ (n : ℕ). any (λ (x : Item). p (itemUpdate x)) (take n (e .items))) q
+        ∙ sym (any-map itemUpdate p (take (e .count) (e .items)))
+
+-- nothing more
+pub more-none : (m : Marks) → length (m .any) ≡ 16 → length (m .strong) ≡ 16 → More m m []
+more-none m p q = record {
+  each = record { long = p; each = λ h l. sym (or-false (getD (m .any) h false)) };
+  strongs = record { long = q; each = λ h l. sym (or-false (getD (m .strong) h false)) };
+}
+
+-- ### The marks of many
+
+pub marked-none : Marked (record { any = replicate 16 false; strong = replicate 16 false }) []
+marked-none = record { each = says-nothing; strongs = says-nothing }
+
+-- marks of the same updates in another order
+pub marked-like : (m : Marks) (us ws : List Update) → ((p : Update → Bool) → any p us ≡ any p ws) → Marked m us → Marked m ws
+marked-like m us ws e a = record {
+  each = says-like false (m .any) _ _ (a .each) (λ h l. e (inHistory h));
+  strongs = says-like false (m .strong) _ _ (a .strongs) (λ h l. e (strongIn h));
+}
+
+pub marked-more : (m r : Marks) (us ws : List Update) → Marked m us → More r m ws → Marked r (us ++ ws)
+marked-more m r us ws a b = record {
+  each = says-like false (r .any) _ _ (b .each)
+      (λ h l. ap (λ (x : Bool). x || any (inHistory h) ws) (a .each .each h l) ∙ sym (any-append (inHistory h) us ws));
+  strongs = says-like false (r .strong) _ _ (b .strongs)
+      (λ h l. ap (λ (x : Bool). x || any (strongIn h) ws) (a .strongs .each h l) ∙ sym (any-append (strongIn h) us ws));
+}
+
+-- one entry more of those that the loop passes
+pub marked-next : (f : Entry → List Update) (l : List Entry) (m r : Marks) (i : ℕ) → i < length l
+    → Marked m (gather f (take i l)) → More r m (f (getD l i pastEntry)) → Marked r (gather f (take (i + 1) l))
+marked-next f l m r i h a b =
+    subst (Marked r) (sym (ap (gather f) (take-next l pastEntry i h) ∙ gather-snoc f (take i l) (getD l i pastEntry)))
+    (marked-more m r (gather f (take i l)) (f (getD l i pastEntry)) a b)
+
+pub marked-start : (f : Entry → List Update) (l : List Entry) → Marked (record { any = replicate 16 false; strong = replicate 16 false }) (gather f (take 0 l))
+unfolding gather
+marked-start f [] = marked-none
+marked-start f (x ∷ l) = marked-none
+
+-- the histories that some operation asks for
+pub touched-by : (m : Marks) (l : List Entry) → Marked m (gather updatesOf l) → Says false (m .any) (λ (h : ℕ). any (asks h) (operationsOf l))
+unfolding asks
+touched-by m l a =
+    says-like false (m .any) _ _ (a .each)
+    (λ h k. any-gather updatesOf (inHistory h) l ∙ sym (any-map operationOf (λ (x : Operation). any (inHistory h) (x .updates)) l))
+
+-- ### Blocked
+
+-- an update in conflict with u
+abbrev conflicts : Rule → ℕ → Update → Bool
+conflicts r h w = eqb (w .history) h && (strong r || strong (w .rule))
+
+blocked-held : (u : Update) (x : Operation) → blockedBy u x ≡ any (conflicts (u .rule) (u .history)) (held x)
+unfolding blockedBy
+blocked-held u x = go (x .running)
+  where
+    go : (b : Bool) → (b && any (conflicts (u .rule) (u .history)) (x .updates)) ≡ any (conflicts (u .rule) (u .history)) (cond b (x .updates) [])
+    go true = refl
+    go false = refl
+
+blocked-all : (u : Update) (xs : List Operation) → blocked xs u ≡ any (conflicts (u .rule) (u .history)) (gather held xs)
+unfolding blocked
+blocked-all u xs =
+    ap (λ (p : Operation → Bool). any p xs) (fun-ext (blocked-held u)) ∙ sym (any-gather held (conflicts (u .rule) (u .history)) xs)
+
+conflict-rule : (r : Rule) (h : ℕ) (us : List Update) → any (conflicts r h) us ≡ cond (strong r) (any (inHistory h) us) (any (strongIn h) us)
+conflict-rule Inc h us = ap (λ (p : Update → Bool). any p us) (fun-ext (λ w. and-true (eqb (w .history) h)))
+conflict-rule Set h us = ap (λ (p : Update → Bool). any p us) (fun-ext (λ w. and-true (eqb (w .history) h)))
+conflict-rule Not h us = refl
+conflict-rule Unk h us = ap (λ (p : Update → Bool). any p us) (fun-ext (λ w. and-true (eqb (w .history) h)))
+
+-- One look at the marks answers whether an update is blocked.
+pub free-is : (m : Marks) (xs : List Operation) (u : Update) → Marked m (gather held xs) → u .history < 16 → freeBy m u ≡ not (blocked xs u)
+unfolding freeBy
+free-is m xs u a l = ap not (go (strong (u .rule)) ∙ sym (blocked-all u xs ∙ conflict-rule (u .rule) (u .history) (gather held xs)))
+  where
+    go : (b : Bool) → cond b (getD (m .any) (u .history) false) (getD (m .strong) (u .history) false)
+        ≡ cond b (any (inHistory (u .history)) (gather held xs)) (any (strongIn (u .history)) (gather held xs))
+    go true = a .each .each (u .history) l
+    go false = a .strongs .each (u .history) l

@@ -1,0 +1,350 @@
+-- Laws of one pass over the future operations: the code's pass is the rule book's, whichever way its cells are had.
+use Prim.Native.Nat.{ℕ, zero, suc, _+_, _≤_, _<_}
+use native.Mathlib.Numerals.{add-one}
+use native.Mathlib.Omega.{arith}
+use mathlib.Core.Path.{_≡_, refl, sym, ap, ap₂, subst, _∙_}
+use mathlib.Core.Logic.{_⊎_, inl, inr}
+use mathlib.Core.Bool.{Bool, true, false, cond, not, _&&_, _||_, or-assoc, or-comm, and-not-self}
+use mathlib.Core.List.{List, [], _∷_, _++_, map, map-append, append-nil}
+use mathlib.Core.List.{List·Memᴰ as Mem, List·Memᴰ·head as here, List·Memᴰ·tail as there, List·Memᴰ·not-nil, List·Memᴰ·cases-cons}
+use lib.ListN.{length, getD, take, drop, set, length-set, length-map, length-take, drop-of-length-le}
+use lib.Seq.{split-at, set-split, set-getD, drop-cons, drop-drop, drop-set-lt, getD-drop, getD-take, take-all, take-set-lt, length-take-le}
+use Rattle.forms.specs.Lists.{any, all}
+use Rattle.forms.specs.ListLaws.{mem-at}
+use Rattle.forms.specs.Held.{numbersOf}
+use Rattle.forms.specs.Forms.{Update, Did}
+use Rattle.forms.specs.declared.Numbers.{Numbers}
+use Rattle.rules.specs.Rules.{mayRun}
+use Rattle.rules.specs.Book.{Cell, cell}
+use Rattle.rules.specs.State.{Operation}
+use Rattle.rules.specs.Calls.{blocked, mayRunNow, ready, attempt, tryFrom, tryAll, madeReady}
+use Rattle.history.specs.declared.History.{History}
+use Rattle.history.specs.declared.Item.{Item}
+use Rattle.history.specs.declared.Entry.{Entry}
+use Rattle.history.specs.Entries.{cellsOf, noItem, itemUpdate, operationOf, mayRunIn, UsableEntry}
+use Rattle.history.specs.Tests.{all-agree}
+use Rattle.history.specs.CellLaws.{logCells}
+use Rattle.table.specs.declared.Marks.{Marks}
+use Rattle.table.specs.declared.Tried.{Tried}
+use Rattle.table.specs.Lists.{IsNumbers}
+use Rattle.table.specs.Queues.{queueOf, UsableQueue, pastEntry}
+use Rattle.table.specs.Tries.{readyIn, attemptIn, tryFromIn, tryAllIn, gather, held, heldOf, updatesOf, Marked, More, freeBy, readyBy, startsBy, operationsOf, Tries}
+use Rattle.table.specs.LoopLaws.{take-push, take-next, mem-set, any-append}
+use Rattle.table.specs.MarkLaws.{gather-append, gather-map, marked-like, marked-more, free-is}
+
+-- ### Cells and the log
+
+-- the histories of a usable entry
+pub usable-history : (e : Entry) → UsableEntry e → (u : Update) → Mem u (updatesOf e) → u .history < 16
+unfolding operationOf
+usable-history e w u m = go (e .count) (e .items) (omega (arith, w .few, w .long)) (λ i h. w .each i h .history) m
+  where
+    go : (n : ℕ) (l : List Item) → n ≤ length l → ((i : ℕ) → i < n → getD l i noItem .history < 16) → Mem u (map itemUpdate (take n l)) → u .history < 16
+    go zero [] q h k = absurd (List·Memᴰ·not-nil k)
+    go zero (x ∷ l) q h k = absurd (List·Memᴰ·not-nil k)
+    go (suc n) [] q h k = absurd (let z : suc n ≤ 0 = q in omega arith)
+    go (suc n) (x ∷ l) q h k = cases (List·Memᴰ·cases-cons k) (λ r. go n l (omega arith) (λ i p. h (suc i) (omega arith)) r)
+      where
+        cases : (u ≡ itemUpdate x) ⊎ Mem u (map itemUpdate (take n l)) → (Mem u (map itemUpdate (take n l)) → u .history < 16) → u .history < 16
+        cases (inl e) below = let z : u .history ≡ x .history = ap (λ (v : Update). v .history) e in omega (arith, h 0 (omega arith))
+        cases (inr r) below = below r
+
+try-log : (log : List Did) (tried xs : List Operation) → tryFromIn (logCells log) tried xs ≡ tryFrom log tried xs
+unfolding tryFromIn tryFrom attemptIn attempt readyIn ready mayRunIn mayRunNow
+try-log log tried [] = refl
+try-log log tried (x ∷ xs) = try-log log (tried ++ (attempt log (tried ++ xs) x ∷ [])) xs
+
+module _ (a b : ℕ → Cell) (same : (h : ℕ) → h < 16 → a h ≡ b h) where
+  attempt-agree : (others : List Operation) (x : Operation) → ((u : Update) → Mem u (x .updates) → u .history < 16) → attemptIn a others x ≡ attemptIn b others x
+  unfolding attemptIn readyIn mayRunIn
+  attempt-agree others x low = λ i. record { id = x .id; updates = x .updates; running = x .running || both i }
+    where
+      both : all (λ (u : Update). mayRunIn a u && not (blocked others u)) (x .updates) ≡ all (λ (u : Update). mayRunIn b u && not (blocked others u)) (x .updates)
+      both = all-agree _ _ (x .updates) (λ u m. ap (λ (c : Cell). mayRun (u .rule) (c .version) (u .version) && not (blocked others u)) (same (u .history) (low u m)))
+
+  try-agree : (tried xs : List Operation) → ((x : Operation) → Mem x xs → (u : Update) → Mem u (x .updates) → u .history < 16)
+      → tryFromIn a tried xs ≡ tryFromIn b tried xs
+  unfolding tryFromIn
+  try-agree tried [] low = refl
+  try-agree tried (x ∷ xs) low =
+      ap (λ (y : Operation). tryFromIn a (tried ++ (y ∷ [])) xs) (attempt-agree (tried ++ xs) x (low x (here refl)))
+      ∙ try-agree (tried ++ (attemptIn b (tried ++ xs) x ∷ [])) xs (λ y m. low y (there m))
+
+-- The pass against the cells of the histories is the rule book's against the log that they stand for.
+pub try-all-is : (log : List Did) (hs : List History) (l : List Entry) → ((h : ℕ) → h < 16 → cellsOf hs h ≡ cell h log)
+    → ((e : Entry) → Mem e l → UsableEntry e) → tryAllIn (cellsOf hs) (operationsOf l) ≡ tryAll log (operationsOf l)
+try-all-is log hs l same usable = try-agree (cellsOf hs) (logCells log) same [] (operationsOf l) (low l usable) ∙ try-log log [] (operationsOf l)
+  where
+    low : (l : List Entry) → ((e : Entry) → Mem e l → UsableEntry e) → (x : Operation) → Mem x (operationsOf l) → (u : Update) → Mem u (x .updates) → u .history < 16
+    low [] w x m u k = absurd (List·Memᴰ·not-nil m)
+    low (e ∷ l) w x m u k = cases (List·Memᴰ·cases-cons m) (λ r. low l (λ y q. w y (there q)) x r u k)
+      where
+        cases : (x ≡ operationOf e) ⊎ Mem x (operationsOf l) → (Mem x (operationsOf l) → u .history < 16) → u .history < 16
+        cases (inl q) below = usable-history e (w e (here refl)) u (subst (λ (y : Operation). Mem u (y .updates)) q k)
+        cases (inr r) below = below r
+
+-- ### One try, by the marks
+
+module _ (cells : ℕ → Cell) (m : Marks) (tried : List Operation) (x : Operation) (xs : List Operation)
+    (marks : Marked m (gather held (tried ++ x ∷ xs))) (low : (u : Update) → Mem u (x .updates) → u .history < 16) where
+  -- an operation that is not in progress blocks nothing
+  idle : x .running ≡ false → gather held (tried ++ x ∷ xs) ≡ gather held (tried ++ xs)
+  unfolding gather
+  idle e =
+      gather-append held tried (x ∷ xs)
+      ∙ ap (λ (b : Bool). gather held tried ++ (cond b (x .updates) [] ++ gather held xs)) e
+      ∙ sym (gather-append held tried xs)
+
+  starts-is : x .running ≡ false → startsBy cells m x ≡ readyIn cells (tried ++ xs) x
+  unfolding startsBy readyIn
+  starts-is e =
+      ap (λ (b : Bool). not b && all (readyBy cells m) (x .updates)) e
+      ∙ all-agree _ _ (x .updates)
+      (λ u k. ap (λ (b : Bool). mayRunIn cells u && b) (free-is m (tried ++ xs) u (subst (Marked m) (idle e) marks) (low u k)))
+
+  -- what is in progress does not start
+  future : startsBy cells m x ≡ true → x .running ≡ true → false ≡ true
+  unfolding startsBy
+  future s e = sym (ap (λ (b : Bool). not b && all (readyBy cells m) (x .updates)) e) ∙ s
+
+  attempt-yes : startsBy cells m x ≡ true → (x .running ≡ false) × (attemptIn cells (tried ++ xs) x ≡ record { id = x .id; updates = x .updates; running = true })
+  unfolding attemptIn
+  attempt-yes s = go (x .running) refl
+    where
+      go : (b : Bool) → x .running ≡ b → (x .running ≡ false) × (attemptIn cells (tried ++ xs) x ≡ record { id = x .id; updates = x .updates; running = true })
+      go true e = let z = future s e in ((cc), (cc))
+      go false e = (e, λ i. record { id = x .id; updates = x .updates; running = ap₂ _||_ e (sym (starts-is e) ∙ s) i })
+
+  attempt-no : startsBy cells m x ≡ false → attemptIn cells (tried ++ xs) x ≡ x
+  unfolding attemptIn
+  attempt-no s = λ i. record { id = x .id; updates = x .updates; running = go (x .running) refl i }
+    where
+      go : (b : Bool) → x .running ≡ b → (x .running || readyIn cells (tried ++ xs) x) ≡ x .running
+      go true e = ap (λ (b : Bool). b || readyIn cells (tried ++ xs) x) e ∙ sym e
+      go false e = ap₂ _||_ e (sym (starts-is e) ∙ s) ∙ sym e
+
+-- ### The pass
+
+made-snoc : (a b : List Operation) (x y : Operation) → length a ≡ length b
+    → madeReady (a ++ (x ∷ [])) (b ++ (y ∷ [])) ≡ madeReady a b ++ cond (y .running && not (x .running)) (y .id ∷ []) []
+unfolding madeReady
+made-snoc [] [] x y e = refl
+made-snoc [] (z ∷ b) x y e = absurd (omega arith)
+made-snoc (z ∷ a) [] x y e = absurd (omega arith)
+made-snoc (z ∷ a) (w ∷ b) x y e = go (w .running && not (z .running)) (made-snoc a b x y (omega arith))
+  where
+    go : (t : Bool) → madeReady (a ++ (x ∷ [])) (b ++ (y ∷ [])) ≡ madeReady a b ++ cond (y .running && not (x .running)) (y .id ∷ []) []
+        → cond t (w .id ∷ madeReady (a ++ (x ∷ [])) (b ++ (y ∷ []))) (madeReady (a ++ (x ∷ [])) (b ++ (y ∷ [])))
+        ≡ cond t (w .id ∷ madeReady a b) (madeReady a b) ++ cond (y .running && not (x .running)) (y .id ∷ []) []
+    go true q = ap (λ (l : List ℕ). w .id ∷ l) q
+    go false q = q
+
+-- After the first i entries of `before` have been tried: the entries now, the marks of those in progress, and the ids made ready.
+pub record Passed (cells : ℕ → Cell) (before now : List Entry) (m : Marks) (ns : Numbers) (i : ℕ) : Type 0 where
+  pub each : (e : Entry) → Mem e now → UsableEntry e
+  pub same : length now ≡ length before
+  pub behind : drop i now ≡ drop i before
+  pub tries : tryFromIn cells (operationsOf (take i now)) (operationsOf (drop i now)) ≡ tryAllIn cells (operationsOf before)
+  pub few : ns .count ≤ i
+  pub ready : IsNumbers ns (madeReady (operationsOf (take i before)) (operationsOf (take i now)))
+  pub marks : Marked m (gather heldOf now)
+
+pub passed-none : (cells : ℕ → Cell) (l : List Entry) (m : Marks) (ns : Numbers) → ((e : Entry) → Mem e l → UsableEntry e) → Marked m (gather heldOf l)
+    → ns .count ≡ 0 → IsNumbers ns [] → Passed cells l l m ns 0
+unfolding madeReady
+passed-none cells [] m ns each marks z is =
+    record { each = each; same = refl; behind = refl; tries = refl; few = omega arith; ready = is; marks = marks }
+passed-none cells (x ∷ l) m ns each marks z is =
+    record { each = each; same = refl; behind = refl; tries = refl; few = omega arith; ready = is; marks = marks }
+
+module _ (cells : ℕ → Cell) (before now : List Entry) (m : Marks) (ns : Numbers) (i : ℕ) (p : Passed cells before now m ns i) (lt : i < length now) where
+  -- the entry that is tried, and those around it
+  abbrev this : Entry
+  this = getD now i pastEntry
+
+  split : operationsOf now ≡ operationsOf (take i now) ++ operationOf this ∷ operationsOf (drop (suc i) now)
+  split = ap operationsOf (split-at now i pastEntry lt) ∙ map-append operationOf (take i now) (this ∷ drop (suc i) now)
+
+  here-usable : UsableEntry this
+  here-usable = p .each this (subst (Mem this) (sym (split-at now i pastEntry lt)) (mem-at this (take i now) (drop (suc i) now)))
+
+  untried : getD before i pastEntry ≡ this
+  untried =
+      let z : i + 0 ≡ i = omega arith in
+      ap (λ (k : ℕ). getD before k pastEntry) (sym z)
+      ∙ sym (getD-drop i before 0 pastEntry)
+      ∙ ap (λ (l : List Entry). getD l 0 pastEntry) (sym (p .behind))
+      ∙ getD-drop i now 0 pastEntry
+      ∙ ap (λ (k : ℕ). getD now k pastEntry) z
+
+  marked-here : Marked m (gather held (operationsOf (take i now) ++ operationOf this ∷ operationsOf (drop (suc i) now)))
+  marked-here = subst (Marked m) (sym (gather-map operationOf held now) ∙ ap (gather held) split) (p .marks)
+
+  -- One try: the entry becomes e.
+  step : (e : Entry) (r : Marks) (ks : Numbers) → UsableEntry e
+      → operationOf e ≡ attemptIn cells (operationsOf (take i now) ++ operationsOf (drop (suc i) now)) (operationOf this)
+      → Marked r (gather heldOf (set now i e)) → ks .count ≤ i + 1
+      → IsNumbers ks (numbersOf ns ++ cond (e .running && not (this .running)) (e .id ∷ []) [])
+      → Passed cells before (set now i e) r ks (i + 1)
+  unfolding operationOf tryFromIn
+  step e r ks w att marks few is = record {
+    each = λ x k. cases x (mem-set now i e k);
+    same = length-set now i e ∙ p .same;
+    behind = drop-set-lt (i + 1) now i e (omega arith) ∙ sym (drop-drop 1 i now) ∙ ap (drop 1) (p .behind) ∙ drop-drop 1 i before;
+    tries = ap₂ (tryFromIn cells) front rest ∙ ap (λ (y : Operation). tryFromIn cells (operationsOf (take i now) ++ (y ∷ [])) (operationsOf (drop (suc i) now))) att
+        ∙ sym (ap (λ (l : List Operation). tryFromIn cells (operationsOf (take i now)) l) (ap operationsOf (drop-cons now i pastEntry lt)))
+        ∙ p .tries;
+    few = few;
+    ready = record { few = is .few; long = is .long; list = is .list ∙ ap (λ (l : List ℕ). l ++ cond (e .running && not (this .running)) (e .id ∷ []) []) (p .ready .list) ∙ sym made };
+    marks = marks;
+  }
+    where
+      cases : (x : Entry) → (x ≡ e) ⊎ Mem x now → UsableEntry x
+      cases x (inl q) = subst UsableEntry (sym q) w
+      cases x (inr k) = p .each x k
+
+      front : operationsOf (take (i + 1) (set now i e)) ≡ operationsOf (take i now) ++ (operationOf e ∷ [])
+      front = ap operationsOf (take-push now i e lt) ∙ map-append operationOf (take i now) (e ∷ [])
+
+      rest : operationsOf (drop (i + 1) (set now i e)) ≡ operationsOf (drop (suc i) now)
+      rest = ap operationsOf (drop-set-lt (i + 1) now i e (omega arith) ∙ ap (λ (k : ℕ). drop k now) (add-one i))
+
+      old : operationsOf (take (i + 1) before) ≡ operationsOf (take i before) ++ (operationOf this ∷ [])
+      old =
+          ap operationsOf (take-next before pastEntry i (omega (arith, p .same)))
+          ∙ map-append operationOf (take i before) (getD before i pastEntry ∷ [])
+          ∙ ap (λ (x : Entry). operationsOf (take i before) ++ (operationOf x ∷ [])) untried
+
+      long : length (operationsOf (take i before)) ≡ length (operationsOf (take i now))
+      long =
+          length-map (take i before) operationOf
+          ∙ length-take-le i before (omega (arith, p .same))
+          ∙ sym (length-map (take i now) operationOf ∙ length-take-le i now (omega arith))
+
+      made : madeReady (operationsOf (take (i + 1) before)) (operationsOf (take (i + 1) (set now i e)))
+          ≡ madeReady (operationsOf (take i before)) (operationsOf (take i now)) ++ cond (e .running && not (this .running)) (e .id ∷ []) []
+      made = ap₂ madeReady old front ∙ made-snoc (operationsOf (take i before)) (operationsOf (take i now)) (operationOf this) (operationOf e) long
+
+  -- the entry in progress, and the marks with its own
+  abbrev begun : Entry
+  begun = record { id = this .id; running = true; count = this .count; items = this .items }
+
+  begun-marks : (r : Marks) → this .running ≡ false → More r m (updatesOf this) → Marked r (gather heldOf (set now i begun))
+  unfolding gather operationOf
+  begun-marks r e more =
+      marked-like r (gather heldOf now ++ updatesOf this) (gather heldOf (set now i begun)) same (marked-more m r (gather heldOf now) (updatesOf this) (p .marks) more)
+    where
+      a : List Update
+      a = gather heldOf (take i now)
+
+      b : List Update
+      b = gather heldOf (drop (suc i) now)
+
+      was : gather heldOf now ≡ a ++ b
+      was =
+          ap (gather heldOf) (split-at now i pastEntry lt)
+          ∙ gather-append heldOf (take i now) (this ∷ drop (suc i) now)
+          ∙ ap (λ (t : Bool). a ++ (cond t (updatesOf this) [] ++ b)) e
+
+      is : gather heldOf (set now i begun) ≡ a ++ (updatesOf this ++ b)
+      is = ap (gather heldOf) (set-split now i begun lt) ∙ gather-append heldOf (take i now) (begun ∷ drop (suc i) now)
+
+      turn : (x y z : Bool) → (x || y || z) ≡ (x || (z || y))
+      turn x y z = or-assoc x y z ∙ ap (λ (t : Bool). x || t) (or-comm y z)
+
+      same : (q : Update → Bool) → any q (gather heldOf now ++ updatesOf this) ≡ any q (gather heldOf (set now i begun))
+      same q =
+          any-append q (gather heldOf now) (updatesOf this)
+          ∙ ap (λ (l : List Update). any q l || any q (updatesOf this)) was
+          ∙ ap (λ (t : Bool). t || any q (updatesOf this)) (any-append q a b)
+          ∙ turn (any q a) (any q b) (any q (updatesOf this))
+          ∙ sym (ap (any q) is ∙ any-append q a (updatesOf this ++ b) ∙ ap (λ (t : Bool). any q a || t) (any-append q (updatesOf this) b))
+
+  step-yes : (r : Marks) (ks : Numbers) → startsBy cells m (operationOf this) ≡ true → More r m (updatesOf this)
+      → IsNumbers ks (numbersOf ns ++ (this .id ∷ [])) → ks .count ≡ ns .count + 1 → Passed cells before (set now i begun) r ks (i + 1)
+  unfolding operationOf
+  step-yes r ks s more is n =
+      let y = attempt-yes cells m (operationsOf (take i now)) (operationOf this) (operationsOf (drop (suc i) now)) marked-here (usable-history this here-usable) s in
+      let f : this .running ≡ false = y .0 in
+      step begun r ks (record { few = here-usable .few; long = here-usable .long; each = here-usable .each }) (sym (y .1)) (begun-marks r f more)
+      (omega (arith, p .few))
+      (subst (λ (t : Bool). IsNumbers ks (numbersOf ns ++ cond (not t) (this .id ∷ []) [])) (sym f) is)
+
+  step-no : startsBy cells m (operationOf this) ≡ false → Passed cells before now m ns (i + 1)
+  unfolding operationOf
+  step-no s =
+      subst (λ (l : List Entry). Passed cells before l m ns (i + 1)) (set-getD now i pastEntry)
+      (step this m ns here-usable
+      (sym (attempt-no cells m (operationsOf (take i now)) (operationOf this) (operationsOf (drop (suc i) now)) marked-here (usable-history this here-usable) s))
+      (subst (λ (l : List Entry). Marked m (gather heldOf l)) (sym (set-getD now i pastEntry)) (p .marks))
+      (omega (arith, p .few))
+      (record {
+        few = p .ready .few;
+        long = p .ready .long;
+        list = sym (append-nil (numbersOf ns)) ∙ ap (λ (b : Bool). numbersOf ns ++ cond b (this .id ∷ []) []) (sym (and-not-self (this .running)));
+      }))
+
+-- ### The pass over an array of entries
+
+module _ (cells : ℕ → Cell) (es₀ es : List Entry) (n : ℕ) (m : Marks) (ns : Numbers) (i : ℕ) (p : Passed cells (take n es₀) (take n es) m ns i)
+    (lt : i < n) (fit : n ≤ length es) where
+  inside : i < length (take n es)
+  inside = omega (arith, length-take n es)
+
+  at : getD (take n es) i pastEntry ≡ getD es i pastEntry
+  at = getD-take n es i pastEntry lt
+
+  pub tried-usable : UsableEntry (getD es i pastEntry)
+  tried-usable = subst UsableEntry at (here-usable cells (take n es₀) (take n es) m ns i p inside)
+
+  pub passed-yes : (e : Entry) (r : Marks) (ks : Numbers) → startsBy cells m (operationOf (getD es i pastEntry)) ≡ true → More r m (updatesOf (getD es i pastEntry))
+      → IsNumbers ks (numbersOf ns ++ (getD es i pastEntry .id ∷ [])) → ks .count ≡ ns .count + 1
+      → e ≡ record { id = getD es i pastEntry .id; running = true; count = getD es i pastEntry .count; items = getD es i pastEntry .items }
+      → Passed cells (take n es₀) (take n (set es i e)) r ks (i + 1)
+  passed-yes e r ks s more is c q =
+      subst (λ (l : List Entry). Passed cells (take n es₀) l r ks (i + 1))
+      (ap (λ (x : Entry). set (take n es) i (record { id = x .id; running = true; count = x .count; items = x .items })) at
+      ∙ ap (set (take n es) i) (sym q) ∙ sym (take-set-lt n es i e lt))
+      (step-yes cells (take n es₀) (take n es) m ns i p inside r ks
+      (ap (λ (x : Entry). startsBy cells m (operationOf x)) at ∙ s)
+      (subst (λ (x : Entry). More r m (updatesOf x)) (sym at) more)
+      (subst (λ (x : Entry). IsNumbers ks (numbersOf ns ++ (x .id ∷ []))) (sym at) is) c)
+
+  pub passed-no : startsBy cells m (operationOf (getD es i pastEntry)) ≡ false → Passed cells (take n es₀) (take n es) m ns (i + 1)
+  passed-no s = step-no cells (take n es₀) (take n es) m ns i p inside (ap (λ (x : Entry). startsBy cells m (operationOf x)) at ∙ s)
+
+-- the end of the pass
+pub passed-all : (cells : ℕ → Cell) (l : List Entry) (m : Marks) (r : Tried) (i : ℕ) → r .queue .count ≤ 64 → length (r .queue .entries) ≡ 64 → i ≡ r .queue .count
+    → r .queue .count ≡ length l → Passed cells l (queueOf (r .queue)) m (r .ready) i → Tries cells l r
+unfolding tryFromIn
+passed-all cells l m r i few long e n p = record {
+  usable = record { few = few; long = long; each = p .each };
+  queue = after;
+  ready = record {
+    few = p .ready .few;
+    long = p .ready .long;
+    list = p .ready .list ∙ ap₂ madeReady (ap operationsOf (take-all i l (omega arith))) (ap operationsOf whole ∙ after);
+  };
+}
+  where
+    done : (xs ys : List Operation) → ys ≡ [] → tryFromIn cells xs ys ≡ xs
+    done xs ys q = ap (tryFromIn cells xs) q
+
+    none : drop i (queueOf (r .queue)) ≡ []
+    none = let h : length (queueOf (r .queue)) ≤ i = omega (arith, p .same) in drop-of-length-le (queueOf (r .queue)) h
+
+    whole : take i (queueOf (r .queue)) ≡ queueOf (r .queue)
+    whole = take-all i (queueOf (r .queue)) (omega (arith, p .same))
+
+    after : operationsOf (queueOf (r .queue)) ≡ tryAllIn cells (operationsOf l)
+    after =
+        ap operationsOf (sym whole)
+        ∙ sym (done (operationsOf (take i (queueOf (r .queue)))) (operationsOf (drop i (queueOf (r .queue)))) (ap operationsOf none))
+        ∙ p .tries
+
+-- the same pass under other names
+pub passed-at : (cells : ℕ → Cell) (l es rs : List Entry) (n i : ℕ) (m r : Marks) (ns ks : Numbers) → r ≡ m → rs ≡ es → ks ≡ ns
+    → Passed cells l (take n es) m ns i → Passed cells l (take n rs) r ks i
+passed-at cells l es rs n i m r ns ks e f g p =
+    subst (λ (x : List Entry). Passed cells l (take n x) r ks i) (sym f)
+    (subst (λ (x : Marks). Passed cells l (take n es) x ks i) (sym e) (subst (λ (x : Numbers). Passed cells l (take n es) m x i) (sym g) p))
