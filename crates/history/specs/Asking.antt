@@ -6,8 +6,8 @@ use mathlib.Core.List.{List, [], _∷_, map}
 use mathlib.Core.Option.{Option, none, some}
 use lib.Dec.{leb, eqb}
 use lib.ListN.{length, getD, take}
-use Rattle.forms.specs.Forms.{Update, Change}
-use Rattle.forms.specs.Held.{asUpdate, asAsked, asDone, noUpdate, noChange}
+use Rattle.forms.specs.Forms.{Update, Change, Did}
+use Rattle.forms.specs.Held.{asUpdate, asAsked, asChange, asDone, noUpdate, noChange}
 use Rattle.forms.specs.declared.Asked.{Asked}
 use Rattle.forms.specs.declared.Done.{Done}
 use Rattle.forms.specs.declared.AskedHeld.{AskedHeld}
@@ -16,6 +16,7 @@ use Rattle.forms.specs.declared.Refusal.{Refusal}
 use Rattle.rules.specs.Rules.{ruleOf, strong, ordered, operandFits}
 use Rattle.rules.specs.Checks.{updateMisfits}
 use Rattle.rules.specs.State.{Operation}
+use Rattle.history.specs.declared.Item.{Item}
 use Rattle.history.specs.declared.Entry.{Entry}
 use Rattle.history.specs.declared.AskedTest.{AskedTest}
 use Rattle.history.specs.declared.AskedTest.the-variants.{Absent, In, Misfits, Strong, Orders}
@@ -46,22 +47,41 @@ noAsked = asAsked noUpdate
 abbrev pub noDone : Done
 noDone = asDone noChange
 
+-- The update that a change reports.
+abbrev pub changeUpdate : Change → Update
+changeUpdate x = record { rule = ruleOf (x .rule); history = x .history; version = x .version; operand = x .operand }
+
+-- The items that stand for an update and for a change.
+abbrev pub updateItem : Update → Item
+updateItem u = record { rule = u .rule; history = u .history; version = record { 0 = u .version }; place = record { 0 = 0 }; operand = u .operand }
+
+abbrev pub changeItem : Change → Item
+changeItem x = record { rule = ruleOf (x .rule); history = x .history; version = record { 0 = x .version }; place = record { 0 = x .place }; operand = x .operand }
+
 -- ### Updates and did lines that passed 2 to 5 in a site of at most 16 histories
+
+-- what an update needs to become an item
+pub record UsableUpdate (u : Update) : Type 0 where
+  pub history : u .history < 16
+  pub operand : operandFits (u .rule) (u .version) (u .operand) ≡ true
 
 pub record UsableHeld (h : AskedHeld) : Type 0 where
   pub few : h .count ≤ 4
   pub long : length (h .first) ≡ 4
-  pub histories : (i : ℕ) → i < h .count → getD (h .first) i noAsked .history < 16
-  pub operands : (i : ℕ) → i < h .count → operandFits (getD (h .first) i noAsked .rule) (getD (h .first) i noAsked .version .0) (getD (h .first) i noAsked .operand) ≡ true
+  pub each : (i : ℕ) → i < h .count → UsableUpdate (asUpdate (getD (h .first) i noAsked))
 
 pub record UsableDid (d : DidLine) : Type 0 where
   pub few : d .held .count ≤ 4
   pub long : length (d .held .first) ≡ 4
-  pub histories : (i : ℕ) → i < d .held .count → getD (d .held .first) i noDone .history < 16
-  pub operands : (i : ℕ) → i < d .held .count
-      → operandFits (ruleOf (getD (d .held .first) i noDone .rule)) (getD (d .held .first) i noDone .version .0) (getD (d .held .first) i noDone .operand) ≡ true
+  pub each : (i : ℕ) → i < d .held .count → UsableUpdate (changeUpdate (asChange (getD (d .held .first) i noDone)))
 
 -- The entry stands for this operation.
 pub record Enters (x : Operation) (e : Entry) : Type 0 where
   pub usable : UsableEntry e
   pub operation : operationOf e ≡ x
+
+-- The entry stands for this did line.
+pub record EntersDid (d : Did) (e : Entry) : Type 0 where
+  pub usable : UsableEntry e
+  pub idle : e .running ≡ false
+  pub line : didOfEntry e ≡ d

@@ -36,16 +36,16 @@ module _ {A : Type 0} (l : List A) (d : A) where
 
 -- ### Some element passes a test
 
-module _ {A : Type 0} (p : A → Bool) where
-  or-false-parts : (a b : Bool) → (a || b) ≡ false → (a ≡ false) × (b ≡ false)
-  or-false-parts true b e = ((cc), (cc))
-  or-false-parts false b e = (refl, e)
+pub or-false-parts : (a b : Bool) → (a || b) ≡ false → (a ≡ false) × (b ≡ false)
+or-false-parts true b e = ((cc), (cc))
+or-false-parts false b e = (refl, e)
 
-  any-snoc : (l : List A) (a : A) → any p l ≡ false → p a ≡ false → any p (l ++ (a ∷ [])) ≡ false
+module _ {A : Type 0} (p : A → Bool) where
+  pub any-snoc : (l : List A) (a : A) → any p l ≡ false → p a ≡ false → any p (l ++ (a ∷ [])) ≡ false
   any-snoc [] a e h = simp h
   any-snoc (x ∷ xs) a e h = let q = or-false-parts (p x) (any p xs) e in rw (q .0, any-snoc xs a (q .1) h)
 
-  any-mid : (l : List A) (a : A) (r : List A) → p a ≡ true → any p (l ++ a ∷ r) ≡ true
+  pub any-mid : (l : List A) (a : A) (r : List A) → p a ≡ true → any p (l ++ a ∷ r) ≡ true
   any-mid [] a r h = simp h
   any-mid (x ∷ xs) a r h = rw (any-mid xs a r h) (or-true (p x))
 
@@ -142,6 +142,11 @@ module _ {A : Type 0} where
   all-get p [] d i h e = absurd (omega arith)
   all-get p (x ∷ xs) d zero h e = and-true-parts (p x) (all p xs) e .0
   all-get p (x ∷ xs) d (suc i) h e = all-get p xs d i (omega arith) (and-true-parts (p x) (all p xs) e .1)
+
+  pub any-get : (p : A → Bool) (l : List A) (d : A) (i : ℕ) → i < length l → any p l ≡ false → p (getD l i d) ≡ false
+  any-get p [] d i h e = absurd (omega arith)
+  any-get p (x ∷ xs) d zero h e = or-false-parts (p x) (any p xs) e .0
+  any-get p (x ∷ xs) d (suc i) h e = any-get p xs d i (omega arith) (or-false-parts (p x) (any p xs) e .1)
 
   pub mem-each : (P : A → Type 0) (l : List A) (d : A) → ((i : ℕ) → i < length l → P (getD l i d)) → (x : A) → Mem x l → P x
   mem-each P [] d h x m = absurd (List·Memᴰ·not-nil m)
