@@ -1,37 +1,49 @@
 -- What is asked of the calls behind the picked cut as a computed test.
-use mathlib.Core.Path.{_≡_, refl, sym, subst}
+use mathlib.Core.Path.{_≡_, refl, sym, ap, _∙_, subst}
 use mathlib.Core.Logic.{_⊎_, inl, inr}
 use mathlib.Core.Bool.{Bool, true, false, not, _&&_, _||_}
 use mathlib.Core.List.{List, [], _∷_, _++_, append-assoc}
-use mathlib.Core.List.{List·Memᴰ as Mem, Memᴰ·cast}
+use mathlib.Core.List.{List·Memᴰ as Mem, Memᴰ·cast, Memᴰ·append-left}
 use Prim.Native.Nat.{ℕ}
 use lib.Dec.{T, T-not, leb, leb→le}
-use lib.ListN.{length}
+use lib.ListN.{length, take, drop, take-append-drop}
+use lib.Seq.{take-append-le}
 use Rattle.forms.specs.Lists.{all, any}
-use Rattle.forms.specs.ListLaws.{and-left, and-right, or-cases, all-at, any-at}
+use Rattle.forms.specs.ListLaws.{mem-along, and-left, and-right, or-cases, all-at, any-at}
 use Rattle.forms.specs.Forms.{Did, didText, Answer}
 use Rattle.rules.specs.State.{State, Reply, refused, ok, settle}
 use Rattle.rules.specs.Calls.{Call, Add, Finish, Withdraw, Persistent, Stable, Show, Cut, Redo, End, step}
 use Rattle.rules.specs.Keeper.{sameBytes}
 use Rattle.rules.specs.Examples.{same-bytes}
+use Rattle.rules.specs.Good.{Good}
 use Rattle.rules.specs.Run.{run}
-use Rattle.recovery.specs.Claim.{countedAfter, counted, Fair, Comes, came, Asked}
-use Rattle.recovery.specs.Recovery.{run-append}
+use Rattle.rules.specs.GoodLaws.{good-run}
+use Rattle.recovery.specs.Claim.{countedAfter, counted, Fair, lostBy, Comes, came, Asked}
+use Rattle.recovery.specs.Recovery.{run-append, cutting}
 
 counted-append : (xs ys : List Call) (m : ℕ) (st : State) → counted m (xs ++ ys) st ≡ counted (counted m xs st) ys (run xs st)
 unfolding counted run
 counted-append [] ys m st = refl
 counted-append (c ∷ xs) ys m st = counted-append xs ys (countedAfter c (step c st) m) (settle (step c st) st)
 
-fair-of : (m k room : ℕ) (before after : State) (answer : Answer) → step (Cut k room) before ≡ ok after answer →
+-- An accepted cut is fair if it keeps as many did lines as are counted persistent, in a buffer that is no shorter.
+pub fair-of : (m k room : ℕ) (before after : State) (answer : Answer) → Good before → step (Cut k room) before ≡ ok after answer →
     T (leb m (length (after .log)) && leb (before .room) room) → Fair m k room before after
-fair-of m k room before after answer e t =
+fair-of m k room before after answer G e t =
     record {
       answer = answer;
       accepted = e;
-      keeps = leb→le m (length (after .log)) (and-left (leb m (length (after .log))) (leb (before .room) room) t);
+      keeps = λ d q. front (after .log) (mem-along first q);
       noShorter = leb→le (before .room) room (and-right (leb m (length (after .log))) (leb (before .room) room) t);
     }
+  where
+    first : take m (before .log) ≡ take m (after .log)
+    first =
+        ap (take m) (cutting k room before after answer G e .first)
+        ∙ take-append-le m (after .log) (lostBy before after) (leb→le m (length (after .log)) (and-left (leb m (length (after .log))) (leb (before .room) room) t))
+
+    front : {d : Did} (l : List Did) → Mem d (take m l) → Mem d l
+    front l q = mem-along (take-append-drop m l) (Memᴰ·append-left (drop m l) q)
 
 module _ (lost : List Did) (chosen : Did → Bool) where
   -- the line's bytes are those of a chosen lost line
@@ -87,9 +99,10 @@ module _ (lost : List Did) (chosen : Did → Bool) where
       go (inl s) = absurd (T-not (chosen d) s c)
       go (inr s) = found (any-at (sameBytes (didText d)) lines s)
 
-  module _ (m : ℕ) (s : State) (xs : List Call) (k room : ℕ) (ys : List Call) where
+  module _ (m : ℕ) (s : State) (start : Good s) (xs : List Call) (k room : ℕ) (ys : List Call) where
     -- A call behind the picked cut that is accepted may be.
-    may-be : T (allFine (counted m (xs ++ Cut k room ∷ []) s) (run (xs ++ Cut k room ∷ []) s) ys) → (a : List Call) (c : Call) (b : List Call) → ys ≡ a ++ c ∷ b →
+    may-be : T (allFine (counted m (xs ++ Cut k room ∷ []) s) (run (xs ++ Cut k room ∷ []) s) ys) →
+        (a : List Call) (c : Call) (b : List Call) → ys ≡ a ++ c ∷ b →
         (after : State) (answer : Answer) → step c (run (xs ++ Cut k room ∷ a) s) ≡ ok after answer →
         T (mayBeAccepted (counted m (xs ++ Cut k room ∷ a) s) (run (xs ++ Cut k room ∷ a) s) c after)
     may-be t a c b e after answer q =
@@ -107,7 +120,7 @@ module _ (lost : List Did) (chosen : Did → Bool) where
         T (allCome (came (xs ++ Cut k room ∷ ys) s)) → Asked m s (λ a. xs ++ Cut k room ∷ a) ys lost chosen
     asked-of t u =
         record {
-          cuts = λ a j r b after answer e q. fair-of _ j r _ after answer q (may-be t a (Cut j r) b e after answer q);
+          cuts = λ a j r b after answer e q. fair-of _ j r _ after answer (good-run (xs ++ Cut k room ∷ a) s start) q (may-be t a (Cut j r) b e after answer q);
           redos = λ a line b after answer e q. brings-is line (may-be t a (Redo line) b e after answer q);
           ends = λ a b after answer e q. may-be t a End b e after answer q;
           all = come-is (came (xs ++ Cut k room ∷ ys) s) u;

@@ -41,7 +41,8 @@ unfolding redoRead delivered
 mark-redo bad st after answer e = absurd (refused-not-ok _ after answer e)
 mark-redo (got d rest) st after answer e = mark _ after _ answer (unless-ok _ _ after answer e .1)
 
-counted-ok : (c : Call) (st after : State) (answer : Answer) → perform c st ≡ ok after answer → countedAfter c (ok after answer) (st .persistentTo) ≡ after .persistentTo
+counted-ok : (c : Call) (st after : State) (answer : Answer) → perform c st ≡ ok after answer →
+    countedAfter c (ok after answer) (st .persistentTo) ≡ after .persistentTo
 unfolding countedAfter perform add finish withdraw persistent stable show cut redo end
 counted-ok (Add i us) st after answer e = mark _ after _ answer (unless-ok _ _ after answer e .1)
 counted-ok (Finish i) st after answer e = mark-finish (find (inProgress i) (st .pending)) st after answer (unless-check _ OutOfTurn _ after answer e .1)
@@ -70,4 +71,5 @@ counted-is (c ∷ cs) m st e =
 pub counted-start : (m : ℕ) (s : State) → Start m s → m ≡ s .persistentTo
 unfolding openSite opened restart
 counted-start m s (justOpened n room t answer e) = mark (opened n room) t _ answer (unless-ok _ _ t answer e .1)
-counted-start m s (justRestarted buffer k t answer e) = mark-restart (length buffer) (readLog (take k buffer)) t answer (unless-check _ AboveLimit _ t answer e .1)
+counted-start m s (justRestarted buffer k t answer e) =
+    mark-restart (length buffer) (readLog (take k buffer)) t answer (unless-check _ AboveLimit _ t answer e .1)

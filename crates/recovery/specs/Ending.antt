@@ -16,6 +16,13 @@ use Rattle.recovery.specs.Invariant.{Setting, nodup-first, not-kept, Inv
 
 -- ### A shared history
 
+pub shares-of : (h : ℕ) (d e : Did) → T (touches h e) → T (touches h d) → T (shares d e)
+unfolding shares beside
+shares-of h d e te td = go (touches-at h d td) (touches-at h e te)
+  where
+    go : (x : Change) × Mem x (d .changes) × (x .history ≡ h) → (y : Change) × Mem y (e .changes) × (y .history ≡ h) → T (shares d e)
+    go (x, m, p) (y, k, q) = any-of (λ z. any (beside z) (e .changes)) m (any-of (beside x) k (rw (p ∙ sym q) (eqb-refl (y .history))))
+
 pub shares-at : (d e : Did) → T (shares d e) → (h : ℕ) × T (touches h e) × T (touches h d)
 unfolding shares beside
 shares-at d e t = go (any-at (λ x. any (beside x) (e .changes)) (d .changes) t)
@@ -25,13 +32,6 @@ shares-at d e t = go (any-at (λ x. any (beside x) (e .changes)) (d .changes) t)
 
     go : (x : Change) × Mem x (d .changes) × T (any (beside x) (e .changes)) → (h : ℕ) × T (touches h e) × T (touches h d)
     go (x, m, s) = found x m (any-at (beside x) (e .changes) s)
-
-pub shares-of : (h : ℕ) (d e : Did) → T (touches h e) → T (touches h d) → T (shares d e)
-unfolding shares beside
-shares-of h d e te td = go (touches-at h d td) (touches-at h e te)
-  where
-    go : (x : Change) × Mem x (d .changes) × (x .history ≡ h) → (y : Change) × Mem y (e .changes) × (y .history ≡ h) → T (shares d e)
-    go (x, m, p) (y, k, q) = any-of (λ z. any (beside z) (e .changes)) m (any-of (beside x) k (rw (p ∙ sym q) (eqb-refl (y .history))))
 
 -- ### Traced lines
 

@@ -21,12 +21,13 @@ use Rattle.rules.specs.Checks.{check, andThen, wrongCount, noSuchHistory, histo
 use Rattle.rules.specs.Log.{ended, didsText, logText, linesFrom, restFrom, historiesFit, accepts, readLines, readFirst, readLog}
 use Rattle.rules.specs.State.{State, ok, withWaiting, withRestoring, logBytes, versionAt, liveDone, live, asks, dry, becameDry, rose, lineBytes, settle}
 use Rattle.rules.specs.Calls.{Call, Add, Finish, Persistent, Stable, Show, Cut, Redo, End, unless, openFull, openRefusal, opened, openSite, blockedBy, blocked, mayRunNow, ready, attempt, tryFrom, madeReady, nothingOrders, idPending, idDone, alreadyDone, readOvertaken, tableFull, addRefusal, arrived, add, changeOf, lineOf, valuesAfter, inProgress, future, without, logFull, finished, finishFound, finish, withdrawRefusal, withdraw, persistent, stable, show, restarted, restartAs, restart, cutAbove, cut, stale, redoRefusal, behind, pick, drain, delivered, redoRead, redo, end, writableUpdate, writable, perform, step}
-use Rattle.rules.specs.Good.{didIds}
+use Rattle.rules.specs.Good.{Good, didIds}
+use Rattle.rules.specs.GoodLaws.{good-open, good-run}
 use Rattle.rules.specs.Run.{run}
 use Rattle.recovery.specs.Claim.{Start, justOpened, direct, further, Closed, HasRun, counted, countedAfter, comesAfter, cameFrom, came, lostBy, shares, beside, Fair, Asked, Shows, Recovered}
 use Rattle.recovery.specs.Ending.{closed}
 use Rattle.recovery.specs.Recovery.{recovery, fed-is}
-use Rattle.recovery.specs.Checking.{bringsChosen, allFine, allCome, asked-of}
+use Rattle.recovery.specs.Checking.{bringsChosen, allFine, allCome, fair-of, asked-of}
 use Rattle.rules.specs.Keeper.{sameBytes}
 
 -- ### The first log: eight lines in a site of three histories
@@ -69,7 +70,8 @@ fifteen = record { id = 15; changes = did5 DidNot 1 1 3 0 ∷ [] }
 abbrev xs : List Call
 xs =
     Add 9 (asks3 Inc 2 1 256 ∷ []) ∷ Finish 9 ∷ Persistent 1 ∷ Stable 1
-    ∷ Add 10 (asks3 Inc 0 1 513 ∷ []) ∷ Add 11 (asks3 Not 0 1 0 ∷ asks3 Inc 1 1 7 ∷ []) ∷ Add 10 (asks3 Inc 0 1 513 ∷ []) ∷ Finish 10 ∷ Finish 11
+    ∷ Add 10 (asks3 Inc 0 1 513 ∷ []) ∷ Add 11 (asks3 Not 0 1 0 ∷ asks3 Inc 1 1 7 ∷ []) ∷ Add 10 (asks3 Inc 0 1 513 ∷ [])
+    ∷ Finish 10 ∷ Finish 11
     ∷ Add 12 (asks3 Set 0 9 1000 ∷ []) ∷ Finish 12 ∷ Add 13 (asks3 Inc 2 2 300 ∷ []) ∷ Finish 13
     ∷ Add 14 (asks3 Inc 2 3 5 ∷ asks3 Not 1 1 0 ∷ []) ∷ Finish 14 ∷ Add 15 (asks3 Not 1 1 0 ∷ []) ∷ Finish 15 ∷ []
 
@@ -80,6 +82,10 @@ started : Start 0 start
 unfolding replaced run entered enter enterAll cellFrom cell touches runsAt canRun unless openFull openRefusal opened openSite blockedBy blocked mayRunNow ready attempt tryFrom madeReady nothingOrders idPending idDone alreadyDone readOvertaken tableFull addRefusal arrived add changeOf lineOf valuesAfter inProgress future without logFull finished finishFound finish withdrawRefusal withdraw persistent stable show restarted restartAs restart cutAbove cut stale redoRefusal behind pick drain delivered redoRead redo end writableUpdate writable perform step check andThen wrongCount noSuchHistory historyTwice updateMisfits changeMisfits formRefusal updatesRefusal changesRefusal ended didsText logText linesFrom restFrom historiesFit accepts readLines readFirst readLog logBytes versionAt liveDone live asks dry becameDry rose lineBytes settle below digitsWithin digits more number word fieldText fieldsText itemsText tailText listText changeText oneText siteText didText reading.field reading.doneRule reading.change reading.one reading.did reading.items reading.tail readWhole readDid readSite
 started = justOpened 3 65536 start Opened refl
 
+start-good : Good start
+unfolding replaced run entered enter enterAll cellFrom cell touches runsAt canRun unless openFull openRefusal opened openSite blockedBy blocked mayRunNow ready attempt tryFrom madeReady nothingOrders idPending idDone alreadyDone readOvertaken tableFull addRefusal arrived add changeOf lineOf valuesAfter inProgress future without logFull finished finishFound finish withdrawRefusal withdraw persistent stable show restarted restartAs restart cutAbove cut stale redoRefusal behind pick drain delivered redoRead redo end writableUpdate writable perform step check andThen wrongCount noSuchHistory historyTwice updateMisfits changeMisfits formRefusal updatesRefusal changesRefusal ended didsText logText linesFrom restFrom historiesFit accepts readLines readFirst readLog logBytes versionAt liveDone live asks dry becameDry rose lineBytes settle below digitsWithin digits more number word fieldText fieldsText itemsText tailText listText changeText oneText siteText didText reading.field reading.doneRule reading.change reading.one reading.did reading.items reading.tail readWhole readDid readSite
+start-good = good-open 3 65536 start Opened refl
+
 -- The picked cut keeps 40 bytes: the site line, line 9, and a torn part of line 10.
 abbrev picked : State
 picked = restarted 65536 3 (nine ∷ [])
@@ -89,7 +95,7 @@ lost = ten ∷ eleven ∷ twelve ∷ thirteen ∷ fourteen ∷ fifteen ∷ []
 
 fair : Fair (counted 0 xs start) 40 65536 (run xs start) picked
 unfolding replaced run entered enter enterAll cellFrom cell touches runsAt canRun unless openFull openRefusal opened openSite blockedBy blocked mayRunNow ready attempt tryFrom madeReady nothingOrders idPending idDone alreadyDone readOvertaken tableFull addRefusal arrived add changeOf lineOf valuesAfter inProgress future without logFull finished finishFound finish withdrawRefusal withdraw persistent stable show restarted restartAs restart cutAbove cut stale redoRefusal behind pick drain delivered redoRead redo end writableUpdate writable perform step check andThen wrongCount noSuchHistory historyTwice updateMisfits changeMisfits formRefusal updatesRefusal changesRefusal ended didsText logText linesFrom restFrom historiesFit accepts readLines readFirst readLog logBytes versionAt liveDone live asks dry becameDry rose lineBytes settle below digitsWithin digits more number word fieldText fieldsText itemsText tailText listText changeText oneText siteText didText reading.field reading.doneRule reading.change reading.one reading.did reading.items reading.tail readWhole readDid readSite counted countedAfter
-fair = record { answer = Restarted 1 33; accepted = refl; keeps = lit≤ tt; noShorter = lit≤ tt }
+fair = fair-of (counted 0 xs start) 40 65536 (run xs start) picked (Restarted 1 33) (good-run xs start start-good) refl tt
 
 lost-is : lostBy (run xs start) picked ≡ lost
 unfolding replaced run entered enter enterAll cellFrom cell touches runsAt canRun unless openFull openRefusal opened openSite blockedBy blocked mayRunNow ready attempt tryFrom madeReady nothingOrders idPending idDone alreadyDone readOvertaken tableFull addRefusal arrived add changeOf lineOf valuesAfter inProgress future without logFull finished finishFound finish withdrawRefusal withdraw persistent stable show restarted restartAs restart cutAbove cut stale redoRefusal behind pick drain delivered redoRead redo end writableUpdate writable perform step check andThen wrongCount noSuchHistory historyTwice updateMisfits changeMisfits formRefusal updatesRefusal changesRefusal ended didsText logText linesFrom restFrom historiesFit accepts readLines readFirst readLog logBytes versionAt liveDone live asks dry becameDry rose lineBytes settle below digitsWithin digits more number word fieldText fieldsText itemsText tailText listText changeText oneText siteText didText reading.field reading.doneRule reading.change reading.one reading.did reading.items reading.tail readWhole readDid readSite lostBy
@@ -123,7 +129,7 @@ unfolding replaced run entered enter enterAll cellFrom cell touches runsAt canRu
 all-come = tt
 
 asked : Asked 0 start (λ a. xs ++ Cut 40 65536 ∷ a) ys (lostBy (run xs start) picked) chosen
-asked = subst (λ l. Asked 0 start (λ a. xs ++ Cut 40 65536 ∷ a) ys l chosen) (sym lost-is) (asked-of lost chosen 0 start xs 40 65536 ys follows all-come)
+asked = subst (λ l. Asked 0 start (λ a. xs ++ Cut 40 65536 ∷ a) ys l chosen) (sym lost-is) (asked-of lost chosen 0 start start-good xs 40 65536 ys follows all-come)
 
 -- What the claim says of the list.
 result : Recovered (run xs start) picked (lostBy (run xs start) picked) chosen (came calls start) (run calls start)
@@ -164,7 +170,7 @@ named = ended-same _ _ _ _ (sym (result .named .1) ∙ end-is)
 -- (4) The book is fed 9, and then 10, 11 and 12; and `show` gives what it holds.
 fed : result .fed ≡ ten ∷ eleven ∷ twelve ∷ []
 unfolding replaced run entered enter enterAll cellFrom cell touches runsAt canRun unless openFull openRefusal opened openSite blockedBy blocked mayRunNow ready attempt tryFrom madeReady nothingOrders idPending idDone alreadyDone readOvertaken tableFull addRefusal arrived add changeOf lineOf valuesAfter inProgress future without logFull finished finishFound finish withdrawRefusal withdraw persistent stable show restarted restartAs restart cutAbove cut stale redoRefusal behind pick drain delivered redoRead redo end writableUpdate writable perform step check andThen wrongCount noSuchHistory historyTwice updateMisfits changeMisfits formRefusal updatesRefusal changesRefusal ended didsText logText linesFrom restFrom historiesFit accepts readLines readFirst readLog logBytes versionAt liveDone live asks dry becameDry rose lineBytes settle below digitsWithin digits more number word fieldText fieldsText itemsText tailText listText changeText oneText siteText didText reading.field reading.doneRule reading.change reading.one reading.did reading.items reading.tail readWhole readDid readSite lostBy closed shares beside
-fed = fed-is 0 start started xs 40 65536 picked chosen fair (result .fed) (result .fedAre)
+fed = fed-is (run xs start) picked (lostBy (run xs start) picked) chosen (came calls start) (run calls start) result
 
 shown : Shows (run calls start) 0 (record { profile = 1000; version = 9; place = 3 })
 unfolding replaced run entered enter enterAll cellFrom cell touches runsAt canRun unless openFull openRefusal opened openSite blockedBy blocked mayRunNow ready attempt tryFrom madeReady nothingOrders idPending idDone alreadyDone readOvertaken tableFull addRefusal arrived add changeOf lineOf valuesAfter inProgress future without logFull finished finishFound finish withdrawRefusal withdraw persistent stable show restarted restartAs restart cutAbove cut stale redoRefusal behind pick drain delivered redoRead redo end writableUpdate writable perform step check andThen wrongCount noSuchHistory historyTwice updateMisfits changeMisfits formRefusal updatesRefusal changesRefusal ended didsText logText linesFrom restFrom historiesFit accepts readLines readFirst readLog logBytes versionAt liveDone live asks dry becameDry rose lineBytes settle below digitsWithin digits more number word fieldText fieldsText itemsText tailText listText changeText oneText siteText didText reading.field reading.doneRule reading.change reading.one reading.did reading.items reading.tail readWhole readDid readSite
@@ -195,7 +201,7 @@ unfolding replaced run entered enter enterAll cellFrom cell touches runsAt canRu
 all-come₂ = tt
 
 asked₂ : Asked 0 start (λ a. xs ++ Cut 40 65536 ∷ a) zs (lostBy (run xs start) picked) every
-asked₂ = subst (λ l. Asked 0 start (λ a. xs ++ Cut 40 65536 ∷ a) zs l every) (sym lost-is) (asked-of lost every 0 start xs 40 65536 zs follows₂ all-come₂)
+asked₂ = subst (λ l. Asked 0 start (λ a. xs ++ Cut 40 65536 ∷ a) zs l every) (sym lost-is) (asked-of lost every 0 start start-good xs 40 65536 zs follows₂ all-come₂)
 
 result₂ : Recovered (run xs start) picked (lostBy (run xs start) picked) every (came calls₂ start) (run calls₂ start)
 result₂ = recovery 0 start started xs 40 65536 zs picked every fair asked₂

@@ -4,7 +4,7 @@ use mathlib.Core.Logic.{_⊎_, inl, inr}
 use mathlib.Core.Bool.{Bool, true, false}
 use mathlib.Core.List.{List, [], _∷_, _++_, append-assoc, append-nil}
 use mathlib.Core.List.{List·Memᴰ as Mem, List·Memᴰ·head as here, List·Memᴰ·tail as there, List·Memᴰ·not-nil, Memᴰ·cast, Memᴰ·append-left, Memᴰ·append-right, List·Memᴰ·append-cases}
-use Prim.Native.Nat.{ℕ, _+_, _≤_}
+use Prim.Native.Nat.{ℕ, _+_, _≤_, _<_}
 use native.Mathlib.Omega.{arith}
 use lib.Dec.{T}
 use lib.ListN.{length}
@@ -112,7 +112,8 @@ module _ {B : Type 0} (key : Did → B) (K L : List Did) (chosen : Did → Bool)
       pub past : (x : Change) → Mem x (d .changes) → x .place ≤ length (proj (x .history) log) → Mem d log
       past x m le =
           let h = x .history in
-          mem-of-keep (touches h) log (prefix-past (proj h log) (proj h (K ++ L)) (proj h a) d (proj h b) (front h) (cut-at h (touches-of d m)) (omega (arith, first-place x m))) .0
+          let far : length (proj h a) < length (proj h log) = omega (arith, first-place x m) in
+          mem-of-keep (touches h) log (prefix-past (proj h log) (proj h (K ++ L)) (proj h a) d (proj h b) (front h) (cut-at h (touches-of d m)) far) .0
 
       -- A lost line that has not run can run if all lines that stood before it in its histories have run.
       pub can-run-next : (Mem d log → ⊥) → ((e : Did) (h : ℕ) → Mem e a → T (touches h e) → T (touches h d) → Mem e log) → T (canRun log d)
@@ -251,7 +252,9 @@ module _ {B : Type 0} (key : Did → B) (K L : List Did) (chosen : Did → Bool)
     inv-cut came log wait kept rest I e le = go (append-split K (I .ran) kept rest (sym (I .split) ∙ e) le)
       where
         front-cut : (h : ℕ) → Prefix (proj h log) (proj h (K ++ L)) → Prefix (proj h kept) (proj h (K ++ L))
-        front-cut h (r, p) = (proj h rest ++ r, p ∙ ap {B = List Did} (λ l. l ++ r) (ap (proj h) e ∙ proj-append h kept rest) ∙ append-assoc (proj h kept) (proj h rest) r)
+        front-cut h (r, p) =
+            let cut : proj h log ≡ proj h kept ++ proj h rest = ap (proj h) e ∙ proj-append h kept rest in
+            (proj h rest ++ r, p ∙ ap {B = List Did} (λ l. l ++ r) cut ∙ append-assoc (proj h kept) (proj h rest) r)
 
         go : (t : List Did) × (kept ≡ K ++ t) × (I .ran ≡ t ++ rest) → Inv [] kept []
         go (t, p, q) =

@@ -183,7 +183,8 @@ module _ (n : ℕ) (K L : List Did) (chosen : Did → Bool) (P : Picked n K L) w
       weigh f out-r out-w =
           let some : sum f (G .inv .ran ++ (st .waiting ++ d ∷ [])) ≤ sum f L =
           sum-sub f (G .inv .ran ++ (st .waiting ++ d ∷ [])) L
-          (nodup-append (G .inv .ran) (st .waiting ++ d ∷ []) site-nodup (nodup-snoc (st .waiting) d (G .inv .once) out-w) (λ e p q. meet e p (mem-snoc (st .waiting) q)))
+          (nodup-append (G .inv .ran) (st .waiting ++ d ∷ []) site-nodup (nodup-snoc (st .waiting) d (G .inv .once) out-w)
+          (λ e p q. meet e p (mem-snoc (st .waiting) q)))
           (λ e p. inside e (List·Memᴰ·append-cases (G .inv .ran) p)) in
           omega (arith, sum-append f (G .inv .ran) (st .waiting ++ d ∷ []), sum-append f (st .waiting) (d ∷ []))
         where
@@ -246,14 +247,16 @@ module _ (n : ℕ) (K L : List Did) (chosen : Did → Bool) (P : Picked n K L) w
           (ap (λ (i : ℕ). changesRefusal i (d .changes)) (G .n-is) ∙ formed-lost d lost .passes)))
           (at-7 (idPending (d .id) st) refl)
         where
-          at-8 : (b : Bool) → done-test ≡ b → (Mem d (st .waiting) → ⊥) → Verdict (check b AlreadyDone (check (tableFull st) TableFull (check (logFull d st) NoRoom none)))
+          full : Option Refusal
+          full = check (tableFull st) TableFull (check (logFull d st) NoRoom none)
+
+          at-8 : (b : Bool) → done-test ≡ b → (Mem d (st .waiting) → ⊥) → Verdict (check b AlreadyDone full)
           at-8 true e out-w = refuses AlreadyDone (inl (has-run (true-T done-test e)))
           at-8 false e out-w =
               let out-r : Mem d (G .inv .ran) → ⊥ = λ k. false-T done-test e (run-is k) in
               rw (T-false (tableFull st) (fresh-few out-r out-w), T-false (logFull d st) (fresh-fits out-r out-w)) (takes out-r out-w)
 
-          at-7 : (b : Bool) → idPending (d .id) st ≡ b →
-              Verdict (check b IdPending (check (any (stale st) (d .changes) || idDone (d .id) st) AlreadyDone (check (tableFull st) TableFull (check (logFull d st) NoRoom none))))
+          at-7 : (b : Bool) → idPending (d .id) st ≡ b → Verdict (check b IdPending (check done-test AlreadyDone full))
           at-7 true e = refuses IdPending (inr (is-waiting (true-T (idPending (d .id) st) e)))
           at-7 false e = at-8 done-test refl (λ k. false-T (idPending (d .id) st) e (waiting-is k))
 
@@ -303,7 +306,8 @@ module _ (n : ℕ) (K L : List Did) (chosen : Did → Bool) (P : Picked n K L) w
             stable-K = G .stable-K;
           }
 
-      redo-ok : T (chosen d) → (after : State) (answer : Answer) → step (Redo (didText d)) st ≡ ok after answer → Good after → Site (lines ++ didText d ∷ []) after
+      redo-ok : T (chosen d) → (after : State) (answer : Answer) → step (Redo (didText d)) st ≡ ok after answer → Good after →
+          Site (lines ++ didText d ∷ []) after
       redo-ok choice after answer e good = go (redo-fresh after answer e)
         where
           go : (Mem d (G .inv .ran) → ⊥) × (Mem d (st .waiting) → ⊥) × (taken ≡ after) → Site (lines ++ didText d ∷ []) after
@@ -369,7 +373,8 @@ module _ (n : ℕ) (K L : List Did) (chosen : Did → Bool) (P : Picked n K L) w
     Keeps c = Good (settle (step c st) st) → Site (comesAfter c (step c st) lines) (settle (step c st) st)
 
     by-reply : (c : Call) → ((r : Refusal) → step c st ≡ refused r → Site (comesAfter c (refused r) lines) st) →
-        ((after : State) (answer : Answer) → perform c st ≡ ok after answer → step c st ≡ ok after answer → Good after → Site (comesAfter c (ok after answer) lines) after) → Keeps c
+        ((after : State) (answer : Answer) → perform c st ≡ ok after answer → step c st ≡ ok after answer → Good after →
+        Site (comesAfter c (ok after answer) lines) after) → Keeps c
     unfolding Keeps settle step
     by-reply c off on good = go (step c st) refl good
       where
@@ -385,19 +390,23 @@ module _ (n : ℕ) (K L : List Did) (chosen : Did → Bool) (P : Picked n K L) w
   Obeys st (Persistent k) = Unit {0}
   Obeys st (Stable k) = Unit {0}
   Obeys st (Show h) = Unit {0}
-  Obeys st (Cut k room) = (after : State) (answer : Answer) → step (Cut k room) st ≡ ok after answer → (st .persistentTo ≤ length (after .log)) × (st .room ≤ room)
-  Obeys st (Redo line) = (after : State) (answer : Answer) → step (Redo line) st ≡ ok after answer → (d : Did) × Mem d L × T (chosen d) × (line ≡ didText d)
+  Obeys st (Cut k room) =
+      (after : State) (answer : Answer) → step (Cut k room) st ≡ ok after answer → (st .persistentTo ≤ length (after .log)) × (st .room ≤ room)
+  Obeys st (Redo line) =
+      (after : State) (answer : Answer) → step (Redo line) st ≡ ok after answer → (d : Did) × Mem d L × T (chosen d) × (line ≡ didText d)
   Obeys st End = (after : State) (answer : Answer) → step End st ≡ ok after answer → ⊥
 
   pub step-keeps : (lines : List (List ℕ)) (st : State) (G : Site lines st) (c : Call) → Obeys st c → Good (settle (step c st) st) →
       Site (comesAfter c (step c st) lines) (settle (step c st) st)
   unfolding Keeps perform comesAfter add addRefusal finish withdraw withdrawRefusal persistent stable show end
   step-keeps lines st G (Add i us) o =
-      by-reply lines st G (Add i us) (λ r e. G) (λ after answer e q good. absurd (on lines st G (check-none _ OutOfTurn _ (unless-ok _ _ after answer e .0) .0)))
+      by-reply lines st G (Add i us) (λ r e. G)
+      (λ after answer e q good. absurd (on lines st G (check-none _ OutOfTurn _ (unless-ok _ _ after answer e .0) .0)))
   step-keeps lines st G (Finish i) o =
       by-reply lines st G (Finish i) (λ r e. G) (λ after answer e q good. absurd (on lines st G (unless-check _ OutOfTurn _ after answer e .0)))
   step-keeps lines st G (Withdraw i) o =
-      by-reply lines st G (Withdraw i) (λ r e. G) (λ after answer e q good. absurd (on lines st G (check-none _ OutOfTurn _ (unless-ok _ _ after answer e .0) .0)))
+      by-reply lines st G (Withdraw i) (λ r e. G)
+      (λ after answer e q good. absurd (on lines st G (check-none _ OutOfTurn _ (unless-ok _ _ after answer e .0) .0)))
   step-keeps lines st G (Persistent k) o =
       by-reply lines st G (Persistent k) (λ r e. G)
       (λ after answer e q good. marked-as lines st G _ _ after (ok-state _ after _ answer (unless-check _ AboveLimit _ after answer e .1)) (le-refl _) good)
@@ -408,11 +417,13 @@ module _ (n : ℕ) (K L : List Did) (chosen : Did → Bool) (P : Picked n K L) w
       by-reply lines st G (Show h) (λ r e. G)
       (λ after answer e q good. subst (Site lines) (ok-state st after _ answer (unless-check _ NoSuchHistory _ after answer e .1)) G)
   step-keeps lines st G (Cut k room) o =
-      by-reply lines st G (Cut k room) (λ r e. G) (λ after answer e q good. let f = o after answer q in cut-keeps lines st G k room after answer e (f .0) (f .1) good)
+      by-reply lines st G (Cut k room) (λ r e. G)
+      (λ after answer e q good. let f = o after answer q in cut-keeps lines st G k room after answer e (f .0) (f .1) good)
   step-keeps lines st G (Redo line) o =
       by-reply lines st G (Redo line) (redo-refused lines st G line) (λ after answer e q good. taken-as after answer q good (o after answer q))
     where
-      taken-as : (after : State) (answer : Answer) → step (Redo line) st ≡ ok after answer → Good after → (d : Did) × Mem d L × T (chosen d) × (line ≡ didText d) →
+      taken-as : (after : State) (answer : Answer) → step (Redo line) st ≡ ok after answer → Good after →
+          (d : Did) × Mem d L × T (chosen d) × (line ≡ didText d) →
           Site (lines ++ line ∷ []) after
       taken-as after answer q good (d, lost, choice, p) =
           subst (λ (l : List ℕ). Site (lines ++ l ∷ []) after) (sym p)
