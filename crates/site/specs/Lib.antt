@@ -4,3 +4,6 @@ pub mod QueueLaws
 pub mod ShowLaws
 pub mod EndLaws
 pub mod LineLaws
+pub mod AddLaws
+pub mod FinishLaws
+pub mod OpenLaws

@@ -13,7 +13,10 @@ use history::History;
 use table::DoneList;
 use table::Queue;
 
+pub mod add;
 pub mod end;
+pub mod finish;
+pub mod open;
 pub mod show;
 
 // A site by value. Its log stands in the first `used` bytes of a buffer that the caller lends to each call.
