@@ -81,8 +81,19 @@ replaces n o h l = rw (and-mask o 8) (go (o / 256) refl)
     go : (p : ℕ) → o / 256 ≡ p
         → bitOr (bitAnd n (4294967295 - 255 * 2 ^ (o / 256 * 8) % 4294967296)) (o % 2 ^ 8 * 2 ^ (o / 256 * 8) % 4294967296)
         ≡ partAfter n o 0 + partAfter n o 1 * 256 + partAfter n o 2 * 256 ^ 2 + partAfter n o 3 * 256 ^ 3
-    go zero e = rw e (rw (fit (o % 256) 0 (omega arith)) (swap n (o % 256) 0 24 8 (omega arith) (omega arith) (omega arith) (omega arith) ∙ sum0 (o % 256) (n / 256 % 16777216) (n % 256 % 1) (part 1 n) (part 2 n) (part 3 n) (shr-mod 24 8 h ∙ three (n / 256) (n / 65536) (n / 16777216) e1 e2 top) (omega arith)))
-    go (suc zero) e = rw e (rw (fit (o % 256) 8 (omega arith)) (swap n (o % 256) 8 16 16 (omega arith) (omega arith) (omega arith) (omega arith) ∙ sum1 (o % 256) (n / 65536 % 65536) (n % 65536 % 256) (part 0 n) (part 2 n) (part 3 n) (shr-mod 16 16 h ∙ two (n / 65536) (n / 16777216) e2 top) (mod-mod-pow n 8 8 ∙ low)))
-    go (suc (suc zero)) e = rw e (rw (fit (o % 256) 16 (omega arith)) (swap n (o % 256) 16 8 24 (omega arith) (omega arith) (omega arith) (omega arith) ∙ sum2 (o % 256) (n / 16777216 % 256) (n % 16777216 % 65536) (part 0 n) (part 1 n) (part 3 n) refl (mod-mod-pow n 8 16 ∙ low2)))
-    go (suc (suc (suc zero))) e = rw e (rw (fit (o % 256) 24 (omega arith)) (swap n (o % 256) 24 0 32 (omega arith) (omega arith) (omega arith) (omega arith) ∙ sum3 (o % 256) (n / 4294967296 % 1) (n % 4294967296 % 16777216) (part 0 n) (part 1 n) (part 2 n) (omega arith) (mod-mod-pow n 8 24 ∙ low3)))
+    go zero e = rw e (rw (fit (o % 256) 0 (omega arith))
+        (swap n (o % 256) 0 24 8 (omega arith) (omega arith) (omega arith) (omega arith) ∙ sum0 (o % 256) (n / 256 % 16777216) (n % 256 % 1)
+        (part 1 n) (part 2 n) (part 3 n) (shr-mod 24 8 h ∙ three (n / 256) (n / 65536) (n / 16777216) e1 e2 top) (omega arith)))
+    go (suc zero) e = rw e
+        (rw (fit (o % 256) 8 (omega arith))
+        (swap n (o % 256) 8 16 16 (omega arith) (omega arith) (omega arith) (omega arith) ∙ sum1 (o % 256) (n / 65536 % 65536) (n % 65536 % 256)
+        (part 0 n) (part 2 n) (part 3 n) (shr-mod 16 16 h ∙ two (n / 65536) (n / 16777216) e2 top) (mod-mod-pow n 8 8 ∙ low)))
+    go (suc (suc zero)) e = rw e
+        (rw (fit (o % 256) 16 (omega arith))
+        (swap n (o % 256) 16 8 24 (omega arith) (omega arith) (omega arith) (omega arith) ∙ sum2 (o % 256) (n / 16777216 % 256) (n % 16777216 % 65536)
+        (part 0 n) (part 1 n) (part 3 n) refl (mod-mod-pow n 8 16 ∙ low2)))
+    go (suc (suc (suc zero))) e = rw e
+        (rw (fit (o % 256) 24 (omega arith))
+        (swap n (o % 256) 24 0 32 (omega arith) (omega arith) (omega arith) (omega arith) ∙ sum3 (o % 256) (n / 4294967296 % 1)
+        (n % 4294967296 % 16777216) (part 0 n) (part 1 n) (part 2 n) (omega arith) (mod-mod-pow n 8 24 ∙ low3)))
     go (suc (suc (suc (suc p)))) e = absurd (omega arith)

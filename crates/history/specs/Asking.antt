@@ -56,7 +56,14 @@ abbrev pub updateItem : Update → Item
 updateItem u = record { rule = u .rule; history = u .history; version = record { 0 = u .version }; place = record { 0 = 0 }; operand = u .operand }
 
 abbrev pub changeItem : Change → Item
-changeItem x = record { rule = ruleOf (x .rule); history = x .history; version = record { 0 = x .version }; place = record { 0 = x .place }; operand = x .operand }
+changeItem x =
+    record {
+      rule = ruleOf (x .rule);
+      history = x .history;
+      version = record { 0 = x .version };
+      place = record { 0 = x .place };
+      operand = x .operand;
+    }
 
 -- ### Updates and did lines that passed 2 to 5 in a site of at most 16 histories
 

@@ -68,7 +68,8 @@ abbrev pub historiesTo : ℕ → List Asked → List ℕ
 historiesTo n first = map (λ (a : Asked). a .history) (take n first)
 
 module _ (first : List Asked) (i : ℕ) where
-  in-is : (b : Bool) → b ≡ any (asked (In (getD first i noAsked .history))) (take i first) → (t : Bool) → b ≡ t → any (eqb (getD first i noAsked .history)) (historiesTo i first) ≡ t
+  in-is : (b : Bool) → b ≡ any (asked (In (getD first i noAsked .history))) (take i first) → (t : Bool) → b ≡ t
+      → any (eqb (getD first i noAsked .history)) (historiesTo i first) ≡ t
   unfolding askedTest
   in-is b e t f = any-map (λ (a : Asked). a .history) (eqb (getD first i noAsked .history)) (take i first) ∙ sym e ∙ f
 
@@ -94,7 +95,8 @@ pub orders-by : (held : AskedHeld)
 unfolding nothingOrders updatesOf askedTest
 orders-by held =
     let l = take (held .count) (held .first) in
-    ap₂ (λ (a b : Bool). a && not b) (any-map asUpdate (λ (u : Update). strong (u .rule)) l) (any-map asUpdate (λ (u : Update). strong (u .rule) && ordered (u .rule)) l)
+    ap₂ (λ (a b : Bool). a && not b) (any-map asUpdate (λ (u : Update). strong (u .rule)) l)
+    (any-map asUpdate (λ (u : Update). strong (u .rule) && ordered (u .rule)) l)
 
 -- ### 2 to 5
 
@@ -108,7 +110,8 @@ module _ (n : ℕ) (held : AskedHeld) (us : List Update) (e : held ≡ heldUpdat
   first-is few = ap (λ (h : AskedHeld). take (h .count) (h .first)) e ∙ four-held asAsked noUpdate us (omega (arith, count-is))
 
   -- the verdict, by what the four checks found
-  verdict : (w a t m : Bool) → wrongCount us ≡ w → noSuchHistory n (map (λ (u : Update). u .history) us) ≡ a → historyTwice (map (λ (u : Update). u .history) us) ≡ t
+  verdict : (w a t m : Bool) → wrongCount us ≡ w → noSuchHistory n (map (λ (u : Update). u .history) us) ≡ a
+      → historyTwice (map (λ (u : Update). u .history) us) ≡ t
       → any updateMisfits us ≡ m
       → verdictOf (updatesRefusal n us) ≡ verdictOf (check w WrongCount (check a NoSuchHistory (check t HistoryTwice (check m OperandRange none))))
   unfolding updatesRefusal formRefusal
@@ -144,7 +147,8 @@ module _ (n : ℕ) (held : AskedHeld) (us : List Update) (e : held ≡ heldUpdat
 
       module _ (present : a ≡ false) (t : Bool) (q : t ≡ historyTwice (historiesTo (held .count) (held .first))) where
         twice-is : historyTwice (map (λ (u : Update). u .history) us) ≡ t
-        twice-is = sym (q ∙ ap (λ (l : List Asked). historyTwice (map (λ (x : Asked). x .history) l)) (first-is few) ∙ ap historyTwice (map-map asAsked (λ (x : Asked). x .history) us))
+        twice-is = sym (q ∙ ap (λ (l : List Asked). historyTwice (map (λ (x : Asked). x .history) l)) (first-is few)
+            ∙ ap historyTwice (map-map asAsked (λ (x : Asked). x .history) us))
 
         pub refused-twice : t ≡ true → Refused HistoryTwice ≡ verdictOf (updatesRefusal n us)
         unfolding verdictOf check
@@ -191,7 +195,8 @@ held-changes held xs e p q r s =
     ap₂ {C = AskedHeld} (λ (n : ℕ) (l : List Asked). record { count = n; first = l }) (ap (λ (h : DoneHeld). h .count) e ∙ sym (length-map xs changeUpdate))
     (four-eq (p ∙ at 0) (q ∙ at 1) (r ∙ at 2) (s ∙ at 3) ∙ four-map changeUpdate asAsked noChange xs)
   where
-    at : (i : ℕ) → asAsked (changeUpdate (asChange (getD (held .first) i noDone))) ≡ asAsked (changeUpdate (asChange (getD (firstFour asDone noChange xs) i noDone)))
+    at : (i : ℕ) → asAsked (changeUpdate (asChange (getD (held .first) i noDone)))
+        ≡ asAsked (changeUpdate (asChange (getD (firstFour asDone noChange xs) i noDone)))
     at i = ap (λ (h : DoneHeld). asAsked (changeUpdate (asChange (getD (h .first) i noDone)))) e
 
 -- ### What passing 2 to 5 gives
@@ -224,7 +229,8 @@ module _ {A : Type 0} (f : A → Update) (n : ℕ) (xs : List A) where
         each = λ most d i h.
             record {
               history = below most d i h (any-get (λ (x : A). leb n (f x .history)) xs d i h (sym (any-map (λ (x : A). f x .history) (leb n) xs) ∙ b .0));
-              operand = not-false (operandFits (f (getD xs i d) .rule) (f (getD xs i d) .version) (f (getD xs i d) .operand)) (any-get (λ (x : A). updateMisfits (f x)) xs d i h (m .0));
+              operand = not-false (operandFits (f (getD xs i d) .rule) (f (getD xs i d) .version) (f (getD xs i d) .operand))
+                  (any-get (λ (x : A). updateMisfits (f x)) xs d i h (m .0));
             };
       }
     where
@@ -251,7 +257,8 @@ usable-held n us most e =
     record {
       few = p .few;
       long = refl;
-      each = λ i h. subst (λ (a : Asked). UsableUpdate (asUpdate a)) (sym (four-at asAsked noUpdate us i noAsked (omega (arith, h, p .few)))) (p .each most noUpdate i h);
+      each = λ i h. subst (λ (a : Asked). UsableUpdate (asUpdate a)) (sym (four-at asAsked noUpdate us i noAsked (omega (arith, h, p .few))))
+          (p .each most noUpdate i h);
     }
 
 pub usable-did : (n : ℕ) (d : Did) → n ≤ 16 → changesRefusal n (d .changes) ≡ none → UsableDid (heldDid d)
@@ -261,8 +268,13 @@ usable-did n d most e =
     record {
       few = p .few;
       long = refl;
-      each = λ i h. subst (λ (x : Done). UsableUpdate (changeUpdate (asChange x))) (sym (four-at asDone noChange (d .changes) i noDone (omega (arith, h, p .few)))) (p .each most noChange i h);
+      each = λ i h. subst (λ (x : Done). UsableUpdate (changeUpdate (asChange x)))
+          (sym (four-at asDone noChange (d .changes) i noDone (omega (arith, h, p .few)))) (p .each most noChange i h);
     }
+
+pub held-long : (held : AskedHeld) (us : List Update) → held ≡ heldUpdates us → length (held .first) ≡ 4
+unfolding heldUpdates
+held-long held us e = ap (λ (h : AskedHeld). length (h .first)) e
 
 pub updates-held : (us : List Update) → length us ≤ 4 → updatesOf (heldUpdates us) ≡ us
 unfolding updatesOf heldUpdates
@@ -343,4 +355,5 @@ enters-did line u items q =
         record { history = x .history; operand = x .operand }
 
     same : (x : Change) → itemChange (changeItem x) ≡ x
-    same x = ap {B = Change} (λ (r : DoneRule). record { rule = r; history = x .history; version = x .version; place = x .place; operand = x .operand }) (logged-rule (x .rule))
+    same x = ap {B = Change}
+        (λ (r : DoneRule). record { rule = r; history = x .history; version = x .version; place = x .place; operand = x .operand }) (logged-rule (x .rule))

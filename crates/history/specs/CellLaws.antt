@@ -167,7 +167,8 @@ module _ (hs₀ hs : List History) (items : List Item) (i : ℕ) (inv : Entered 
         → Entered hs₀ (set hs (itemNow .history) y) items (i + 1)
     unfolding enter
     entered-next e h lt =
-        go (eqb t h) refl ∙ sym (ap (λ (l : List Change). enterAll h l (cellsOf hs₀ h)) more ∙ enter-all-snoc h (changesTo i items) (itemChange itemNow) (cellsOf hs₀ h))
+        go (eqb t h) refl
+        ∙ sym (ap (λ (l : List Change). enterAll h l (cellsOf hs₀ h)) more ∙ enter-all-snoc h (changesTo i items) (itemChange itemNow) (cellsOf hs₀ h))
       where
         t : ℕ
         t = itemNow .history

@@ -48,7 +48,13 @@ testIn t cells x = itemTest t (cells (x .history)) x
 unfoldable pub changeIn : (ℕ → Cell) → Update → Change
 changeIn cells u =
     let c = cells (u .history) in
-    record { rule = loggedAs (u .rule); history = u .history; version = versionAfter (u .rule) (c .version) (u .version); place = c .place + 1; operand = u .operand }
+    record {
+      rule = loggedAs (u .rule);
+      history = u .history;
+      version = versionAfter (u .rule) (c .version) (u .version);
+      place = c .place + 1;
+      operand = u .operand;
+    }
 
 -- the line that finishing an operation writes
 unfoldable pub lineIn : (ℕ → Cell) → Operation → Did

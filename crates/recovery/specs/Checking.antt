@@ -40,7 +40,8 @@ fair-of m k room before after answer G e t =
     first : take m (before .log) ≡ take m (after .log)
     first =
         ap (take m) (cutting k room before after answer G e .first)
-        ∙ take-append-le m (after .log) (lostBy before after) (leb→le m (length (after .log)) (and-left (leb m (length (after .log))) (leb (before .room) room) t))
+        ∙ take-append-le m (after .log) (lostBy before after)
+        (leb→le m (length (after .log)) (and-left (leb m (length (after .log))) (leb (before .room) room) t))
 
     front : {d : Did} (l : List Did) → Mem d (take m l) → Mem d l
     front l q = mem-along (take-append-drop m l) (Memᴰ·append-left (drop m l) q)

@@ -7,6 +7,9 @@ pub mod Dones
 pub mod LoopLaws
 pub mod ArrayLaws
 pub mod QueueLaws
+pub mod EntryLaws
+pub mod FindLaws
 pub mod MarkLaws
 pub mod TryLaws
 pub mod DoneLaws
+pub mod BookLaws

@@ -30,24 +30,10 @@ use Rattle.table.specs.Lists.{IsNumbers}
 use Rattle.table.specs.Queues.{queueOf, UsableQueue, pastEntry}
 use Rattle.table.specs.Tries.{readyIn, attemptIn, tryFromIn, tryAllIn, gather, held, heldOf, updatesOf, Marked, More, freeBy, readyBy, startsBy, operationsOf, Tries}
 use Rattle.table.specs.LoopLaws.{take-push, take-next, mem-set, any-append}
+use Rattle.table.specs.EntryLaws.{usable-history}
 use Rattle.table.specs.MarkLaws.{gather-append, gather-map, marked-like, marked-more, free-is}
 
 -- ### Cells and the log
-
--- the histories of a usable entry
-pub usable-history : (e : Entry) → UsableEntry e → (u : Update) → Mem u (updatesOf e) → u .history < 16
-unfolding operationOf
-usable-history e w u m = go (e .count) (e .items) (omega (arith, w .few, w .long)) (λ i h. w .each i h .history) m
-  where
-    go : (n : ℕ) (l : List Item) → n ≤ length l → ((i : ℕ) → i < n → getD l i noItem .history < 16) → Mem u (map itemUpdate (take n l)) → u .history < 16
-    go zero [] q h k = absurd (List·Memᴰ·not-nil k)
-    go zero (x ∷ l) q h k = absurd (List·Memᴰ·not-nil k)
-    go (suc n) [] q h k = absurd (let z : suc n ≤ 0 = q in omega arith)
-    go (suc n) (x ∷ l) q h k = cases (List·Memᴰ·cases-cons k) (λ r. go n l (omega arith) (λ i p. h (suc i) (omega arith)) r)
-      where
-        cases : (u ≡ itemUpdate x) ⊎ Mem u (map itemUpdate (take n l)) → (Mem u (map itemUpdate (take n l)) → u .history < 16) → u .history < 16
-        cases (inl e) below = let z : u .history ≡ x .history = ap (λ (v : Update). v .history) e in omega (arith, h 0 (omega arith))
-        cases (inr r) below = below r
 
 try-log : (log : List Did) (tried xs : List Operation) → tryFromIn (logCells log) tried xs ≡ tryFrom log tried xs
 unfolding tryFromIn tryFrom attemptIn attempt readyIn ready mayRunIn mayRunNow

@@ -34,30 +34,52 @@ array-copy-out-x c = omega (arith, c .before .before .before .pre .0 .few)
 
 -- src/lib.rt:312:18
 cast-at : tie.Need-cast-at Inv-loop μ-loop
-cast-at c = record { fits = omega (arith, c .before .before .before .before .before .pre .0 .each (c .before .before .before .loop .i) (c .before .before .loop-test .taken) .history) }
+cast-at c = record {
+  fits = omega
+      (arith, c .before .before .before .before .before .pre .0 .each (c .before .before .before .loop .i) (c .before .before .loop-test .taken) .history);
+}
 
 -- src/lib.rt:313:17
 mul-h : tie.Need-mul-h Inv-loop μ-loop
-mul-h c = omega (arith, c .before .before .before .before .before .pre .0 .each (c .before .before .before .loop .i) (c .before .before .loop-test .taken) .history)
+mul-h c = omega (
+  arith,
+  c .before .before .before .before .before .pre .0 .each (c .before .before .before .loop .i)
+      (c .before .before .loop-test .taken) .history,
+)
 
 -- src/lib.rt:313:17
 array-copy-out-h : tie.Need-array-copy-out-h Inv-loop μ-loop
-array-copy-out-h c = omega (arith, c .before .before .before .before .before .pre .0 .each (c .before .before .before .loop .i) (c .before .before .loop-test .taken) .history)
+array-copy-out-h c = omega
+    (arith, c .before .before .before .before .before .pre .0 .each (c .before .before .before .loop .i) (c .before .before .loop-test .taken) .history)
 
 -- src/lib.rt:314:19
 apply-item-requires : tie.Need-apply-item-requires Inv-loop μ-loop
 apply-item-requires c κs =
-    let x = c .before .before .before .before .before .before .pre .0 .each (c .before .before .before .before .loop .i) (c .before .before .before .loop-test .taken) in
-    let l = c .before .before .before .before .loop in
-    (x, low-place (c .before .before .before .before .before .before .args .histories) (l .out) (c .before .before .before .before .before .before .args .e .items) (l .i) (l .inv .2) (c .before .before .before .before .before .before .pre .2) (omega (arith, c .before .before .before .before .before .before .pre .0 .few)) _ (x .history))
+    let x = c .before .before .before .before .before .before .pre .0 .each (c .before .before .before .before .loop .i)
+    (c .before .before .before .loop-test .taken) in
+    let l = c .before .before .before .before .loop in (
+      x,
+      low-place (c .before .before .before .before .before .before .args .histories) (l .out)
+          (c .before .before .before .before .before .before .args .e .items) (l .i) (l .inv .2)
+          (c .before .before .before .before .before .before .pre .2) (omega (arith, c .before .before .before .before .before .before .pre .0 .few)) _
+          (x .history),
+    )
 
 -- src/lib.rt:314:9
 mul-out : tie.Need-mul-out Inv-loop μ-loop
-mul-out c = omega (arith, c .before .before .before .before .before .before .before .pre .0 .each (c .before .before .before .before .before .loop .i) (c .before .before .before .before .loop-test .taken) .history)
+mul-out c = omega (
+  arith,
+  c .before .before .before .before .before .before .before .pre .0 .each (c .before .before .before .before .before .loop .i)
+      (c .before .before .before .before .loop-test .taken) .history,
+)
 
 -- src/lib.rt:314:9
 array-set-from-out : tie.Need-array-set-from-out Inv-loop μ-loop
-array-set-from-out c = omega (arith, c .before .before .before .before .before .before .before .pre .0 .each (c .before .before .before .before .before .loop .i) (c .before .before .before .before .loop-test .taken) .history)
+array-set-from-out c = omega (
+  arith,
+  c .before .before .before .before .before .before .before .pre .0 .each (c .before .before .before .before .before .loop .i)
+      (c .before .before .before .before .loop-test .taken) .history,
+)
 
 -- src/lib.rt:315:9
 add-i : tie.Need-add-i Inv-loop μ-loop

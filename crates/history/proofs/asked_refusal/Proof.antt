@@ -22,7 +22,8 @@ some-asked-requires c κs = search needs
 
 -- src/lib.rt:563:9
 returns-3 : tie.Need-returns-3
-returns-3 c = λ us e. refused-absent (c .before .before .before .before .args .n) (c .before .before .before .before .args .held) us e (c .before .before .before .if1 .left) (c .before .before .if2 .left) (c .before .some-asked .result) (c .before .some-asked .ensures) (c .if3 .taken)
+returns-3 c = λ us e. refused-absent (c .before .before .before .before .args .n) (c .before .before .before .before .args .held) us e
+    (c .before .before .before .if1 .left) (c .before .before .if2 .left) (c .before .some-asked .result) (c .before .some-asked .ensures) (c .if3 .taken)
 
 -- src/lib.rt:565:8
 is-twice-requires : tie.Need-is-twice-requires
@@ -31,7 +32,9 @@ is-twice-requires c κs = search needs
 -- src/lib.rt:566:9
 returns-4 : tie.Need-returns-4
 returns-4 c = λ us e.
-    refused-twice (c .before .before .before .before .before .before .args .n) (c .before .before .before .before .before .before .args .held) us e (c .before .before .before .before .before .if1 .left) (c .before .before .before .before .if2 .left) (c .before .before .before .some-asked .result) (c .before .before .before .some-asked .ensures) (c .before .before .if3 .left)
+    refused-twice (c .before .before .before .before .before .before .args .n) (c .before .before .before .before .before .before .args .held) us e
+    (c .before .before .before .before .before .if1 .left) (c .before .before .before .before .if2 .left)
+    (c .before .before .before .some-asked .result) (c .before .before .before .some-asked .ensures) (c .before .before .if3 .left)
     (c .before .is-twice .result) (c .before .is-twice .ensures) (c .if4 .taken)
 
 -- src/lib.rt:568:8
@@ -41,14 +44,24 @@ some-asked-requires-2 c κs = search needs
 -- src/lib.rt:569:9
 returns-5 : tie.Need-returns-5
 returns-5 c = λ us e.
-    refused-misfits (c .before .before .before .before .before .before .before .before .args .n) (c .before .before .before .before .before .before .before .before .args .held) us e (c .before .before .before .before .before .before .before .if1 .left) (c .before .before .before .before .before .before .if2 .left) (c .before .before .before .before .before .some-asked .result) (c .before .before .before .before .before .some-asked .ensures) (c .before .before .before .before .if3 .left)
-    (c .before .before .before .is-twice .result) (c .before .before .before .is-twice .ensures) (c .before .before .if4 .left) (c .before .some-asked2 .result) (c .before .some-asked2 .ensures) (c .if5 .taken)
+    refused-misfits (c .before .before .before .before .before .before .before .before .args .n)
+    (c .before .before .before .before .before .before .before .before .args .held) us e
+    (c .before .before .before .before .before .before .before .if1 .left) (c .before .before .before .before .before .before .if2 .left)
+    (c .before .before .before .before .before .some-asked .result) (c .before .before .before .before .before .some-asked .ensures)
+    (c .before .before .before .before .if3 .left)
+    (c .before .before .before .is-twice .result) (c .before .before .before .is-twice .ensures) (c .before .before .if4 .left)
+    (c .before .some-asked2 .result) (c .before .some-asked2 .ensures) (c .if5 .taken)
 
 -- src/lib.rt:551:1
 returns-6 : tie.Need-returns-6
 returns-6 c = λ us e.
-    passes-all (c .before .before .before .before .before .before .before .before .args .n) (c .before .before .before .before .before .before .before .before .args .held) us e (c .before .before .before .before .before .before .before .if1 .left) (c .before .before .before .before .before .before .if2 .left) (c .before .before .before .before .before .some-asked .result) (c .before .before .before .before .before .some-asked .ensures) (c .before .before .before .before .if3 .left)
-    (c .before .before .before .is-twice .result) (c .before .before .before .is-twice .ensures) (c .before .before .if4 .left) (c .before .some-asked2 .result) (c .before .some-asked2 .ensures) (c .if5 .left)
+    passes-all (c .before .before .before .before .before .before .before .before .args .n)
+    (c .before .before .before .before .before .before .before .before .args .held) us e
+    (c .before .before .before .before .before .before .before .if1 .left) (c .before .before .before .before .before .before .if2 .left)
+    (c .before .before .before .before .before .some-asked .result) (c .before .before .before .before .before .some-asked .ensures)
+    (c .before .before .before .before .if3 .left)
+    (c .before .before .before .is-twice .result) (c .before .before .before .is-twice .ensures) (c .before .before .if4 .left)
+    (c .before .some-asked2 .result) (c .before .some-asked2 .ensures) (c .if5 .left)
 
 pub asked-refusal-spec : {M : Type 1} → statement M
 asked-refusal-spec =

@@ -25,7 +25,8 @@ item-at-requires-4 c κs = search needs
 -- src/lib.rt:394:1
 returns : tie.Need-returns
 returns c =
-    done-line (c .before .before .before .before .args .e) (c .before .before .before .before .pre) (c .before .before .before .item-at .result) (c .before .before .item-at2 .result) (c .before .item-at3 .result) (c .item-at4 .result)
+    done-line (c .before .before .before .before .args .e) (c .before .before .before .before .pre) (c .before .before .before .item-at .result)
+    (c .before .before .item-at2 .result) (c .before .item-at3 .result) (c .item-at4 .result)
     (c .before .before .before .item-at .ensures) (c .before .before .item-at2 .ensures) (c .before .item-at3 .ensures) (c .item-at4 .ensures)
 
 pub done-entry-spec : {M : Type 1} → statement M

@@ -50,7 +50,9 @@ asked-refusal-requires c κs = search needs
 returns : tie.Need-returns
 returns c = λ xs e.
     c .asked-refusal .ensures (map changeUpdate xs)
-    (held-changes (c .before .before .before .before .before .before .before .before .before .before .args .held) xs e (c .before .before .before .before .asked-of .ensures) (c .before .before .before .asked-of2 .ensures) (c .before .before .asked-of3 .ensures) (c .before .asked-of4 .ensures))
+    (held-changes (c .before .before .before .before .before .before .before .before .before .before .args .held) xs e
+    (c .before .before .before .before .asked-of .ensures) (c .before .before .before .asked-of2 .ensures) (c .before .before .asked-of3 .ensures)
+    (c .before .asked-of4 .ensures))
     ∙ ap verdictOf (changes-refusal (c .before .before .before .before .before .before .before .before .before .before .args .n) xs)
 
 pub done-refusal-spec : {M : Type 1} → statement M

@@ -14,7 +14,8 @@ orders-requires c κs = search needs
 
 -- src/lib.rt:197:1
 returns : tie.Need-returns
-returns c = ran-ordered (cellOf (c .before .before .before .before .args .h)) (c .before .before .before .before .args .x) (sym (c .before .before .before .orders .ensures) ∙ c .before .before .if1 .taken)
+returns c = ran-ordered (cellOf (c .before .before .before .before .args .h)) (c .before .before .before .before .args .x)
+    (sym (c .before .before .before .orders .ensures) ∙ c .before .before .if1 .taken)
 
 -- src/lib.rt:197:1
 returns-2 : tie.Need-returns-2

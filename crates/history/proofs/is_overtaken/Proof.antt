@@ -18,7 +18,8 @@ returns c = overtaken-strong (cellOf (c .before .before .args .h)) (c .before .b
 
 -- src/lib.rt:209:1
 returns-2 : tie.Need-returns-2
-returns-2 c = overtaken-weak (cellOf (c .before .before .before .before .args .h)) (c .before .before .before .before .args .x) (sym (c .before .before .before .is-strong .ensures) ∙ c .before .before .if1 .left)
+returns-2 c = overtaken-weak (cellOf (c .before .before .before .before .args .h)) (c .before .before .before .before .args .x)
+    (sym (c .before .before .before .is-strong .ensures) ∙ c .before .before .if1 .left)
 
 pub is-overtaken-spec : {M : Type 1} → statement M
 is-overtaken-spec = tie.close (tie.spec is-strong-requires returns returns-2)

@@ -31,11 +31,14 @@ enum-told-4 c = search needs
 
 -- src/lib.rt:53:1
 returns : tie.Need-returns
-returns c = rw (c .before .before .before .before .before .enum-told .given .1) (let a = c .before .before .before .before .before .before .before .args in eqb-iff (a .u .0 - a .c .0) 1 (a .u .0) (a .c .0 + 1) (λ e. omega arith) (λ e. omega arith))
+returns c = rw (c .before .before .before .before .before .enum-told .given .1)
+    (let a = c .before .before .before .before .before .before .before .args in eqb-iff (a .u .0 - a .c .0) 1 (a .u .0) (a .c .0 + 1)
+    (λ e. omega arith) (λ e. omega arith))
 
 -- src/lib.rt:53:1
 returns-2 : tie.Need-returns-2
-returns-2 c = rw (c .before .before .before .enum-told .given .1) (let a = c .before .before .before .before .before .args in sym (ne-eqb (a .u .0) (a .c .0 + 1) (λ e. omega arith)))
+returns-2 c = rw (c .before .before .before .enum-told .given .1)
+    (let a = c .before .before .before .before .before .args in sym (ne-eqb (a .u .0) (a .c .0 + 1) (λ e. omega arith)))
 
 -- src/lib.rt:53:1
 returns-3 : tie.Need-returns-3

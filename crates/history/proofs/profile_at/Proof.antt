@@ -24,7 +24,8 @@ mul-h c = search needs
 
 -- src/lib.rt:463:13
 array-copy-out-h : tie.Need-array-copy-out-h
-array-copy-out-h c = subst (λ (x : Item). x .history < 16) (sym (c .before .item-at .ensures)) (usable-at (c .before .before .args .e) (c .before .before .pre .0) (c .before .before .args .i) .history)
+array-copy-out-h c = subst (λ (x : Item). x .history < 16) (sym (c .before .item-at .ensures))
+    (usable-at (c .before .before .args .e) (c .before .before .pre .0) (c .before .before .args .i) .history)
 
 -- src/lib.rt:464:5
 cast-result : tie.Need-cast-result

@@ -39,7 +39,8 @@ returns : tie.Need-returns Inv-loop μ-loop
 returns c =
     let a = c .before .before .before .before .before .before .args in
     sym (any-hit (asked (a .t)) (a .held .first) noAsked (c .before .before .before .before .loop .i) (a .k) (c .before .before .before .loop-test .taken)
-    (omega (arith, c .before .before .before .before .before .before .pre .0, c .before .before .before .before .before .before .pre .1)) (sym (c .before .asked-test .ensures) ∙ c .if1 .taken))
+    (omega (arith, c .before .before .before .before .before .before .pre .0, c .before .before .before .before .before .before .pre .1))
+    (sym (c .before .asked-test .ensures) ∙ c .if1 .taken))
 
 -- src/lib.rt:524:9
 add-i : tie.Need-add-i Inv-loop μ-loop
@@ -54,7 +55,8 @@ loop-again : tie.Need-loop-again Inv-loop μ-loop
 loop-again c =
     let a = c .before .before .before .before .before .before .args in (
       omega arith,
-      any-next (asked (a .t)) (a .held .first) noAsked (c .before .before .before .before .loop .i) (omega (arith, c .before .before .before .before .before .before .pre .0, c .before .before .before .before .before .before .pre .1))
+      any-next (asked (a .t)) (a .held .first) noAsked (c .before .before .before .before .loop .i)
+          (omega (arith, c .before .before .before .before .before .before .pre .0, c .before .before .before .before .before .before .pre .1))
           (c .before .before .before .before .loop .inv .1) (sym (c .before .asked-test .ensures) ∙ c .if1 .left),
     )
 
@@ -62,7 +64,8 @@ loop-again c =
 returns-2 : tie.Need-returns-2 Inv-loop μ-loop
 returns-2 c =
     let q : c .before .loop .i ≡ c .before .before .before .args .k = omega arith in
-    sym (ap (λ (n : ℕ). any (asked (c .before .before .before .args .t)) (take n (c .before .before .before .args .held .first))) (sym q) ∙ c .before .loop .inv .1)
+    sym (ap (λ (n : ℕ). any (asked (c .before .before .before .args .t)) (take n (c .before .before .before .args .held .first))) (sym q)
+    ∙ c .before .loop .inv .1)
 
 pub some-asked-spec : {M : Type 1} → statement M
 some-asked-spec =

@@ -33,7 +33,10 @@ array-copy-out-x c = omega (arith, c .before .before .before .pre .few)
 
 -- src/lib.rt:242:18
 cast-at : tie.Need-cast-at Inv-loop μ-loop
-cast-at c = record { fits = omega (arith, c .before .before .before .before .before .pre .each (c .before .before .before .loop .i) (c .before .before .loop-test .taken) .history) }
+cast-at c = record {
+  fits = omega
+      (arith, c .before .before .before .before .before .pre .each (c .before .before .before .loop .i) (c .before .before .loop-test .taken) .history);
+}
 
 -- src/lib.rt:243:17
 mul-h : tie.Need-mul-h Inv-loop μ-loop
@@ -41,7 +44,8 @@ mul-h c = omega (arith, c .before .before .before .before .before .pre .each (c 
 
 -- src/lib.rt:243:17
 array-copy-out-h : tie.Need-array-copy-out-h Inv-loop μ-loop
-array-copy-out-h c = omega (arith, c .before .before .before .before .before .pre .each (c .before .before .before .loop .i) (c .before .before .loop-test .taken) .history)
+array-copy-out-h c = omega
+    (arith, c .before .before .before .before .before .pre .each (c .before .before .before .loop .i) (c .before .before .loop-test .taken) .history)
 
 -- src/lib.rt:244:12
 item-test-requires : tie.Need-item-test-requires Inv-loop μ-loop
@@ -52,7 +56,8 @@ returns : tie.Need-returns Inv-loop μ-loop
 returns c =
     let a = c .before .before .before .before .before .before .before .before .args in
     let v = c .before .before .before .before .before .before .before .before .pre in
-    sym (any-hit (testIn (a .t) (cellsOf (a .t2))) (a .e .items) noItem (c .before .before .before .before .before .before .loop .i) (a .e .count) (c .before .before .before .before .before .loop-test .taken)
+    sym (any-hit (testIn (a .t) (cellsOf (a .t2))) (a .e .items) noItem (c .before .before .before .before .before .before .loop .i) (a .e .count)
+    (c .before .before .before .before .before .loop-test .taken)
     (omega (arith, v .few, v .long)) (sym (c .before .item-test .ensures) ∙ c .if1 .taken))
 
 -- src/lib.rt:247:9
@@ -69,7 +74,8 @@ loop-again c =
     let a = c .before .before .before .before .before .before .before .before .args in
     let v = c .before .before .before .before .before .before .before .before .pre in (
       omega arith,
-      any-next (testIn (a .t) (cellsOf (a .t2))) (a .e .items) noItem (c .before .before .before .before .before .before .loop .i) (omega (arith, v .few, v .long))
+      any-next (testIn (a .t) (cellsOf (a .t2))) (a .e .items) noItem (c .before .before .before .before .before .before .loop .i)
+          (omega (arith, v .few, v .long))
           (c .before .before .before .before .before .before .loop .inv .1) (sym (c .before .item-test .ensures) ∙ c .if1 .left),
     )
 
@@ -77,7 +83,8 @@ loop-again c =
 returns-2 : tie.Need-returns-2 Inv-loop μ-loop
 returns-2 c =
     let q : c .before .loop .i ≡ c .before .before .before .args .e .count = omega arith in
-    sym (ap (λ (k : ℕ). any (testIn (c .before .before .before .args .t) (cellsOf (c .before .before .before .args .t2))) (take k (c .before .before .before .args .e .items))) (sym q) ∙ c .before .loop .inv .1)
+    sym (ap (λ (k : ℕ). any (testIn (c .before .before .before .args .t) (cellsOf (c .before .before .before .args .t2)))
+    (take k (c .before .before .before .args .e .items))) (sym q) ∙ c .before .loop .inv .1)
 
 pub some-item-spec : {M : Type 1} → statement M
 some-item-spec =

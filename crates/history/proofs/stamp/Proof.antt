@@ -27,7 +27,8 @@ stamp-at-requires-4 c κs = search needs
 -- src/lib.rt:440:1
 returns : tie.Need-returns
 returns c =
-    stamps (cellsOf (c .before .before .before .before .args .histories)) (c .before .before .before .before .args .e) (c .before .before .before .before .pre .0) _
+    stamps (cellsOf (c .before .before .before .before .args .histories)) (c .before .before .before .before .args .e)
+    (c .before .before .before .before .pre .0) _
     (four-eq (c .before .before .before .stamp-at .ensures) (c .before .before .stamp-at2 .ensures) (c .before .stamp-at3 .ensures) (c .stamp-at4 .ensures))
 
 pub stamp-spec : {M : Type 1} → statement M

@@ -29,7 +29,8 @@ mul-h c = search needs
 
 -- src/lib.rt:435:13
 array-copy-out-h : tie.Need-array-copy-out-h
-array-copy-out-h c = subst (λ (x : Item). x .history < 16) (sym (c .before .item-at .ensures)) (usable-at (c .before .before .args .e) (c .before .before .pre .0) (c .before .before .args .i) .history)
+array-copy-out-h c = subst (λ (x : Item). x .history < 16) (sym (c .before .item-at .ensures))
+    (usable-at (c .before .before .args .e) (c .before .before .pre .0) (c .before .before .args .i) .history)
 
 -- src/lib.rt:436:5
 stamp-item-requires : tie.Need-stamp-item-requires
@@ -43,7 +44,8 @@ stamp-item-requires c κs =
 
 -- src/lib.rt:429:1
 returns : tie.Need-returns
-returns c = c .stamp-item .ensures ∙ ap (λ (x : Item). stamped (cellsOf (c .before .before .before .before .args .t1) (x .history)) x) (c .before .before .before .item-at .ensures)
+returns c = c .stamp-item .ensures ∙ ap (λ (x : Item). stamped (cellsOf (c .before .before .before .before .args .t1) (x .history)) x)
+    (c .before .before .before .item-at .ensures)
 
 pub stamp-at-spec : {M : Type 1} → statement M
 stamp-at-spec =

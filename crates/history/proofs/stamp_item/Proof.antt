@@ -28,7 +28,14 @@ returns : tie.Need-returns
 returns c =
     let x = c .before .before .before .before .before .args .x in
     let h = c .before .before .before .before .before .args .h in
-    ap₂ {C = Item} (λ (r : Rule) (v : ℕ). record { rule = r; history = x .history; version = record { 0 = v }; place = record { 0 = h .place .0 + 1 }; operand = x .operand })
+    ap₂ {C = Item}
+    (λ (r : Rule) (v : ℕ). record {
+      rule = r;
+      history = x .history;
+      version = record { 0 = v };
+      place = record { 0 = h .place .0 + 1 };
+      operand = x .operand;
+    })
     (c .before .logged-as .ensures) (c .before .before .version-after .ensures)
 
 pub stamp-item-spec : {M : Type 1} → statement M

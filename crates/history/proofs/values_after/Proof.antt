@@ -43,7 +43,8 @@ array-write-values-4 c = search needs
 -- src/lib.rt:468:1
 returns : tie.Need-returns
 returns c =
-    values-held (c .before .before .before .before .args .e) (c .before .before .before .before .pre) (cellsOf (c .before .before .before .before .args .histories)) _ refl
+    values-held (c .before .before .before .before .args .e) (c .before .before .before .before .pre)
+    (cellsOf (c .before .before .before .before .args .histories)) _ refl
     (c .before .before .before .profile-at .ensures) (c .before .before .profile-at2 .ensures) (c .before .profile-at3 .ensures) (c .profile-at4 .ensures)
 
 pub values-after-spec : {M : Type 1} → statement M

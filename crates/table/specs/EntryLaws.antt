@@ -1,0 +1,44 @@
+-- Laws of entries against the rule book's operations and did lines: their histories, and whether a line can run.
+use Prim.Native.Nat.{ℕ, zero, suc, _≤_, _<_}
+use native.Mathlib.Omega.{arith}
+use mathlib.Core.Path.{_≡_, refl, ap, _∙_}
+use mathlib.Core.Logic.{_⊎_, inl, inr}
+use mathlib.Core.List.{List, [], _∷_, map}
+use mathlib.Core.List.{List·Memᴰ as Mem, List·Memᴰ·not-nil, List·Memᴰ·cases-cons}
+use lib.ListN.{length, getD, take}
+use Rattle.forms.specs.Forms.{Update, Change, Did}
+use Rattle.rules.specs.Book.{Cell, cell, runsAt, canRun}
+use Rattle.history.specs.declared.History.{History}
+use Rattle.history.specs.declared.Item.{Item}
+use Rattle.history.specs.declared.Entry.{Entry}
+use Rattle.history.specs.Entries.{cellsOf, noItem, itemUpdate, itemChange, operationOf, didOfEntry, canRunIn, UsableEntry}
+use Rattle.history.specs.Tests.{all-agree}
+use Rattle.table.specs.Queues.{canRunEntry}
+use Rattle.table.specs.Tries.{updatesOf}
+
+-- what is made of the items of a usable entry keeps their histories
+item-low : {B : Type 0} (f : Item → B) (history : B → ℕ) → ((x : Item) → history (f x) ≡ x .history) → (e : Entry) → UsableEntry e
+    → (b : B) → Mem b (map f (take (e .count) (e .items))) → history b < 16
+item-low {B} f history same e w b m = go (e .count) (e .items) (omega (arith, w .few, w .long)) (λ i h. w .each i h .history) m
+  where
+    go : (n : ℕ) (l : List Item) → n ≤ length l → ((i : ℕ) → i < n → getD l i noItem .history < 16) → Mem b (map f (take n l)) → history b < 16
+    go zero [] q h k = absurd (List·Memᴰ·not-nil k)
+    go zero (x ∷ l) q h k = absurd (List·Memᴰ·not-nil k)
+    go (suc n) [] q h k = absurd (let z : suc n ≤ 0 = q in omega arith)
+    go (suc n) (x ∷ l) q h k = cases (List·Memᴰ·cases-cons k) (λ r. go n l (omega arith) (λ i p. h (suc i) (omega arith)) r)
+      where
+        cases : (b ≡ f x) ⊎ Mem b (map f (take n l)) → (Mem b (map f (take n l)) → history b < 16) → history b < 16
+        cases (inl e) below = let z : history b ≡ x .history = ap history e ∙ same x in omega (arith, h 0 (omega arith))
+        cases (inr r) below = below r
+
+pub usable-history : (e : Entry) → UsableEntry e → (u : Update) → Mem u (updatesOf e) → u .history < 16
+unfolding operationOf
+usable-history e w u m = item-low itemUpdate (λ (v : Update). v .history) (λ x. refl) e w u m
+
+-- An entry can run against the cells of the histories where it can against the log that they stand for.
+pub can-run-is : (log : List Did) (hs : List History) (e : Entry) → ((h : ℕ) → h < 16 → cellsOf hs h ≡ cell h log) → UsableEntry e
+    → canRunEntry (cellsOf hs) e ≡ canRun log (didOfEntry e)
+unfolding canRunIn canRun didOfEntry
+can-run-is log hs e same w =
+    all-agree _ _ (didOfEntry e .changes)
+    (λ x m. ap (λ (c : Cell). runsAt c x) (same (x .history) (item-low itemChange (λ (y : Change). y .history) (λ y. refl) e w x m)))

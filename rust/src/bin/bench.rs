@@ -1,0 +1,257 @@
+//! Measures the programs on the same input: this one, the proved library where it is linked,
+//! and, for one figure, SQLite where it is installed.
+
+use std::fs;
+use std::hint::black_box;
+use std::io::{self, Write};
+use std::process::{Command, Stdio};
+use std::time::{Duration, Instant};
+
+use second::forms::{Operation, Rule, Update};
+use second::program::{self, Program};
+use second::rules::Rules;
+use second::site::Site;
+
+/// How long a figure is measured, in each of several turns of which the best counts.
+const TURN: Duration = Duration::from_millis(200);
+const TURNS: usize = 5;
+
+/// How many operations a session adds and finishes.
+const OPERATIONS: usize = 2000;
+
+/// How many transactions SQLite is given.
+const TRANSACTIONS: usize = 20_000;
+
+/// Something to measure: each run of it does some units of work.
+struct Figure {
+    name: &'static str,
+    unit: &'static str,
+    work: f64,
+    run: Run,
+}
+
+type Run = Box<dyn Fn(&dyn Program)>;
+
+fn main() {
+    println!("{}, {} build\n", machine(), if cfg!(debug_assertions) { "debug" } else { "release" });
+    let programs = program::all();
+    print!("{:42}", "");
+    programs.iter().for_each(|program| print!("{:>18}", program.name()));
+    println!("{:>10}", if programs.len() > 1 { "times" } else { "" });
+    figures().iter().for_each(|figure| report(figure, &programs));
+    let turns = (0..TURNS).map(|_| rate(2.0 * OPERATIONS as f64, finish_in_place));
+    let in_place = turns.fold(0.0, f64::max);
+    report_beside("add and finish without text", "calls/s", in_place);
+    match transactions_per_second() {
+        Ok(rate) => report_beside("SQLite, one an operation", "commits/s", rate),
+        Err(error) => println!("SQLite is left out: sqlite3 does not run ({error})."),
+    }
+}
+
+/// The processor's name, where the system tells it.
+fn machine() -> String {
+    let told = fs::read_to_string("/proc/cpuinfo").unwrap_or_default();
+    let name = told.lines().find_map(|line| line.strip_prefix("model name")?.split(": ").nth(1));
+    name.unwrap_or("unknown processor").to_string()
+}
+
+/// Prints a figure for each program, and how many times faster the first is than the last.
+/// The programs take turns, so that what else the machine does meets all of them.
+fn report(figure: &Figure, programs: &[Box<dyn Program>]) {
+    print!("{:30}{:>12}", figure.name, figure.unit);
+    let mut best = vec![0.0; programs.len()];
+    for _ in 0..TURNS {
+        for (program, best) in programs.iter().zip(&mut best) {
+            *best = rate(figure.work, || (figure.run)(program.as_ref())).max(*best);
+        }
+    }
+    best.iter().for_each(|rate| print!("{rate:>18.0}"));
+    match best.as_slice() {
+        [first, .., last] => println!("{:>10.2}", first / last),
+        _ => println!(),
+    }
+}
+
+/// Prints a figure that only one program has.
+fn report_beside(name: &str, unit: &str, rate: f64) {
+    println!("{name:30}{unit:>12}{rate:>18.0}");
+}
+
+/// The units a second in one turn.
+fn rate(work: f64, run: impl Fn()) -> f64 {
+    let start = Instant::now();
+    let mut runs = 0.0;
+    while start.elapsed() < TURN {
+        run();
+        runs += 1.0;
+    }
+    runs * work / start.elapsed().as_secs_f64()
+}
+
+fn figures() -> Vec<Figure> {
+    let log = full_log();
+    vec![
+        session("add and finish", added_and_finished(OPERATIONS)),
+        session("redo of 64 lines in order", redone(false)),
+        session("redo of 64 lines in reverse", redone(true)),
+        session("mixed session", mixed()),
+        restart(log.clone()),
+        hand_out(log),
+    ]
+}
+
+/// A session measured from text to text, in calls.
+fn session(name: &'static str, input: String) -> Figure {
+    let lines = input.lines().count();
+    Figure {
+        name,
+        unit: "calls/s",
+        work: lines as f64,
+        run: Box::new(move |program| {
+            let mut log = vec![0; Site::LONGEST_LOG];
+            let mut out = vec![0; 200 * lines];
+            let length = program.session(black_box(input.as_bytes()), &mut log, &mut out);
+            assert!(black_box(length).is_some(), "the replies fit");
+        }),
+    }
+}
+
+fn restart(log: Vec<u8>) -> Figure {
+    Figure {
+        name: "restart from a full log",
+        unit: "MB/s",
+        work: log.len() as f64 / 1e6,
+        run: Box::new(move |program| {
+            let mut out = [0; 64];
+            let length = program.restart(black_box(&log), log.len(), &mut out);
+            assert!(black_box(&out[..length]).starts_with(b"(ok "), "the log restarts");
+        }),
+    }
+}
+
+/// A full keeper that hands out all it has.
+fn hand_out(log: Vec<u8>) -> Figure {
+    let first = log.iter().position(|&byte| byte == b'\n').map_or(0, |end| end + 1);
+    let buffer = log[first..].to_vec();
+    Figure {
+        name: "keeper hands out all lines",
+        unit: "MB/s",
+        work: buffer.len() as f64 / 1e6,
+        run: Box::new(move |program| {
+            let mut out = vec![0; buffer.len()];
+            let handed = program.hand_out(black_box(&buffer), buffer.len(), &[0; 16], &mut out);
+            assert_eq!(black_box(handed), Ok(buffer.len()));
+        }),
+    }
+}
+
+/// `(add ..)` of the operation with this number, in one of four histories.
+fn add_line(number: usize) -> String {
+    let (history, version, operand) = (number % 4, number / 4 + 1, number % 1024);
+    format!("(add {number} (inc {history} {version} {operand}))\n")
+}
+
+/// Operations added and finished one by one, with marks that keep the table small.
+fn added_and_finished(operations: usize) -> String {
+    let mut input = "(site 4)\n".to_string();
+    for number in 0..operations {
+        input += &format!("{}(finish {number})\n", add_line(number));
+        if number % 32 == 31 {
+            input += &format!("(persistent {0})\n(stable {0})\n", number + 1);
+        }
+    }
+    input
+}
+
+/// The log that they leave, which nearly fills the buffer.
+fn full_log() -> Vec<u8> {
+    let mut log = vec![0; Site::LONGEST_LOG];
+    second::session::run(added_and_finished(3000).as_bytes(), &mut log, Rules::PAPER);
+    let used = log.iter().rposition(|&byte| byte == b'\n').map_or(0, |end| end + 1);
+    log.truncate(used);
+    log
+}
+
+/// 64 lines redone again and again from an empty log.
+fn redone(reverse: bool) -> String {
+    let mut lines: Vec<String> = (0..64)
+        .map(|number| {
+            let (history, next) = (number % 4, number / 4 + 1);
+            format!("(redo (did {number} (inc {history} {next} {next} 7)))\n")
+        })
+        .collect();
+    if reverse {
+        lines.reverse();
+    }
+    format!("(site 4)\n{}", format!("(cut 9)\n{}", lines.concat()).repeat(50))
+}
+
+/// A session with waiting operations, readers, refusals and marks.
+fn mixed() -> String {
+    let mut input = "(site 2)\n".to_string();
+    for round in 0..200 {
+        let (id, version) = (round * 3, round * 2);
+        let (next, last) = (version + 1, version + 2);
+        input += &format!("(add {id} (inc 0 {next} 513)(not 1 {version} 0))\n");
+        input += &format!("(add {} (inc 0 {last} 7)(set 1 {last} 1000))\n", id + 1);
+        input += &format!("(add {} (not 0 {last} 0))\n", id + 2);
+        for ready in id..id + 3 {
+            input += &format!("(finish {ready})\n");
+        }
+        input += "(add 5 (inc 0 0 0)\n(add 5 (inc 0 0 0))\n(show 0)\n(show 1)\n";
+        input += &format!("(persistent {0})\n(stable {0})\n", id + 3);
+    }
+    input
+}
+
+/// Adds and finishes operations by the site's own calls, without text.
+fn finish_in_place() {
+    let mut log = vec![0; Site::LONGEST_LOG];
+    let mut site = Site::open(4, &mut log, Rules::PAPER).expect("a site");
+    for id in 0..OPERATIONS as u64 {
+        let update = Update { rule: Rule::Inc, history: id % 4, version: id / 4 + 1, operand: 7 };
+        let operation = Operation { id, updates: [update].into_iter().collect() };
+        site.add(black_box(operation)).expect("it fits");
+        site.finish(black_box(id), &mut log).expect("it is in progress");
+        if id % 32 == 31 {
+            site.make_persistent(id + 1).expect("it is done");
+            site.make_stable(id + 1).expect("it is persistent");
+        }
+    }
+    black_box(site);
+}
+
+/// SQLite in memory, by its command line program: one transaction an operation.
+fn transactions_per_second() -> io::Result<f64> {
+    let tables = "CREATE TABLE history(number INTEGER PRIMARY KEY, profile, version, place);\n\
+                  CREATE TABLE log(number INTEGER PRIMARY KEY, id, rule, history, version, operand);\n\
+                  INSERT INTO history VALUES (0,0,0,0),(1,0,0,0),(2,0,0,0),(3,0,0,0);\n";
+    let mut script = tables.to_string();
+    for number in 0..TRANSACTIONS {
+        let (history, version, operand) = (number % 4, number / 4 + 1, number % 256);
+        script += &format!(
+            "BEGIN; UPDATE history SET profile = (profile & ~255) | {operand}, version = {version}, \
+             place = place + 1 WHERE number = {history} AND version = {version} - 1; \
+             INSERT INTO log VALUES ({number}, {number}, 'inc', {history}, {version}, {operand}); \
+             COMMIT;\n"
+        );
+    }
+    let empty = sqlite_seconds(tables)?;
+    let whole = sqlite_seconds(&script)?;
+    Ok(TRANSACTIONS as f64 / (whole - empty))
+}
+
+/// How long the command line program takes for a script.
+fn sqlite_seconds(script: &str) -> io::Result<f64> {
+    let start = Instant::now();
+    let mut child = Command::new("sqlite3").arg(":memory:").stdin(Stdio::piped()).spawn()?;
+    let mut input = child.stdin.take().expect("its input is a pipe");
+    input.write_all(script.as_bytes())?;
+    drop(input);
+    let status = child.wait()?;
+    if status.success() {
+        Ok(start.elapsed().as_secs_f64())
+    } else {
+        Err(io::Error::other(format!("it ended with {status}")))
+    }
+}

@@ -1,0 +1,19 @@
+//! The fitting ledger a second time, from its paper (document 01) alone.
+//!
+//! From the bottom up: [`forms`] are the things that lines say, [`reader`] and [`writer`]
+//! turn bytes into them and back, [`rules`] decides, [`site`] and [`keeper`] carry the state,
+//! [`session`] turns a text of commands into a text of replies. [`program`] is the face that
+//! a test or a benchmark sees; the proved library shows the same face in `library`.
+
+pub mod few;
+pub mod forms;
+pub mod keeper;
+#[cfg(feature = "library")]
+pub mod library;
+pub mod program;
+pub mod reader;
+pub mod refusal;
+pub mod rules;
+pub mod session;
+pub mod site;
+pub mod writer;

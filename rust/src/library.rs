@@ -1,0 +1,121 @@
+//! The proved library, linked as a static library, behind safe functions.
+
+use crate::keeper::Places;
+use crate::program::{Outcome, Program};
+
+/// The library's functions. A slice passes as its address and its length.
+mod linked {
+    extern "C" {
+        pub fn session_whole(
+            input: *const u8,
+            input_length: usize,
+            log: *mut u8,
+            log_length: usize,
+            out: *mut u8,
+            out_length: usize,
+        ) -> usize;
+
+        pub fn site_restart(
+            log: *const u8,
+            log_length: usize,
+            kept: usize,
+            out: *mut u8,
+            out_length: usize,
+        ) -> usize;
+
+        pub fn keeper_keep(
+            buffer: *mut u8,
+            buffer_length: usize,
+            used: usize,
+            line: *const u8,
+            line_length: usize,
+        ) -> u64;
+
+        pub fn keeper_drop(
+            buffer: *mut u8,
+            buffer_length: usize,
+            used: usize,
+            history: u64,
+            place: u64,
+        ) -> u64;
+
+        pub fn keeper_hand_out(
+            buffer: *const u8,
+            buffer_length: usize,
+            used: usize,
+            places: *const u64,
+            places_length: usize,
+            out: *mut u8,
+            out_length: usize,
+        ) -> u64;
+    }
+}
+
+/// The library as a program.
+pub struct Library;
+
+// Each call lends the library slices that are valid and, where it writes, borrowed by nobody
+// else until it returns. It keeps none of them.
+impl Program for Library {
+    fn name(&self) -> &str {
+        "library"
+    }
+
+    fn session(&self, input: &[u8], log: &mut [u8], out: &mut [u8]) -> Option<usize> {
+        // SAFETY: see above.
+        let length = unsafe {
+            linked::session_whole(
+                input.as_ptr(),
+                input.len(),
+                log.as_mut_ptr(),
+                log.len(),
+                out.as_mut_ptr(),
+                out.len(),
+            )
+        };
+        (length != usize::MAX).then_some(length)
+    }
+
+    fn restart(&self, log: &[u8], kept: usize, out: &mut [u8]) -> usize {
+        // SAFETY: see above.
+        unsafe { linked::site_restart(log.as_ptr(), log.len(), kept, out.as_mut_ptr(), out.len()) }
+    }
+
+    fn keep(&self, buffer: &mut [u8], used: usize, line: &[u8]) -> Outcome {
+        // SAFETY: see above.
+        outcome(unsafe {
+            let (address, length) = (buffer.as_mut_ptr(), buffer.len());
+            linked::keeper_keep(address, length, used, line.as_ptr(), line.len())
+        })
+    }
+
+    fn drop_up_to(&self, buffer: &mut [u8], used: usize, history: u64, place: u64) -> Outcome {
+        // SAFETY: see above.
+        outcome(unsafe {
+            linked::keeper_drop(buffer.as_mut_ptr(), buffer.len(), used, history, place)
+        })
+    }
+
+    fn hand_out(&self, buffer: &[u8], used: usize, kept: &Places, out: &mut [u8]) -> Outcome {
+        // SAFETY: see above.
+        outcome(unsafe {
+            linked::keeper_hand_out(
+                buffer.as_ptr(),
+                buffer.len(),
+                used,
+                kept.as_ptr(),
+                kept.len(),
+                out.as_mut_ptr(),
+                out.len(),
+            )
+        })
+    }
+}
+
+/// Below 1,000 it is a refusal's number, else 1,000 more than a number of bytes.
+fn outcome(code: u64) -> Outcome {
+    match code.checked_sub(1000) {
+        Some(bytes) => Ok(bytes as usize),
+        None => Err(code),
+    }
+}

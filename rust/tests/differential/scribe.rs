@@ -1,0 +1,360 @@
+//! Writes random sessions. A session of this program runs along, so that most lines fit the
+//! state they meet; what the programs under comparison answer plays no part.
+
+use second::forms::Rule;
+use second::rules::Rules;
+use second::session::Session;
+use second::site::{History, Site};
+
+use crate::damage;
+use crate::made_up::{self, Care, Now};
+use crate::random::{Random, EDGES};
+
+/// What a session is like.
+#[derive(Clone, Copy)]
+pub struct Mood {
+    pub histories: u64,
+    /// The bytes of the log buffer.
+    pub room: usize,
+    pub care: Care,
+    /// How often, in a hundred, a line is damaged.
+    pub damage: u64,
+    /// Whether operations stay live and the table fills up.
+    pub hoards: bool,
+}
+
+impl Mood {
+    pub fn any(random: &mut Random) -> Mood {
+        let room = match random.below(20) {
+            0 => random.between(0, 40),
+            1..=7 => random.between(40, 400),
+            8..=13 => random.between(500, 3500),
+            14 => random.between(65_530, 65_540),
+            _ => Site::LONGEST_LOG,
+        };
+        Mood {
+            histories: random.pick(&[1, 1, 2, 2, 3, 4, 8, 16, 16]),
+            room,
+            care: Care { fits: random.pick(&[60, 80, 90, 97]), edges: random.pick(&[0, 0, 4, 20]) },
+            damage: random.pick(&[0, 0, 3, 12]),
+            hoards: random.percent(25),
+        }
+    }
+
+    /// A mood in which much gets done.
+    pub fn careful(random: &mut Random) -> Mood {
+        let histories = random.pick(&[1, 2, 3, 4, 6, 16]);
+        let hoards = random.percent(50);
+        let room = Site::LONGEST_LOG;
+        Mood { histories, room, care: Care { fits: 95, edges: 1 }, damage: 1, hoards }
+    }
+}
+
+#[derive(Clone, Copy, PartialEq)]
+enum Kind {
+    Site,
+    Add,
+    Finish,
+    Withdraw,
+    Persistent,
+    Stable,
+    Show,
+    Cut,
+    Redo,
+    End,
+    Long,
+}
+
+/// How often each kind of line comes while the site works, works and hoards, or restores.
+const KINDS: [(Kind, [u64; 3]); 11] = [
+    (Kind::Site, [1, 0, 1]),
+    (Kind::Add, [36, 110, 2]),
+    (Kind::Finish, [34, 80, 1]),
+    (Kind::Withdraw, [5, 5, 1]),
+    (Kind::Persistent, [7, 2, 5]),
+    (Kind::Stable, [5, 1, 3]),
+    (Kind::Show, [4, 2, 4]),
+    (Kind::Cut, [3, 1, 5]),
+    (Kind::Redo, [1, 0, 70]),
+    (Kind::End, [1, 0, 5]),
+    (Kind::Long, [1, 0, 1]),
+];
+
+/// Writes a session line by line.
+pub struct Scribe<'r> {
+    pub random: &'r mut Random,
+    pub session: Session,
+    pub log: Vec<u8>,
+    /// The lines so far, each with its end.
+    pub pieces: Vec<Vec<u8>>,
+    mood: Mood,
+    /// The ids so far.
+    ids: Vec<u64>,
+    /// Did lines that cuts have lost.
+    lost: Vec<String>,
+}
+
+impl<'r> Scribe<'r> {
+    pub fn new(random: &'r mut Random, mood: Mood) -> Scribe<'r> {
+        Scribe {
+            random,
+            session: Session::new(Rules::PAPER),
+            log: vec![0; mood.room],
+            pieces: Vec::new(),
+            mood,
+            ids: Vec::new(),
+            lost: Vec::new(),
+        }
+    }
+
+    /// Writes the site line, as a rule, and this many lines behind it.
+    pub fn write(&mut self, lines: usize) {
+        while self.random.percent(8) {
+            self.step();
+        }
+        let open = format!("(site {})", self.mood.histories);
+        self.say(open.as_bytes());
+        for _ in 0..lines {
+            self.step();
+        }
+    }
+
+    /// Writes this many lines that get work done, without marks and cuts.
+    pub fn work(&mut self, lines: usize) {
+        self.say(b"(end)");
+        for _ in 0..lines {
+            let kind = if self.pending_ids(true).is_empty() { Kind::Add } else { Kind::Finish };
+            let kind = self.random.weighted(&[(8, kind), (4, Kind::Add), (1, Kind::Withdraw)]);
+            let line = self.line_of(kind);
+            self.say(&line);
+        }
+    }
+
+    /// Adds a line without its end.
+    pub fn leave_rest(&mut self) {
+        let rest = self.next_line();
+        self.pieces.push(rest);
+    }
+
+    /// Writes a line and lets the session answer it.
+    fn say(&mut self, line: &[u8]) {
+        let used = self.used();
+        let _ = self.session.answer(line, &mut self.log);
+        let lost = String::from_utf8_lossy(&self.log[self.used().min(used)..used]);
+        for line in lost.lines() {
+            if !self.lost.iter().any(|known| known == line) {
+                self.lost.push(line.to_string());
+            }
+        }
+        self.pieces.push([line, b"\n"].concat());
+    }
+
+    /// The bytes of the log in use.
+    pub fn used(&self) -> usize {
+        self.session.site().map_or(0, Site::used)
+    }
+
+    fn step(&mut self) {
+        let mut line = self.next_line();
+        if self.random.percent(self.mood.damage) {
+            line = damage::line(self.random, &line);
+        }
+        self.say(&line);
+    }
+
+    fn next_line(&mut self) -> Vec<u8> {
+        let column = match self.session.site() {
+            Some(site) if site.is_restoring() => 2,
+            Some(_) if self.mood.hoards => 1,
+            _ => 0,
+        };
+        let kind = self.random.weighted(&KINDS.map(|(kind, weights)| (weights[column], kind)));
+        let in_vain = kind == Kind::Finish && self.pending_ids(true).is_empty();
+        let kind = if in_vain && self.random.percent(80) { Kind::Add } else { kind };
+        self.line_of(kind)
+    }
+
+    fn line_of(&mut self, kind: Kind) -> Vec<u8> {
+        let text = match kind {
+            Kind::Site => format!("(site {})", self.random.pick(&[0, 1, 2, 16, 17, u64::MAX])),
+            Kind::Add => self.add(),
+            Kind::Finish => format!("(finish {})", self.pending_id(true)),
+            Kind::Withdraw => format!("(withdraw {})", self.pending_id(false)),
+            Kind::Persistent => {
+                let (reached, done) = self.marks(Site::persistent_mark, Site::done);
+                format!("(persistent {})", self.mark(reached, done))
+            }
+            Kind::Stable => {
+                let (reached, persistent) = self.marks(Site::stable_mark, Site::persistent_mark);
+                format!("(stable {})", self.mark(reached, persistent))
+            }
+            Kind::Show => format!("(show {})", self.history()),
+            Kind::Cut => format!("(cut {})", self.cut()),
+            Kind::Redo => format!("(redo {})", self.did()),
+            Kind::End => "(end)".to_string(),
+            Kind::Long => {
+                let length = self.random.pick(&[1000, 1023, 1024, 1024, 1025, 1026, 5000]);
+                return damage::long_line(self.random, length);
+            }
+        };
+        text.into_bytes()
+    }
+
+    fn add(&mut self) -> String {
+        let id = self.id();
+        let updates: String = self.histories().into_iter().map(|at| self.update(at)).collect();
+        made_up::form("add", id, &updates)
+    }
+
+    fn update(&mut self, history: u64) -> String {
+        let rule = self.random.weighted(&[
+            (40, Rule::Inc),
+            (22, Rule::Set),
+            (26, Rule::Not),
+            (12, Rule::Unk),
+        ]);
+        let version = self.version(rule, history);
+        let operand = made_up::operand(self.random, rule);
+        format!("({} {history} {version} {operand})", rule.word().escape_ascii())
+    }
+
+    /// A did line: a lost one, one that the log has, or one made up.
+    fn did(&mut self) -> String {
+        let from = self.random.below(100);
+        if from < 75 && !self.lost.is_empty() {
+            let at = self.random.index(self.lost.len());
+            return self.lost[at].clone();
+        }
+        let kept = String::from_utf8_lossy(&self.log[..self.used()]);
+        let kept: Vec<&str> = kept.lines().skip(1).collect();
+        if from < 80 && !kept.is_empty() {
+            return self.random.pick(&kept).to_string();
+        }
+        let id = self.id();
+        let entries: String = self.histories().into_iter().map(|at| self.entry(at)).collect();
+        made_up::form("did", id, &entries)
+    }
+
+    fn entry(&mut self, history: u64) -> String {
+        let shown = self.shown(history);
+        let now = Now { version: shown.version, place: shown.place };
+        made_up::entry(self.random, self.mood.care, history, now).0
+    }
+
+    /// The history, or one at which nothing has happened.
+    fn shown(&self, history: u64) -> History {
+        self.session.site().and_then(|site| site.show(history).ok()).unwrap_or_default()
+    }
+
+    /// The histories of an operation or a did line: mostly one to four different ones.
+    fn histories(&mut self) -> Vec<u64> {
+        match self.random.below(100) {
+            0 => Vec::new(),
+            1..=6 => {
+                let count = self.random.pick(&[1, 2, 2, 3, 4, 5, 9]);
+                (0..count).map(|_| self.history()).collect()
+            }
+            7 => (0..self.mood.histories).collect(),
+            _ => made_up::histories(self.random, self.mood.histories),
+        }
+    }
+
+    /// A history, perhaps one that does not exist.
+    fn history(&mut self) -> u64 {
+        let count = self.mood.histories;
+        match self.random.below(100) {
+            0..=3 => count,
+            4..=5 => self.random.pick(&[15, 16, 17, 255, u64::MAX]),
+            _ => self.random.below(count),
+        }
+    }
+
+    /// An id: mostly a new one.
+    fn id(&mut self) -> u64 {
+        let id = match self.random.below(100) {
+            0..=4 if !self.ids.is_empty() => self.random.pick(&self.ids),
+            5..=6 => self.random.pick(&EDGES),
+            _ => self.ids.len() as u64 + 5,
+        };
+        self.ids.push(id);
+        id
+    }
+
+    fn version(&mut self, rule: Rule, history: u64) -> u64 {
+        let current = self.shown(history).version;
+        if rule == Rule::Unk {
+            return u64::from(self.random.percent(3));
+        }
+        let planned = self.planned(history, current);
+        let fitting = match rule {
+            Rule::Set => planned.saturating_add(1 + self.random.below(4)),
+            Rule::Not if self.random.percent(60) => current,
+            Rule::Not => planned,
+            _ => planned.wrapping_add(1),
+        };
+        self.mood.care.number(self.random, fitting, current)
+    }
+
+    /// The version that the history will have when all that is pending in it has run.
+    fn planned(&self, history: u64, current: u64) -> u64 {
+        let pending = self.session.site().into_iter().flat_map(Site::pending);
+        pending
+            .flat_map(|(operation, _)| operation.updates.iter())
+            .filter(|update| update.history == history && update.rule.is_strong())
+            .fold(current, |planned, update| match update.rule {
+                Rule::Unk => planned.saturating_add(1),
+                _ => planned.max(update.version),
+            })
+    }
+
+    /// The ids in progress, or those that are future.
+    fn pending_ids(&self, running: bool) -> Vec<u64> {
+        let pending = self.session.site().into_iter().flat_map(Site::pending);
+        pending.filter(|found| found.1 == running).map(|found| found.0.id).collect()
+    }
+
+    /// An id, mostly of an operation in the state that is asked for.
+    fn pending_id(&mut self, running: bool) -> u64 {
+        let fit = self.pending_ids(running);
+        if !fit.is_empty() && self.random.percent(92) {
+            self.random.pick(&fit)
+        } else if !self.ids.is_empty() && self.random.percent(80) {
+            self.random.pick(&self.ids)
+        } else {
+            self.random.pick(&EDGES)
+        }
+    }
+
+    /// Two of the site's log numbers.
+    fn marks(&self, first: fn(&Site) -> u64, second: fn(&Site) -> u64) -> (u64, u64) {
+        self.session.site().map_or((0, 0), |site| (first(site), second(site)))
+    }
+
+    /// A log number for a mark that has reached one and may go up to another.
+    fn mark(&mut self, reached: u64, most: u64) -> u64 {
+        match self.random.below(20) {
+            0 => most + 1,
+            1 => reached,
+            2 => self.random.pick(&EDGES),
+            3..=9 => most,
+            _ => reached + self.random.below(most - reached + 1),
+        }
+    }
+
+    /// A number of bytes to restart from.
+    fn cut(&mut self) -> u64 {
+        let used = self.used();
+        let ends: Vec<usize> =
+            (0..used).filter(|&at| self.log[at] == b'\n').map(|at| at + 1).collect();
+        let kept = match self.random.below(20) {
+            0 => used + 1,
+            1 => self.random.between(0, 12),
+            2..=3 => used,
+            4..=9 if !ends.is_empty() => self.random.pick(&ends) + self.random.between(0, 1),
+            10..=13 if !ends.is_empty() => self.random.pick(&ends) - 1,
+            14 => return self.random.pick(&EDGES),
+            _ => self.random.between(0, used),
+        };
+        kept as u64
+    }
+}
