@@ -23,7 +23,8 @@ use Rattle.forms.specs.declared.Refusal.the-variants.{NothingOrders, IdPending,
 use Rattle.rules.specs.Checks.{check, andThen, updatesRefusal}
 use Rattle.rules.specs.CheckLaws.{check-none, andThen-none, some-not-none, formed-updates, not-le}
 use Rattle.rules.specs.State.{Operation, State, Reply, refused, ok, liveDone, live, withPending}
-use Rattle.rules.specs.Calls.{Call, unless, writable, writableUpdate, perform, step, add, addRefusal, arrived, nothingOrders, idPending, idDone, alreadyDone, readOvertaken, tableFull, tryAll, madeReady}
+use Rattle.rules.specs.Calls.{Call, unless, writable, writableUpdate, perform, step, tryAll, madeReady}
+use Rattle.rules.specs.Calls.{add, addRefusal, arrived, nothingOrders, idPending, idDone, alreadyDone, readOvertaken, tableFull}
 use Rattle.history.specs.declared.Entry.{Entry}
 use Rattle.history.specs.declared.DoneEntry.{DoneEntry}
 use Rattle.history.specs.declared.Verdict.{Verdict}
@@ -31,7 +32,8 @@ use Rattle.history.specs.declared.Verdict.the-variants.{Passes, Refused}
 use Rattle.history.specs.Asking.{verdictOf, UsableHeld, Enters}
 use Rattle.history.specs.AskingLaws.{usable-held}
 use Rattle.history.specs.Entries.{cellsOf, operationOf, didOfEntry, doneEntryOf, UsableEntry}
-use Rattle.history.specs.Tests.{any-map}
+use Rattle.table.specs.FindLaws.{has-operation, has-line}
+use Rattle.table.specs.BookLaws.{done-ids}
 use Rattle.history.specs.Cells.{alreadyDoneIn, readOvertakenIn}
 use Rattle.history.specs.AtLog.{already-done-book, read-overtaken-book}
 use Rattle.table.specs.declared.Queue.{Queue}
@@ -62,14 +64,6 @@ asking i us = record { id = i; updates = us; running = false }
 
 -- ### The tests of a refusal, asked of the table
 
-any-pending : (i : ℕ) (es : List Entry) → any (λ (x : Operation). eqb (x .id) i) (map operationOf es) ≡ any (hasId i) es
-unfolding operationOf
-any-pending i es = any-map operationOf (λ (x : Operation). eqb (x .id) i) es
-
-any-waiting : (i : ℕ) (es : List Entry) → any (λ (d : Did). eqb (d .id) i) (map didOfEntry es) ≡ any (hasId i) es
-unfolding didOfEntry
-any-waiting i es = any-map didOfEntry (λ (d : Did). eqb (d .id) i) es
-
 or-nothing : (b : Bool) → (b || false) ≡ b
 or-nothing true = refl
 or-nothing false = refl
@@ -81,13 +75,13 @@ id-pending s bytes i = go (s .restoring)
   where
     go : (b : Bool) → any (hasId i) (queueOf (s .queue))
         ≡ (any (λ (x : Operation). eqb (x .id) i) (pendingIn b s) || any (λ (d : Did). eqb (d .id) i) (waitingIn b s))
-    go true = sym (any-waiting i (queueOf (s .queue)))
-    go false = sym (or-nothing (any (λ (x : Operation). eqb (x .id) i) (map operationOf (queueOf (s .queue)))) ∙ any-pending i (queueOf (s .queue)))
+    go true = has-line i (queueOf (s .queue))
+    go false = has-operation i (queueOf (s .queue)) ∙ sym (or-nothing (any (λ (x : Operation). eqb (x .id) i) (map operationOf (queueOf (s .queue)))))
 
 -- 8: a done operation that is live has this id
 pub id-done : (s : Site) (bytes : List ℕ) (st : State) → Carries s bytes st → (i : ℕ) → any (doneHasId i) (doneOf (s .finished)) ≡ idDone i st
-unfolding idDone doneEntryOf
-id-done s bytes st c i = ap (any (doneHasId i)) (c .finished .list) ∙ any-map doneEntryOf (doneHasId i) (liveDone st)
+unfolding idDone
+id-done s bytes st c i = ap (any (doneHasId i)) (c .finished .list) ∙ done-ids i (liveDone st)
 
 -- 10: the entries of the table
 pub live-is : (s : Site) (bytes : List ℕ) → Carries s bytes (view s bytes) → s .queue .count + s .finished .count ≡ live (view s bytes)
@@ -276,7 +270,8 @@ unfolding heldUpdates
 asks-long a x = ap (λ (h : AskedHeld). length (h .first)) (x .held)
 
 -- updates that passed 2 to 5 can become an entry
-pub asks-usable : (a : AskedHeld) (x : Asks a) (n : ℕ) → n ≤ 16 → (r : Verdict) → ((us : List Update) → a ≡ heldUpdates us → r ≡ verdictOf (updatesRefusal n us)) → r ≡ Passes → UsableHeld a
+pub asks-usable : (a : AskedHeld) (x : Asks a) (n : ℕ) → n ≤ 16 → (r : Verdict) →
+    ((us : List Update) → a ≡ heldUpdates us → r ≡ verdictOf (updatesRefusal n us)) → r ≡ Passes → UsableHeld a
 asks-usable a x n le r f e = usable-asked a (x .updates) n le (x .held) (passes-is (updatesRefusal n (x .updates)) (sym e ∙ f (x .updates) (x .held)))
 
 module _ (s : Site) (bytes : List ℕ) (v : Valid s bytes) (e : Entry) (u : UsableEntry e) (p : Bool) (has : p ≡ any (hasId (e .id)) (queueOf (s .queue))) where

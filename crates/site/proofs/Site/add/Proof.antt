@@ -37,17 +37,21 @@ enum-told c = search needs
 -- src/add.rt:89:21
 entry-of-asked-requires : tie.Need-entry-of-asked-requires
 entry-of-asked-requires c κs =
-    let e = c .before .before .before .before in
+    let r = c .before .before in
+    let e = r .before .before in
     let a = e .args in
-    passed-usable (a .self) (now (a .log)) (e .pre .0) (a .id) (a .asked) _ (c .before .before .add-refusal .ensures) (c .enum-told .given .1) (e .pre .1)
+    passed-usable (a .self) (now (a .log)) (e .pre .0) (a .id) (a .asked) _ (r .add-refusal .ensures) (c .enum-told .given .1) (e .pre .1)
 
 -- src/add.rt:91:21
 push-requires : tie.Need-push-requires
 unfolding Valid
 push-requires c κs =
-    let e = c .before .before .before .before .before .before in
+    let t = c .before .before in
+    let r = t .before .before in
+    let e = r .before .before in
     let a = e .args in
-    (e .pre .0 .carries .usable, (passed-room (a .self) (now (a .log)) (e .pre .0) (a .id) (a .asked) _ (c .before .before .before .before .add-refusal .ensures) (c .before .before .enum-told .given .1) (e .pre .1), c .before .entry-of-asked .ensures .usable))
+    (e .pre .0 .carries .usable, (passed-room (a .self) (now (a .log)) (e .pre .0) (a .id) (a .asked) _ (r .add-refusal .ensures) (t .enum-told .given .1) (e .pre .1),
+    c .before .entry-of-asked .ensures .usable))
 
 -- src/add.rt:93:21
 try-all-requires : tie.Need-try-all-requires
@@ -61,21 +65,28 @@ no-numbers-requires c κs = search needs
 returns : tie.Need-returns
 returns c =
     λ us h w.
-    let e = c .before .before .before .before .before .before in
+    let r = c .before .before .before .before in
+    let e = r .before .before in
     let a = e .args in
     let le : a .id ≤ top = omega (arith, e .fits .id) in
-    refuses (a .self) (now (a .log)) _ _ _ (add-refused (a .id) us (view (a .self) (now (a .log))) le w _ (refused-is _ _ (sym (c .before .before .q .given .1) ∙ c .before .before .before .before .add-refusal .ensures us h))) (c .refusal .ensures) refl
+    refuses (a .self) (now (a .log)) _ _ _
+    (add-refused (a .id) us (view (a .self) (now (a .log))) le w _ (refused-is _ _ (sym (c .before .before .q .given .1) ∙ r .add-refusal .ensures us h)))
+    (c .refusal .ensures) refl
 
 -- src/add.rt:80:5
 returns-2 : tie.Need-returns-2
 returns-2 c =
     λ us h w.
-    let e = c .before .before .before .before .before .before .before .before .before .before .before .before in
+    let p = c .before .before .before .before .before in
+    let t = p .before .before .before in
+    let r = t .before .before in
+    let e = r .before .before in
     let a = e .args in
     let le : a .id ≤ top = omega (arith, e .fits .id) in
-    add-does (a .self) (now (a .log)) (e .pre .0) (a .id) us le w (passed-free (a .self) (now (a .log)) (e .pre .0) (a .id) (a .asked) _ (c .before .before .before .before .before .before .before .before .before .before .add-refusal .ensures) (c .before .before .before .before .before .before .before .before .enum-told .given .1) us h)
-    _ (passed-enters (a .self) (now (a .log)) (e .pre .0) (a .id) (a .asked) _ (c .before .before .before .before .before .before .before .before .before .before .add-refusal .ensures) (c .before .before .before .before .before .before .before .before .enum-told .given .1) us h _ (c .before .before .before .before .before .before .before .entry-of-asked .ensures))
-    _ (c .before .before .before .before .before .push .ensures) _ (c .before .before .before .try-all .ensures .0) _ (c .no-numbers .ensures)
+    add-does (a .self) (now (a .log)) (e .pre .0) (a .id) us le w
+    (passed-free (a .self) (now (a .log)) (e .pre .0) (a .id) (a .asked) _ (r .add-refusal .ensures) (t .enum-told .given .1) us h)
+    _ (passed-enters (a .self) (now (a .log)) (e .pre .0) (a .id) (a .asked) _ (r .add-refusal .ensures) (t .enum-told .given .1) us h _ (p .before .before .entry-of-asked .ensures))
+    _ (p .push .ensures) _ (c .before .before .before .try-all .ensures .0) _ (c .no-numbers .ensures)
 
 pub add-spec : {M : Type 1} → statement M
 add-spec =

@@ -45,17 +45,22 @@ enum-told c = search needs
 -- src/add.rt:70:20
 nothing-orders-requires : tie.Need-nothing-orders-requires
 nothing-orders-requires c κs =
-    let e = c .before .before .before .before .before in
+    let r = c .before .before in
+    let e = r .before .before .before in
     let a = e .args in
-    let u = asks-usable (a .asked) (e .pre .1) (a .self .count) (count-most (a .self) (now (a .log)) (e .pre .0)) _ (c .before .before .asked-refusal .ensures) (c .enum-told .given .1) in
+    let u = asks-usable (a .asked) (e .pre .1) (a .self .count) (count-most (a .self) (now (a .log)) (e .pre .0)) _ (r .asked-refusal .ensures)
+    (c .enum-told .given .1) in
     (u .few, u .long)
 
 -- src/add.rt:73:40
 entry-of-asked-requires : tie.Need-entry-of-asked-requires
 entry-of-asked-requires c κs =
-    let e = c .before .before .before .before .before .before .before in
+    let t = c .before .before in
+    let r = t .before .before in
+    let e = r .before .before .before in
     let a = e .args in
-    asks-usable (a .asked) (e .pre .1) (a .self .count) (count-most (a .self) (now (a .log)) (e .pre .0)) _ (c .before .before .before .before .asked-refusal .ensures) (c .before .before .enum-told .given .1)
+    asks-usable (a .asked) (e .pre .1) (a .self .count) (count-most (a .self) (now (a .log)) (e .pre .0)) _ (r .asked-refusal .ensures)
+    (t .enum-told .given .1)
 
 -- src/add.rt:73:21
 conflict-requires : tie.Need-conflict-requires
@@ -65,29 +70,40 @@ conflict-requires c κs = search needs
 returns-2 : tie.Need-returns-2
 returns-2 c =
     λ us h.
-    let e = c .before .before .before .before .before .before in
+    let r = c .before .before .before in
+    let e = r .before .before .before in
     let a = e .args in
-    refused-form (a .id) us (view (a .self) (now (a .log))) (c .before .before .before .before .if1 .left) _ (sym (c .before .q .given .1) ∙ c .before .before .before .asked-refusal .ensures us h)
+    refused-form (a .id) us (view (a .self) (now (a .log))) (r .before .if1 .left) _
+    (sym (c .before .q .given .1) ∙ r .asked-refusal .ensures us h)
 
 -- src/add.rt:58:5
 returns-3 : tie.Need-returns-3
 returns-3 c =
     λ us h.
-    let e = c .before .before .before .before .before .before .before in
+    let t = c .before .before in
+    let r = t .before .before in
+    let e = r .before .before .before in
     let a = e .args in
-    let f : updatesRefusal (a .self .count) us ≡ none = (passes-is _ (sym (c .before .before .enum-told .given .1) ∙ c .before .before .before .before .asked-refusal .ensures us h)) in
-    refused-orders (a .id) us (view (a .self) (now (a .log))) (c .before .before .before .before .before .if1 .left) f (ap nothingOrders (sym (asked-back (a .asked) us (a .self .count) h f)) ∙ sym (c .before .nothing-orders .ensures) ∙ c .if2 .taken)
+    let f : updatesRefusal (a .self .count) us ≡ none = passes-is _ (sym (t .enum-told .given .1) ∙ r .asked-refusal .ensures us h) in
+    refused-orders (a .id) us (view (a .self) (now (a .log))) (r .before .if1 .left) f
+    (ap nothingOrders (sym (asked-back (a .asked) us (a .self .count) h f)) ∙ sym (c .before .nothing-orders .ensures) ∙ c .if2 .taken)
 
 -- src/add.rt:58:5
 returns-4 : tie.Need-returns-4
 returns-4 c =
     λ us h.
-    let e = c .before .before .before .before .before .before .before .before .before in
+    let n = c .before .before .before in
+    let t = n .before in
+    let r = t .before .before in
+    let e = r .before .before .before in
     let a = e .args in
-    let f : updatesRefusal (a .self .count) us ≡ none = (passes-is _ (sym (c .before .before .before .before .enum-told .given .1) ∙ c .before .before .before .before .before .before .asked-refusal .ensures us h)) in
+    let f : updatesRefusal (a .self .count) us ≡ none = passes-is _ (sym (t .enum-told .given .1) ∙ r .asked-refusal .ensures us h) in
     let back = asked-back (a .asked) us (a .self .count) h f in
-    refused-conflict (a .id) us (view (a .self) (now (a .log))) (c .before .before .before .before .before .before .before .if1 .left) f (ap nothingOrders (sym back) ∙ sym (c .before .before .before .nothing-orders .ensures) ∙ c .before .before .if2 .left) _
-    (c .conflict .ensures ∙ ap (λ (x : Operation). verdictOf (conflictOf x (view (a .self) (now (a .log))))) (c .before .entry-of-asked .ensures .operation ∙ ap (λ (l : List Update). asking (a .id) l) back))
+    refused-conflict (a .id) us (view (a .self) (now (a .log))) (r .before .if1 .left) f
+    (ap nothingOrders (sym back) ∙ sym (n .nothing-orders .ensures) ∙ c .before .before .if2 .left) _
+    (c .conflict .ensures
+    ∙ ap (λ (x : Operation). verdictOf (conflictOf x (view (a .self) (now (a .log)))))
+    (c .before .entry-of-asked .ensures .operation ∙ ap (λ (l : List Update). asking (a .id) l) back))
 
 pub add-refusal-spec : {M : Type 1} → statement M
 add-refusal-spec =

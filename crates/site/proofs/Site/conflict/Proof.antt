@@ -33,8 +33,9 @@ has-id-requires-2 c κs =
 -- src/add.rt:43:13
 returns-2 : tie.Need-returns-2
 returns-2 c =
-    let e = c .before .before .before .before .before .before .before .before in
-    entry-done (e .args .self) (now (e .args .log)) (e .pre .0) (e .args .e) (e .pre .1) _ (c .before .before .before .has-id .ensures) (c .before .before .if1 .left) _ (c .before .has-id2 .ensures) (c .if2 .taken)
+    let p = c .before .before in
+    let e = p .before .before .before .before .before .before in
+    entry-done (e .args .self) (now (e .args .log)) (e .pre .0) (e .args .e) (e .pre .1) _ (p .before .has-id .ensures) (p .if1 .left) _ (c .before .has-id2 .ensures) (c .if2 .taken)
 
 -- src/add.rt:45:12
 already-done-requires : tie.Need-already-done-requires
@@ -43,8 +44,11 @@ already-done-requires c κs = search needs
 -- src/add.rt:46:13
 returns-3 : tie.Need-returns-3
 returns-3 c =
-    let e = c .before .before .before .before .before .before .before .before .before .before in
-    entry-ran (e .args .self) (now (e .args .log)) (e .pre .0) (e .args .e) (e .pre .1) _ (c .before .before .before .before .before .has-id .ensures) (c .before .before .before .before .if1 .left) _ (c .before .before .before .has-id2 .ensures) (c .before .before .if2 .left) _ (c .before .already-done .ensures) (c .if3 .taken)
+    let d = c .before .before in
+    let p = d .before .before in
+    let e = p .before .before .before .before .before .before in
+    entry-ran (e .args .self) (now (e .args .log)) (e .pre .0) (e .args .e) (e .pre .1) _ (p .before .has-id .ensures) (p .if1 .left)
+    _ (d .before .has-id2 .ensures) (d .if2 .left) _ (c .before .already-done .ensures) (c .if3 .taken)
 
 -- src/add.rt:48:12
 read-overtaken-requires : tie.Need-read-overtaken-requires
@@ -53,8 +57,12 @@ read-overtaken-requires c κs = search needs
 -- src/add.rt:49:13
 returns-4 : tie.Need-returns-4
 returns-4 c =
-    let e = c .before .before .before .before .before .before .before .before .before .before .before .before in
-    entry-overtaken (e .args .self) (now (e .args .log)) (e .pre .0) (e .args .e) (e .pre .1) _ (c .before .before .before .before .before .before .before .has-id .ensures) (c .before .before .before .before .before .before .if1 .left) _ (c .before .before .before .before .before .has-id2 .ensures) (c .before .before .before .before .if2 .left) _ (c .before .before .before .already-done .ensures) (c .before .before .if3 .left) _ (c .before .read-overtaken .ensures) (c .if4 .taken)
+    let a = c .before .before in
+    let d = a .before .before in
+    let p = d .before .before in
+    let e = p .before .before .before .before .before .before in
+    entry-overtaken (e .args .self) (now (e .args .log)) (e .pre .0) (e .args .e) (e .pre .1) _ (p .before .has-id .ensures) (p .if1 .left)
+    _ (d .before .has-id2 .ensures) (d .if2 .left) _ (a .before .already-done .ensures) (a .if3 .left) _ (c .before .read-overtaken .ensures) (c .if4 .taken)
 
 -- src/add.rt:51:26
 add-if5 : tie.Need-add-if5
@@ -66,14 +74,24 @@ add-if5 c =
 -- src/add.rt:52:13
 returns-5 : tie.Need-returns-5
 returns-5 c =
-    let e = c .before .before .before .before .before .before .before .before .before .before .before .before .before .before .before in
-    entry-full (e .args .self) (now (e .args .log)) (e .pre .0) (e .args .e) (e .pre .1) _ (c .before .before .before .before .before .before .before .before .before .before .has-id .ensures) (c .before .before .before .before .before .before .before .before .before .if1 .left) _ (c .before .before .before .before .before .before .before .before .has-id2 .ensures) (c .before .before .before .before .before .before .before .if2 .left) _ (c .before .before .before .before .before .before .already-done .ensures) (c .before .before .before .before .before .if3 .left) _ (c .before .before .before .before .read-overtaken .ensures) (c .before .before .before .if4 .left) (c .if5 .taken)
+    let o = c .before .before .before in
+    let a = o .before .before in
+    let d = a .before .before in
+    let p = d .before .before in
+    let e = p .before .before .before .before .before .before in
+    entry-full (e .args .self) (now (e .args .log)) (e .pre .0) (e .args .e) (e .pre .1) _ (p .before .has-id .ensures) (p .if1 .left) _ (d .before .has-id2 .ensures) (d .if2 .left)
+    _ (a .before .already-done .ensures) (a .if3 .left) _ (o .before .read-overtaken .ensures) (o .if4 .left) (c .if5 .taken)
 
 -- src/add.rt:31:5
 returns-6 : tie.Need-returns-6
 returns-6 c =
-    let e = c .before .before .before .before .before .before .before .before .before .before .before .before .before .before .before in
-    entry-free (e .args .self) (now (e .args .log)) (e .pre .0) (e .args .e) (e .pre .1) _ (c .before .before .before .before .before .before .before .before .before .before .has-id .ensures) (c .before .before .before .before .before .before .before .before .before .if1 .left) _ (c .before .before .before .before .before .before .before .before .has-id2 .ensures) (c .before .before .before .before .before .before .before .if2 .left) _ (c .before .before .before .before .before .before .already-done .ensures) (c .before .before .before .before .before .if3 .left) _ (c .before .before .before .before .read-overtaken .ensures) (c .before .before .before .if4 .left) (c .if5 .left)
+    let o = c .before .before .before in
+    let a = o .before .before in
+    let d = a .before .before in
+    let p = d .before .before in
+    let e = p .before .before .before .before .before .before in
+    entry-free (e .args .self) (now (e .args .log)) (e .pre .0) (e .args .e) (e .pre .1) _ (p .before .has-id .ensures) (p .if1 .left) _ (d .before .has-id2 .ensures) (d .if2 .left)
+    _ (a .before .already-done .ensures) (a .if3 .left) _ (o .before .read-overtaken .ensures) (o .if4 .left) (c .if5 .left)
 
 pub conflict-spec : {M : Type 1} → statement M
 conflict-spec =
