@@ -2,11 +2,11 @@
 use Prim.Native.Nat.{ℕ, _+_, _≤_, _<_}
 use native.Mathlib.Omega.{arith}
 use mathlib.Core.Path.{_≡_, refl, sym, ap, ap₂, subst, _∙_}
-use mathlib.Core.Bool.{Bool, true, false, not, _&&_, _||_}
+use mathlib.Core.Bool.{Bool, true, false, _&&_, _||_}
 use mathlib.Core.List.{List, [], _∷_, _++_, map, map-append}
 use mathlib.Core.Option.{Option, none, some}
 use lib.Dec.{T, leb, eqb}
-use lib.ListN.{length, take, drop, length-map}
+use lib.ListN.{length, length-map}
 use lib.Seq.{length-take-le}
 use borrow.Author.Tests.{le-leb, lt-leb}
 use Rattle.forms.specs.Decimal.{top}
@@ -21,12 +21,11 @@ use Rattle.forms.specs.declared.ReplyForm.{ReplyForm}
 use Rattle.forms.specs.declared.Refusal.{Refusal}
 use Rattle.forms.specs.declared.Refusal.the-variants.{NothingOrders, IdPending, AlreadyDone, ReadOvertaken, TableFull, OutOfTurn}
 use Rattle.rules.specs.Checks.{check, andThen, updatesRefusal}
-use Rattle.rules.specs.CheckLaws.{check-none, andThen-none, some-not-none, formed-updates, not-le}
-use Rattle.rules.specs.State.{Operation, State, Reply, refused, ok, liveDone, live, withPending}
+use Rattle.rules.specs.CheckLaws.{check-none, andThen-none, formed-updates, not-le}
+use Rattle.rules.specs.State.{Operation, State, refused, ok, liveDone, live, withPending}
 use Rattle.rules.specs.Calls.{Call, unless, writable, writableUpdate, perform, step, tryAll, madeReady}
 use Rattle.rules.specs.Calls.{add, addRefusal, arrived, nothingOrders, idPending, idDone, alreadyDone, readOvertaken, tableFull}
 use Rattle.history.specs.declared.Entry.{Entry}
-use Rattle.history.specs.declared.DoneEntry.{DoneEntry}
 use Rattle.history.specs.declared.Verdict.{Verdict}
 use Rattle.history.specs.declared.Verdict.the-variants.{Passes, Refused}
 use Rattle.history.specs.Asking.{verdictOf, UsableHeld, Enters}
@@ -39,7 +38,7 @@ use Rattle.history.specs.AtLog.{already-done-book, read-overtaken-book}
 use Rattle.table.specs.declared.Queue.{Queue}
 use Rattle.table.specs.declared.Tried.{Tried}
 use Rattle.table.specs.Lists.{IsNumbers}
-use Rattle.table.specs.Queues.{queueOf, UsableQueue, IsQueue, hasId}
+use Rattle.table.specs.Queues.{queueOf, IsQueue, hasId}
 use Rattle.table.specs.QueueLaws.{queue-length}
 use Rattle.table.specs.Dones.{doneOf, doneHasId}
 use Rattle.table.specs.Tries.{Tries, tryAllIn, operationsOf}
@@ -218,7 +217,8 @@ unfolding add unless
 add-refused i us st le w q e = add-performs i us st le w ∙ rw e refl
 
 pub add-accepted : (i : ℕ) (us : List Update) (st : State) → i ≤ top → T (all writableUpdate us) → addRefusal i us st ≡ none →
-    step (Call.Add i us) st ≡ ok (withPending (tryAll (st .log) (arrived i us st)) st) (Added (madeReady (arrived i us st) (tryAll (st .log) (arrived i us st))))
+    step (Call.Add i us) st ≡ ok (withPending (tryAll (st .log) (arrived i us st)) st)
+    (Added (madeReady (arrived i us st) (tryAll (st .log) (arrived i us st))))
 unfolding add unless
 add-accepted i us st le w e = add-performs i us st le w ∙ rw e refl
 
@@ -253,7 +253,8 @@ module _ (s : Site) (bytes : List ℕ) (v : Valid s bytes) (i : ℕ) (us : List 
       Does s bytes (step (Call.Add i us) st) (record { site = after; reply = record { form = ReplyForm.Added; first = t .ready; second = b } }) bytes
   unfolding Valid outcomeWith
   add-does b nothing =
-      accepts-step s bytes (Call.Add i us) (withPending (tryAll (st .log) (arrived i us st)) st) (Added (madeReady (arrived i us st) (tryAll (st .log) (arrived i us st)))) _ bytes v
+      accepts-step s bytes (Call.Add i us) (withPending (tryAll (st .log) (arrived i us st)) st)
+      (Added (madeReady (arrived i us st) (tryAll (st .log) (arrived i us st)))) _ bytes v
       (add-accepted i us st le w free)
       (says-lists _ (madeReady (arrived i us st) (tryAll (st .log) (arrived i us st))) [] ready nothing)
       (carries-queue s bytes st (v .carries) (t .queue) (s .restoring) (s .reserved) (tryAll (st .log) (arrived i us st)) (st .waiting) (tries .usable)
@@ -289,7 +290,8 @@ module _ (s : Site) (bytes : List ℕ) (v : Valid s bytes) (e : Entry) (u : Usab
 
     pub entry-done : d ≡ true → Refused AlreadyDone ≡ verdictOf (conflictOf (operationOf e) (view s bytes))
     entry-done t =
-        conflict-done (operationOf e) (view s bytes) (pending-by ∙ new) (ap (λ (b : Bool). b || any (alreadyDone (view s bytes)) (operationOf e .updates)) (done-by ∙ t))
+        conflict-done (operationOf e) (view s bytes) (pending-by ∙ new)
+        (ap (λ (b : Bool). b || any (alreadyDone (view s bytes)) (operationOf e .updates)) (done-by ∙ t))
 
     module _ (fresh : d ≡ false) (a : Bool) (ran : a ≡ any (alreadyDoneIn (cellsOf (s .histories))) (operationOf e .updates)) where
       ran-by : any (alreadyDone (view s bytes)) (operationOf e .updates) ≡ a
@@ -333,7 +335,8 @@ module _ (s : Site) (bytes : List ℕ) (v : Valid s bytes) (i : ℕ) (a : AskedH
 
   pub passed-usable : Asks a → UsableHeld a
   passed-usable x =
-      usable-asked a (x .updates) (s .count) (count-most s bytes v) (x .held) (free-of i (x .updates) (view s bytes) (passed-free (x .updates) (x .held)) .formed)
+      usable-asked a (x .updates) (s .count) (count-most s bytes v) (x .held)
+      (free-of i (x .updates) (view s bytes) (passed-free (x .updates) (x .held)) .formed)
 
   pub passed-room : Asks a → s .queue .count < 64
   passed-room x = add-room s bytes v i (x .updates) (passed-free (x .updates) (x .held))

@@ -1,7 +1,7 @@
 use denote.Ref.{now}
 use Prim.Native.Nat.{_≤_}
 use native.Mathlib.Omega.{arith}
-use mathlib.Core.Path.{_≡_, refl, sym, _∙_}
+use mathlib.Core.Path.{refl, sym, _∙_}
 use Rattle.forms.specs.Decimal.{top}
 use Rattle.site.specs.Model.{view, Valid}
 use Rattle.site.specs.ModelLaws.{refuses}
@@ -50,8 +50,8 @@ push-requires c κs =
     let r = t .before .before in
     let e = r .before .before in
     let a = e .args in
-    (e .pre .0 .carries .usable, (passed-room (a .self) (now (a .log)) (e .pre .0) (a .id) (a .asked) _ (r .add-refusal .ensures) (t .enum-told .given .1) (e .pre .1),
-    c .before .entry-of-asked .ensures .usable))
+    let room = passed-room (a .self) (now (a .log)) (e .pre .0) (a .id) (a .asked) _ (r .add-refusal .ensures) (t .enum-told .given .1) (e .pre .1) in
+    (e .pre .0 .carries .usable, (room, c .before .entry-of-asked .ensures .usable))
 
 -- src/add.rt:93:21
 try-all-requires : tie.Need-try-all-requires

@@ -3,14 +3,14 @@ use mathlib.Core.Path.{_≡_, sym, ap, _∙_}
 use mathlib.Core.List.{List}
 use mathlib.Core.Option.{none}
 use Rattle.forms.specs.Forms.{Update}
-use Rattle.forms.specs.Held.{updatesOf}
 use Rattle.rules.specs.State.{Operation}
 use Rattle.rules.specs.Checks.{updatesRefusal}
 use Rattle.rules.specs.Calls.{nothingOrders}
 use Rattle.history.specs.Asking.{verdictOf}
 use Rattle.site.specs.Model.{view}
 use Rattle.site.specs.ShowLaws.{count-most}
-use Rattle.site.specs.AddLaws.{asking, asks-long, asks-usable, asked-back, passes-is, conflictOf, refused-restoring, refused-form, refused-orders, refused-conflict}
+use Rattle.site.specs.AddLaws.{asking, asks-long, asks-usable, asked-back, passes-is}
+use Rattle.site.specs.AddLaws.{conflictOf, refused-restoring, refused-form, refused-orders, refused-conflict}
 use borrow.Author.Needs.{needs}
 use Rattle.site.proofs.Site.add_refusal.Statement.{statement}
 use Rattle.site.proofs.Site.add_refusal.Tie as tie

@@ -35,7 +35,8 @@ returns-2 : tie.Need-returns-2
 returns-2 c =
     let p = c .before .before in
     let e = p .before .before .before .before .before .before in
-    entry-done (e .args .self) (now (e .args .log)) (e .pre .0) (e .args .e) (e .pre .1) _ (p .before .has-id .ensures) (p .if1 .left) _ (c .before .has-id2 .ensures) (c .if2 .taken)
+    entry-done (e .args .self) (now (e .args .log)) (e .pre .0) (e .args .e) (e .pre .1) _ (p .before .has-id .ensures) (p .if1 .left) _
+    (c .before .has-id2 .ensures) (c .if2 .taken)
 
 -- src/add.rt:45:12
 already-done-requires : tie.Need-already-done-requires
@@ -79,7 +80,8 @@ returns-5 c =
     let d = a .before .before in
     let p = d .before .before in
     let e = p .before .before .before .before .before .before in
-    entry-full (e .args .self) (now (e .args .log)) (e .pre .0) (e .args .e) (e .pre .1) _ (p .before .has-id .ensures) (p .if1 .left) _ (d .before .has-id2 .ensures) (d .if2 .left)
+    entry-full (e .args .self) (now (e .args .log)) (e .pre .0) (e .args .e) (e .pre .1) _ (p .before .has-id .ensures) (p .if1 .left) _
+    (d .before .has-id2 .ensures) (d .if2 .left)
     _ (a .before .already-done .ensures) (a .if3 .left) _ (o .before .read-overtaken .ensures) (o .if4 .left) (c .if5 .taken)
 
 -- src/add.rt:31:5
@@ -90,7 +92,8 @@ returns-6 c =
     let d = a .before .before in
     let p = d .before .before in
     let e = p .before .before .before .before .before .before in
-    entry-free (e .args .self) (now (e .args .log)) (e .pre .0) (e .args .e) (e .pre .1) _ (p .before .has-id .ensures) (p .if1 .left) _ (d .before .has-id2 .ensures) (d .if2 .left)
+    entry-free (e .args .self) (now (e .args .log)) (e .pre .0) (e .args .e) (e .pre .1) _ (p .before .has-id .ensures) (p .if1 .left) _
+    (d .before .has-id2 .ensures) (d .if2 .left)
     _ (a .before .already-done .ensures) (a .if3 .left) _ (o .before .read-overtaken .ensures) (o .if4 .left) (c .if5 .left)
 
 pub conflict-spec : {M : Type 1} → statement M
