@@ -8,3 +8,7 @@ pub mod StableLaws
 pub mod PersistentLaws
 pub mod ShowLaws
 pub mod EndLaws
+pub mod LineLaws
+pub mod AddLaws
+pub mod FinishLaws
+pub mod OpenLaws

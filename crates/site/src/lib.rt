@@ -14,8 +14,11 @@ use history::History;
 use table::DoneList;
 use table::Queue;
 
+pub mod add;
 pub mod busy;
 pub mod end;
+pub mod finish;
+pub mod open;
 pub mod persistent;
 pub mod show;
 pub mod stable;
