@@ -7,3 +7,4 @@ pub mod LineLaws
 pub mod AddLaws
 pub mod FinishLaws
 pub mod OpenLaws
+pub mod RestartLaws
