@@ -12,3 +12,4 @@ pub mod LineLaws
 pub mod AddLaws
 pub mod FinishLaws
 pub mod OpenLaws
+pub mod RestartLaws

@@ -20,6 +20,7 @@ pub mod end;
 pub mod finish;
 pub mod open;
 pub mod persistent;
+pub mod restart;
 pub mod show;
 pub mod stable;
 
