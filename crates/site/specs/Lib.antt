@@ -5,5 +5,6 @@ pub mod Busy
 pub mod BusyLaws
 pub mod MarkLaws
 pub mod StableLaws
+pub mod WithdrawLaws
 pub mod ShowLaws
 pub mod EndLaws

@@ -18,6 +18,7 @@ pub mod busy;
 pub mod end;
 pub mod show;
 pub mod stable;
+pub mod withdraw;
 
 // A site by value. Its log stands in the first `used` bytes of a buffer that the caller lends to each call.
 pub struct Site {
