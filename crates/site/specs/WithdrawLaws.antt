@@ -3,8 +3,8 @@ use Prim.Native.Nat.{ℕ, _+_, _-_, _≤_, _<_}
 use native.Mathlib.Omega.{arith}
 use mathlib.Core.Path.{_≡_, refl, sym, ap, subst, _∙_}
 use mathlib.Core.Bool.{Bool, true, false, not}
-use mathlib.Core.List.{List, [], _++_, map}
-use lib.ListN.{length, take, drop}
+use mathlib.Core.List.{List, [], _++_}
+use lib.ListN.{take, drop}
 use borrow.Author.Tests.{le-leb}
 use Rattle.forms.specs.Decimal.{top}
 use Rattle.forms.specs.Lists.{keep, below}
@@ -31,7 +31,7 @@ use Rattle.site.specs.declared.Site.{Site}
 use Rattle.site.specs.Model.{view, pendingIn, waitingIn, Valid, Does}
 use Rattle.site.specs.ModelLaws.{step-performs, accepts-step, says-lists}
 use Rattle.site.specs.QueueLaws.{withQueue, carries-queue}
-use Rattle.site.specs.Busy.{operationsIn, busyIn}
+use Rattle.site.specs.Busy.{busyIn}
 use Rattle.site.specs.BusyLaws.{busy-wet}
 use Rattle.site.specs.MarkLaws.{marked}
 
@@ -80,8 +80,8 @@ module _ (s : Site) (bytes : List ℕ) (i k : ℕ) (v : Valid s bytes) (le : i �
       (nodup-right (didIds (view s bytes .waiting)) _ (nodup-right (didIds (liveDone (view s bytes))) _ (v .good .ids)))
 
   -- the queue that is left has the operations without that one
-  left-is : operationsIn (s .restoring) left ≡ without i (pendingIn (s .restoring) s)
-  left-is = rw e (ap operationsOf (removed .list) ∙ sym (without-is i false (queueOf (s .queue)) k once found))
+  left-is : operationsOf (queueOf left) ≡ without i (operationsOf (queueOf (s .queue)))
+  left-is = ap operationsOf (removed .list) ∙ sym (without-is i false (queueOf (s .queue)) k once found)
 
   from-is : s .persistent .0 ≡ s .stable .0 + (s .persistent .0 - s .stable .0)
   from-is = let m = marked s bytes v in omega (arith, m .stable)
@@ -94,7 +94,7 @@ module _ (s : Site) (bytes : List ℕ) (i k : ℕ) (v : Valid s bytes) (le : i �
   wet-after : Says false after (λ (h : ℕ). not (dry (withdrawnFrom i s bytes) h))
   unfolding Valid liveDone
   wet-after =
-      busy-wet after left (s .finished) _ (s .count) (withdrawnFrom i s bytes) left-is (v .good .formed) (v .carries .finished .list) from-is is
+      busy-wet after left (s .finished) _ (s .count) (withdrawnFrom i s bytes) (rw e left-is) (v .good .formed) (v .carries .finished .list) from-is is
 
   pub withdraw-does : Does s bytes (step (Call.Withdraw i) (view s bytes))
       (record {
@@ -112,5 +112,5 @@ module _ (s : Site) (bytes : List ℕ) (i k : ℕ) (v : Valid s bytes) (le : i �
         list = dried .list ∙ became-dry-is before after (view s bytes) (withdrawnFrom i s bytes) (marked s bytes v .few) wet-before wet-after;
       }) none)
       (carries-queue s bytes (view s bytes) (v .carries) left (s .restoring) (s .reserved) (without i (pendingIn (s .restoring) s)) (waitingIn (s .restoring) s)
-      (removed .usable) (rw e (ap operationsOf (removed .list) ∙ sym (without-is i false (queueOf (s .queue)) k once found))) (rw e refl) (v .carries .reserved))
+      (removed .usable) (rw e left-is) (rw e refl) (v .carries .reserved))
       refl

@@ -1,9 +1,7 @@
 use denote.Ref.{now}
-use Prim.Native.Nat.{_≤_}
 use native.Mathlib.Omega.{arith}
-use mathlib.Core.Path.{_≡_, refl, sym, _∙_}
+use mathlib.Core.Path.{refl, sym, _∙_}
 use mathlib.Core.Bool.{false}
-use Rattle.forms.specs.Decimal.{top}
 use Rattle.forms.specs.declared.Refusal.the-variants.{WrongState, OutOfTurn}
 use Rattle.site.specs.Model.{Valid}
 use Rattle.site.specs.ModelLaws.{refuses}
@@ -35,8 +33,7 @@ returns c =
 -- src/withdraw.rt:28:15
 find-requires : tie.Need-find-requires
 unfolding Valid
-find-requires c κs =
-    c .before .before .before .pre .carries .usable
+find-requires c κs = c .before .before .before .pre .carries .usable
 
 -- src/withdraw.rt:31:32
 enum-told : tie.Need-enum-told
@@ -54,13 +51,13 @@ enum-known-at c = search needs
 remove-requires : tie.Need-remove-requires
 unfolding Valid
 remove-requires c κs =
-    let u = c .before .before .before .before .before .before .before .pre .carries .usable in
-    (u, found-below _ u (c .before .before .before .before .before .before .before .args .id) false (c .before .at .given .0 .0) (sym (c .before .before .before .find .ensures) ∙ c .before .at .given .1))
+    let e = c .before .before .before .before .before .before .before in
+    let u = e .pre .carries .usable in
+    (u, found-below _ u (e .args .id) false (c .before .at .given .0 .0) (sym (c .before .before .before .find .ensures) ∙ c .before .at .given .1))
 
 -- src/withdraw.rt:36:29
 sub-from : tie.Need-sub-from
-sub-from c =
-    marked _ _ (c .before .before .before .before .before .before .before .before .before .before .pre) .stable
+sub-from c = marked _ _ (c .before .before .before .before .before .before .before .before .before .before .pre) .stable
 
 -- src/withdraw.rt:37:21
 busy-requires : tie.Need-busy-requires
@@ -78,8 +75,7 @@ busy-requires-2 c κs =
 
 -- src/withdraw.rt:39:21
 became-dry-requires : tie.Need-became-dry-requires
-became-dry-requires c κs =
-    marked _ _ (c .before .before .before .before .before .before .before .before .before .before .before .before .pre) .few
+became-dry-requires c κs = marked _ _ (c .before .before .before .before .before .before .before .before .before .before .before .before .pre) .few
 
 -- src/withdraw.rt:47:33
 no-numbers-requires : tie.Need-no-numbers-requires
@@ -102,7 +98,8 @@ returns-3 c =
     let e = f .before .before .before .before .before .before in
     withdraw-does (e .args .self) (now (e .args .log)) (e .args .id) (f .at .given .0 .0) (e .pre) (omega (arith, e .fits .id)) (f .before .before .before .before .if1 .left)
     (sym (f .before .before .find .ensures) ∙ f .at .given .1)
-    _ _ _ _ _ (c .before .before .before .before .before .before .remove .ensures) (c .before .before .before .busy .ensures) (c .before .before .busy2 .ensures) (c .before .became-dry .ensures) (c .no-numbers .ensures)
+    _ _ _ _ _ (c .before .before .before .before .before .before .remove .ensures) (c .before .before .before .busy .ensures) (c .before .before .busy2 .ensures)
+    (c .before .became-dry .ensures) (c .no-numbers .ensures)
 
 pub withdraw-spec : {M : Type 1} → statement M
 withdraw-spec =
