@@ -4,7 +4,7 @@ pub mod QueueLaws
 pub mod Busy
 pub mod BusyLaws
 pub mod MarkLaws
-pub mod StableLaws
 pub mod WithdrawLaws
+pub mod StableLaws
 pub mod ShowLaws
 pub mod EndLaws
