@@ -4,6 +4,7 @@ pub mod QueueLaws
 pub mod Busy
 pub mod BusyLaws
 pub mod MarkLaws
+pub mod WithdrawLaws
 pub mod StableLaws
 pub mod PersistentLaws
 pub mod ShowLaws

@@ -23,6 +23,7 @@ pub mod persistent;
 pub mod restart;
 pub mod show;
 pub mod stable;
+pub mod withdraw;
 
 // A site by value. Its log stands in the first `used` bytes of a buffer that the caller lends to each call.
 pub struct Site {

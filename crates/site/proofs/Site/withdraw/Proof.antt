@@ -1,0 +1,121 @@
+use denote.Ref.{now}
+use native.Mathlib.Omega.{arith}
+use mathlib.Core.Path.{refl, sym, _∙_}
+use mathlib.Core.Bool.{false}
+use Rattle.forms.specs.declared.Refusal.the-variants.{WrongState, OutOfTurn}
+use Rattle.site.specs.Model.{Valid}
+use Rattle.site.specs.ModelLaws.{refuses}
+use Rattle.site.specs.MarkLaws.{marked}
+use Rattle.site.specs.WithdrawLaws.{withdraw-refused-turn, withdraw-refused-state, found-below, volatile-few, withdraw-does}
+use borrow.Author.Needs.{needs}
+use Rattle.site.proofs.Site.withdraw.Statement.{statement}
+use Rattle.site.proofs.Site.withdraw.Tie as tie
+use Rattle.site.proofs.Site.withdraw.Reads as reads
+use Rattle.site.proofs.Site.withdraw.Lts as lts
+use Rattle.site.proofs.busy.busy.Reads as busy-reads
+use Rattle.site.proofs.no_numbers.Reads as no-numbers-reads
+use Rattle.site.proofs.refusal.Reads as refusal-reads
+use Rattle.table.proofs.Queue.find.Reads as find-reads
+use Rattle.table.proofs.Queue.remove.Reads as remove-reads
+use Rattle.table.proofs.became_dry.Reads as became-dry-reads
+
+-- src/withdraw.rt:24:24
+refusal-requires : tie.Need-refusal-requires
+refusal-requires c κs = search needs
+
+-- src/withdraw.rt:22:13
+returns : tie.Need-returns
+returns c =
+    let e = c .before .before .before in
+    refuses (e .args .self) (now (e .args .log)) _ OutOfTurn _
+    (withdraw-refused-turn (e .args .self) (now (e .args .log)) (e .args .id) (omega (arith, e .fits .id)) (c .before .if1 .taken)) (c .refusal .ensures) refl
+
+-- src/withdraw.rt:28:15
+find-requires : tie.Need-find-requires
+unfolding Valid
+find-requires c κs = c .before .before .before .pre .carries .usable
+
+-- src/withdraw.rt:31:32
+enum-told : tie.Need-enum-told
+enum-told c = search needs
+
+-- src/withdraw.rt:31:24
+refusal-requires-2 : tie.Need-refusal-requires-2
+refusal-requires-2 c κs = search needs
+
+-- src/withdraw.rt:33:23
+enum-known-at : tie.Need-enum-known-at
+enum-known-at c = search needs
+
+-- src/withdraw.rt:34:21
+remove-requires : tie.Need-remove-requires
+unfolding Valid
+remove-requires c κs =
+    let e = c .before .before .before .before .before .before .before in
+    let u = e .pre .carries .usable in
+    (u, found-below _ u (e .args .id) false (c .before .at .given .0 .0) (sym (c .before .before .before .find .ensures) ∙ c .before .at .given .1))
+
+-- src/withdraw.rt:36:29
+sub-from : tie.Need-sub-from
+sub-from c = marked _ _ (c .before .before .before .before .before .before .before .before .before .before .pre) .stable
+
+-- src/withdraw.rt:37:21
+busy-requires : tie.Need-busy-requires
+unfolding Valid
+busy-requires c κs =
+    let e = c .before .before .before .before .before .before .before .before .before .before in
+    (e .pre .carries .usable, (e .pre .carries .finished .usable, volatile-few (e .args .self) (now (e .args .log)) (e .pre)))
+
+-- src/withdraw.rt:38:21
+busy-requires-2 : tie.Need-busy-requires-2
+unfolding Valid
+busy-requires-2 c κs =
+    let e = c .before .before .before .before .before .before .before .before .before .before .before in
+    (c .before .before .before .remove .ensures .usable, (e .pre .carries .finished .usable, volatile-few (e .args .self) (now (e .args .log)) (e .pre)))
+
+-- src/withdraw.rt:39:21
+became-dry-requires : tie.Need-became-dry-requires
+became-dry-requires c κs = marked _ _ (c .before .before .before .before .before .before .before .before .before .before .before .before .pre) .few
+
+-- src/withdraw.rt:47:33
+no-numbers-requires : tie.Need-no-numbers-requires
+no-numbers-requires c κs = search needs
+
+-- src/withdraw.rt:16:5
+returns-2 : tie.Need-returns-2
+returns-2 c =
+    let f = c .before .before .before in
+    let e = f .before .before .before .before in
+    refuses (e .args .self) (now (e .args .log)) _ WrongState _
+    (withdraw-refused-state (e .args .self) (now (e .args .log)) (e .args .id) (omega (arith, e .fits .id)) (f .before .before .if1 .left)
+    (sym (f .find .ensures) ∙ c .before .enum-told .given .1))
+    (c .refusal2 .ensures) refl
+
+-- src/withdraw.rt:16:5
+returns-3 : tie.Need-returns-3
+returns-3 c =
+    let f = c .before .before .before .before .before .before .before .before in
+    let e = f .before .before .before .before .before .before in
+    withdraw-does (e .args .self) (now (e .args .log)) (e .args .id) (f .at .given .0 .0) (e .pre) (omega (arith, e .fits .id)) (f .before .before .before .before .if1 .left)
+    (sym (f .before .before .find .ensures) ∙ f .at .given .1)
+    _ _ _ _ _ (c .before .before .before .before .before .before .remove .ensures) (c .before .before .before .busy .ensures) (c .before .before .busy2 .ensures)
+    (c .before .became-dry .ensures) (c .no-numbers .ensures)
+
+pub withdraw-spec : {M : Type 1} → statement M
+withdraw-spec =
+    tie.close
+    (tie.spec
+    refusal-requires
+    returns
+    find-requires
+    enum-told
+    refusal-requires-2
+    enum-known-at
+    remove-requires
+    sub-from
+    busy-requires
+    busy-requires-2
+    became-dry-requires
+    no-numbers-requires
+    returns-2
+    returns-3)
