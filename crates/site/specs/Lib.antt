@@ -7,3 +7,5 @@ pub mod LineLaws
 pub mod AddLaws
 pub mod FinishLaws
 pub mod OpenLaws
+pub mod DrainLaws
+pub mod RedoLaws

@@ -17,6 +17,7 @@ pub mod add;
 pub mod end;
 pub mod finish;
 pub mod open;
+pub mod redo;
 pub mod show;
 
 // A site by value. Its log stands in the first `used` bytes of a buffer that the caller lends to each call.
