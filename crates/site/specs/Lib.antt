@@ -14,3 +14,5 @@ pub mod AddLaws
 pub mod FinishLaws
 pub mod OpenLaws
 pub mod RestartLaws
+pub mod DrainLaws
+pub mod RedoLaws

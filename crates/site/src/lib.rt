@@ -21,6 +21,7 @@ pub mod finish;
 pub mod open;
 pub mod persistent;
 pub mod restart;
+pub mod redo;
 pub mod show;
 pub mod stable;
 pub mod withdraw;
