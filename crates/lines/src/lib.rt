@@ -1,0 +1,1 @@
+// No code: what the reader and the writer promise together stands in specs/.
