@@ -10,14 +10,14 @@ ghost use Rattle.site.specs.Busy.{busyIn};
 use table::DoneList;
 use table::Queue;
 
-pub fn or(a: bool, b: bool) -> bool
+fn or(a: bool, b: bool) -> bool
     ensures { λ r. ⌜ r ≡ (a || b) ⌝ }
 {
     if a { true } else { b }
 }
 
 // The histories that are marked in one array or in the other.
-pub fn either(a: [bool; 16], b: [bool; 16]) -> [bool; 16]
+fn either(a: [bool; 16], b: [bool; 16]) -> [bool; 16]
     ensures { λ r. ⌜ Says false r (λ (h : ℕ). getD a h false || getD b h false) ⌝ }
 {
     let mut r = [false; 16];
