@@ -1,0 +1,5 @@
+pub mod Model
+pub mod TurnLaws
+pub mod Feeding
+pub mod FeedingLaws
+pub mod BegunLaws

@@ -1,0 +1,115 @@
+// A session: one form a line in, one reply a line out, over a site whose log stands in a lent buffer.
+ghost use mathlib.Core.Path.{_≡_};
+ghost use Prim.Native.Nat.{ℕ};
+ghost use mathlib.Core.List.{List, [], _∷_, _++_};
+ghost use Rattle.rules.specs.Calls.{Call};
+ghost use Rattle.rules.specs.Session.{calling};
+ghost use Rattle.session.specs.Model.{sessionView, ValidSession, turnedOf, Refuses, Turns};
+ghost use Rattle.session.specs.Feeding.{UsableBegun, Begins};
+use forms::Refusal;
+use forms::ReplyLine;
+use site::Called;
+use site::Site;
+use site::refusal;
+
+// A session by value: whether its site is open, and that site. Its log buffer is lent to each call.
+pub struct Session {
+    pub opened: bool,
+    pub site: Site,
+}
+
+// What a line gives: the session after it, and the reply.
+pub struct Turned {
+    pub session: Session,
+    pub reply: ReplyLine,
+}
+
+// The unended line so far: its first `len` bytes, or that it is above 1,024 bytes.
+pub struct Begun {
+    pub bytes: [u8; 1024],
+    pub len: usize,
+    pub over: bool,
+}
+
+// No byte of a line yet.
+pub fn no_line() -> Begun
+    ensures { λ r. ⌜ Begins r [] ⌝ }
+{
+    Begun {
+        bytes: [0; 1024],
+        len: 0,
+        over: false,
+    }
+}
+
+// One byte more, which ends no line.
+pub fn with_byte(b: Begun, x: u8) -> Begun
+    requires { ⌜ UsableBegun b ⌝ }
+    ensures { λ r. ⌜ ((line : List ℕ) → Begins b line → Begins r (line ++ (x ∷ []))) ⌝ }
+{
+    let n = b.len;
+    let mut bytes = b.bytes;
+    if n < 1024 {
+        bytes[n] = x;
+        return Begun {
+            bytes,
+            len: n + 1,
+            over: b.over,
+        };
+    }
+    Begun {
+        bytes,
+        len: n,
+        over: true,
+    }
+}
+
+// What the session's site handed back.
+pub fn called(c: Called) -> Turned
+    ensures { λ r. ⌜ r ≡ turnedOf c ⌝ }
+{
+    let site = c.site;
+    let reply = c.reply;
+    Turned {
+        session: Session { opened: true, site },
+        reply,
+    }
+}
+
+impl Session {
+    // A line that is refused.
+    pub fn refuse(self, q: Refusal) -> Turned
+        ensures { λ r. ⌜ Refuses self q r ⌝ }
+    {
+        Turned {
+            session: self,
+            reply: refusal(q),
+        }
+    }
+
+    // `(show H)`
+    pub fn show(self, log: &[u8], h: u64) -> Turned
+        requires { ⌜ ValidSession self (now log) ⌝ }
+        ensures { λ r. ⌜ Turns self (now (log .entry)) (calling (Call.Show h) (sessionView self (now (log .entry)))) r (now (log .entry)) ⌝ }
+    {
+        if self.opened {
+            let site = self.site;
+            called(site.show(log, h))
+        } else {
+            self.refuse(Refusal::OutOfTurn)
+        }
+    }
+
+    // `(end)`
+    pub fn end(self, log: &[u8]) -> Turned
+        requires { ⌜ ValidSession self (now log) ⌝ }
+        ensures { λ r. ⌜ Turns self (now (log .entry)) (calling Call.End (sessionView self (now (log .entry)))) r (now (log .entry)) ⌝ }
+    {
+        if self.opened {
+            let site = self.site;
+            called(site.end(log))
+        } else {
+            self.refuse(Refusal::OutOfTurn)
+        }
+    }
+}
