@@ -2,10 +2,17 @@
 ghost use mathlib.Core.Path.{_≡_};
 ghost use Prim.Native.Nat.{ℕ};
 ghost use mathlib.Core.List.{List, [], _∷_, _++_};
-ghost use Rattle.rules.specs.Calls.{Call};
+ghost use lib.Dec.{T};
+ghost use lib.ListN.{length};
+ghost use Rattle.forms.specs.Lists.{all};
+ghost use Rattle.forms.specs.Forms.{Update};
+ghost use Rattle.forms.specs.Held.{heldUpdates};
+ghost use Rattle.rules.specs.Calls.{Call, writableUpdate};
 ghost use Rattle.rules.specs.Session.{calling};
 ghost use Rattle.session.specs.Model.{sessionView, ValidSession, turnedOf, Refuses, Turns};
 ghost use Rattle.session.specs.Feeding.{UsableBegun, Begins};
+ghost use Rattle.site.specs.AddLaws.{Asks};
+use forms::AskedHeld;
 use forms::Refusal;
 use forms::ReplyLine;
 use site::Called;
@@ -108,6 +115,73 @@ impl Session {
         if self.opened {
             let site = self.site;
             called(site.end(log))
+        } else {
+            self.refuse(Refusal::OutOfTurn)
+        }
+    }
+
+    // `(persistent N)`
+    pub fn persistent(self, log: &[u8], n: u64) -> Turned
+        requires { ⌜ ValidSession self (now log) ⌝ }
+        ensures { λ r. ⌜ Turns self (now (log .entry)) (calling (Call.Persistent n) (sessionView self (now (log .entry)))) r (now (log .entry)) ⌝ }
+    {
+        if self.opened {
+            let site = self.site;
+            called(site.persistent(log, n))
+        } else {
+            self.refuse(Refusal::OutOfTurn)
+        }
+    }
+
+    // `(stable N)`
+    pub fn stable(self, log: &[u8], n: u64) -> Turned
+        requires { ⌜ ValidSession self (now log) ⌝ }
+        ensures { λ r. ⌜ Turns self (now (log .entry)) (calling (Call.Stable n) (sessionView self (now (log .entry)))) r (now (log .entry)) ⌝ }
+    {
+        if self.opened {
+            let site = self.site;
+            called(site.stable(log, n))
+        } else {
+            self.refuse(Refusal::OutOfTurn)
+        }
+    }
+
+    // `(cut K)`
+    pub fn cut(self, log: &[u8], k: u64) -> Turned
+        requires { ⌜ ValidSession self (now log) ⌝ }
+        ensures { λ r. ⌜ Turns self (now (log .entry)) (calling (Call.Cut k (length (now (log .entry)))) (sessionView self (now (log .entry)))) r (now (log .entry)) ⌝ }
+    {
+        if self.opened {
+            let site = self.site;
+            called(site.cut(log, k))
+        } else {
+            self.refuse(Refusal::OutOfTurn)
+        }
+    }
+
+    // `(add ID (RULE H U O)...)`
+    pub fn add(self, log: &[u8], id: u64, asked: AskedHeld) -> Turned
+        requires { ⌜ ValidSession self (now log) ⌝ }
+        requires { ⌜ Asks asked ⌝ }
+        ensures { λ r. ⌜ ((us : List Update) → asked ≡ heldUpdates us → T (all writableUpdate us) →
+            Turns self (now (log .entry)) (calling (Call.Add id us) (sessionView self (now (log .entry)))) r (now (log .entry))) ⌝ }
+    {
+        if self.opened {
+            let site = self.site;
+            called(site.add(log, id, asked))
+        } else {
+            self.refuse(Refusal::OutOfTurn)
+        }
+    }
+
+    // `(finish ID)`
+    pub fn finish(self, log: &mut [u8], id: u64) -> Turned
+        requires { ⌜ ValidSession self (now log) ⌝ }
+        ensures { λ r. ⌜ Turns self (now (log .entry)) (calling (Call.Finish id) (sessionView self (now (log .entry)))) r (now (log .exit)) ⌝ }
+    {
+        if self.opened {
+            let site = self.site;
+            called(site.finish(log, id))
         } else {
             self.refuse(Refusal::OutOfTurn)
         }
