@@ -3,3 +3,4 @@ pub mod TurnLaws
 pub mod Feeding
 pub mod FeedingLaws
 pub mod BegunLaws
+pub mod OpenLaws

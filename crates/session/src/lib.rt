@@ -8,7 +8,7 @@ ghost use Rattle.forms.specs.Lists.{all};
 ghost use Rattle.forms.specs.Forms.{Update};
 ghost use Rattle.forms.specs.Held.{heldUpdates};
 ghost use Rattle.rules.specs.Calls.{Call, writableUpdate};
-ghost use Rattle.rules.specs.Session.{calling};
+ghost use Rattle.rules.specs.Session.{calling, opening};
 ghost use Rattle.session.specs.Model.{sessionView, ValidSession, turnedOf, Refuses, Turns};
 ghost use Rattle.session.specs.Feeding.{UsableBegun, Begins};
 ghost use Rattle.site.specs.AddLaws.{Asks};
@@ -184,6 +184,27 @@ impl Session {
             called(site.finish(log, id))
         } else {
             self.refuse(Refusal::OutOfTurn)
+        }
+    }
+
+    // `(site N)`: a refused opening hands back a site without histories.
+    pub fn open_site(self, log: &mut [u8], n: u64) -> Turned
+        requires { ⌜ ValidSession self (now log) ⌝ }
+        ensures { λ r. ⌜ Turns self (now (log .entry)) (opening (length (now (log .entry))) n (sessionView self (now (log .entry)))) r (now (log .exit)) ⌝ }
+    {
+        if self.opened {
+            return self.refuse(Refusal::OutOfTurn);
+        }
+        let c = Site::open(log, n);
+        let site = c.site;
+        let reply = c.reply;
+        if site.count == 0 {
+            Turned {
+                session: self,
+                reply,
+            }
+        } else {
+            called(c)
         }
     }
 }
