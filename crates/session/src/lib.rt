@@ -146,6 +146,19 @@ impl Session {
         }
     }
 
+    // `(withdraw ID)`
+    pub fn withdraw(self, log: &[u8], id: u64) -> Turned
+        requires { ⌜ ValidSession self (now log) ⌝ }
+        ensures { λ r. ⌜ Turns self (now (log .entry)) (calling (Call.Withdraw id) (sessionView self (now (log .entry)))) r (now (log .entry)) ⌝ }
+    {
+        if self.opened {
+            let site = self.site;
+            called(site.withdraw(log, id))
+        } else {
+            self.refuse(Refusal::OutOfTurn)
+        }
+    }
+
     // `(cut K)`
     pub fn cut(self, log: &[u8], k: u64) -> Turned
         requires { ⌜ ValidSession self (now log) ⌝ }
