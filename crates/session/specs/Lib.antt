@@ -4,3 +4,4 @@ pub mod Feeding
 pub mod FeedingLaws
 pub mod BegunLaws
 pub mod OpenLaws
+pub mod ReadLaws

@@ -5,16 +5,23 @@ ghost use mathlib.Core.List.{List, [], _∷_, _++_};
 ghost use lib.Dec.{T};
 ghost use lib.ListN.{length};
 ghost use Rattle.forms.specs.Lists.{all};
-ghost use Rattle.forms.specs.Forms.{Update};
-ghost use Rattle.forms.specs.Held.{heldUpdates};
+ghost use Rattle.forms.specs.Decimal.Step.{got};
+ghost use Rattle.forms.specs.Forms.{Update, Did, didText};
+ghost use Rattle.forms.specs.Reading.{readDid};
+ghost use Rattle.forms.specs.Held.{heldUpdates, heldDid};
 ghost use Rattle.rules.specs.Calls.{Call, writableUpdate};
-ghost use Rattle.rules.specs.Session.{calling, opening};
-ghost use Rattle.session.specs.Model.{sessionView, ValidSession, turnedOf, Refuses, Turns};
+ghost use Rattle.rules.specs.Session.{calling, opening, turn};
+ghost use Rattle.session.specs.Model.{sessionView, ValidSession, turnedOf, Refuses, Turns, obeyed};
 ghost use Rattle.session.specs.Feeding.{UsableBegun, Begins};
 ghost use Rattle.site.specs.AddLaws.{Asks};
+ghost use Rattle.site.specs.RedoLaws.{Tells};
 use forms::AskedHeld;
+use forms::DidLine;
 use forms::Refusal;
 use forms::ReplyLine;
+use reader::CommandForm;
+use reader::CommandRead;
+use reader::read_command;
 use site::Called;
 use site::Site;
 use site::refusal;
@@ -200,6 +207,21 @@ impl Session {
         }
     }
 
+    // `(redo (did ID (RULE H U P O)...))`
+    pub fn redo(self, log: &mut [u8], d: DidLine) -> Turned
+        requires { ⌜ ValidSession self (now log) ⌝ }
+        requires { ⌜ Tells d ⌝ }
+        ensures { λ r. ⌜ ((did : Did) → d ≡ heldDid did → readDid (didText did) ≡ got did [] →
+            Turns self (now (log .entry)) (calling (Call.Redo (didText did)) (sessionView self (now (log .entry)))) r (now (log .exit))) ⌝ }
+    {
+        if self.opened {
+            let site = self.site;
+            called(site.redo_did(log, d))
+        } else {
+            self.refuse(Refusal::OutOfTurn)
+        }
+    }
+
     // `(site N)`: a refused opening hands back a site without histories.
     pub fn open_site(self, log: &mut [u8], n: u64) -> Turned
         requires { ⌜ ValidSession self (now log) ⌝ }
@@ -219,5 +241,40 @@ impl Session {
         } else {
             called(c)
         }
+    }
+
+    // What a form asks for.
+    pub fn obey(self, log: &mut [u8], c: CommandRead) -> Turned
+        requires { ⌜ ValidSession self (now log) ⌝ }
+        requires { ⌜ Asks (c .asked) ⌝ }
+        requires { ⌜ Tells (c .did) ⌝ }
+        ensures { λ r. ⌜ ((us : List Update) (did : Did) → c .asked ≡ heldUpdates us → T (all writableUpdate us) → c .did ≡ heldDid did → readDid (didText did) ≡ got did [] →
+            Turns self (now (log .entry)) (obeyed (length (now (log .entry))) (c .form) us did (sessionView self (now (log .entry)))) r (now (log .exit))) ⌝ }
+    {
+        let form = c.form;
+        let asked = c.asked;
+        let did = c.did;
+        match form {
+            CommandForm::Bad => self.refuse(Refusal::Unreadable),
+            CommandForm::SiteOf(n) => self.open_site(log, n),
+            CommandForm::Add(i) => self.add(log, i, asked),
+            CommandForm::Finish(i) => self.finish(log, i),
+            CommandForm::Withdraw(i) => self.withdraw(log, i),
+            CommandForm::Persistent(n) => self.persistent(log, n),
+            CommandForm::Stable(n) => self.stable(log, n),
+            CommandForm::Show(h) => self.show(log, h),
+            CommandForm::Cut(k) => self.cut(log, k),
+            CommandForm::Redo => self.redo(log, did),
+            CommandForm::End => self.end(log),
+        }
+    }
+
+    // A line of the input, without its end.
+    pub fn turn(self, log: &mut [u8], line: &[u8]) -> Turned
+        requires { ⌜ ValidSession self (now log) ⌝ }
+        ensures { λ r. ⌜ Turns self (now (log .entry)) (turn (length (now (log .entry))) (now (line .entry)) (sessionView self (now (log .entry)))) r (now (log .exit)) ⌝ }
+    {
+        let c = read_command(line);
+        self.obey(log, c)
     }
 }
