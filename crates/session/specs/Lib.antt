@@ -5,3 +5,4 @@ pub mod FeedingLaws
 pub mod BegunLaws
 pub mod OpenLaws
 pub mod ReadLaws
+pub mod AnswerLaws

@@ -5,7 +5,7 @@ use mathlib.Core.Bool.{Bool, true, false}
 use mathlib.Core.List.{List, []}
 use mathlib.Core.Option.{Option, none, some}
 use lib.ListN.{length, drop}
-use Rattle.forms.specs.Forms.{Update, Did, Outcome, Refused, Accepted, didText}
+use Rattle.forms.specs.Forms.{Update, Did, Outcome, Refused, Accepted, didText, outcomeText}
 use Rattle.forms.specs.declared.Refusal.{Refusal}
 use Rattle.forms.specs.declared.Refusal.the-variants.{Unreadable}
 use Rattle.rules.specs.State.{State, refused}
@@ -15,8 +15,10 @@ use Rattle.reader.specs.declared.CommandForm.{CommandForm}
 use Rattle.site.specs.declared.Site.{Site}
 use Rattle.site.specs.declared.Called.{Called}
 use Rattle.site.specs.Model.{view, Valid, Says}
+use Rattle.writer.specs.Write.{Writes, withEnd}
 use Rattle.session.specs.declared.Session.{Session}
 use Rattle.session.specs.declared.Turned.{Turned}
+use Rattle.session.specs.declared.Answered.{Answered}
 
 -- ### The session as a state
 
@@ -67,6 +69,18 @@ pub record Refuses (s : Session) (q : Refusal) (r : Turned) : Type 0 where
 -- what a call of the site hands back, as a turn
 abbrev pub turnedOf : Called → Turned
 turnedOf c = record { session = record { opened = true; site = c .site }; reply = c .reply }
+
+-- A session that has no site yet.
+pub record Starts (s : Session) (bytes : List ℕ) : Type 0 where
+  pub view : sessionView s bytes ≡ none
+  pub valid : ValidSession s bytes
+
+-- The turn t is taken, and its reply with its end stands at the front of the buffer that was `out` and is `written`, if it fits there.
+pub record Answers (s : Session) (old : List ℕ) (t : Turn) (r : Answered) (new out written : List ℕ) : Type 0 where
+  pub turned : Turned
+  pub session : r .session ≡ turned .session
+  pub turns : Turns s old t turned new
+  pub text : Writes out 0 (withEnd (outcomeText (t .reply))) (r .next) written
 
 -- ### The forms of a line
 

@@ -11,7 +11,7 @@ ghost use Rattle.forms.specs.Reading.{readDid};
 ghost use Rattle.forms.specs.Held.{heldUpdates, heldDid};
 ghost use Rattle.rules.specs.Calls.{Call, writableUpdate};
 ghost use Rattle.rules.specs.Session.{calling, opening, turn};
-ghost use Rattle.session.specs.Model.{sessionView, ValidSession, turnedOf, Refuses, Turns, obeyed};
+ghost use Rattle.session.specs.Model.{sessionView, ValidSession, turnedOf, Refuses, Turns, obeyed, Starts, Answers};
 ghost use Rattle.session.specs.Feeding.{UsableBegun, Begins};
 ghost use Rattle.site.specs.AddLaws.{Asks};
 ghost use Rattle.site.specs.RedoLaws.{Tells};
@@ -25,6 +25,8 @@ use reader::read_command;
 use site::Called;
 use site::Site;
 use site::refusal;
+use writer::Written;
+use writer::write_reply;
 
 // A session by value: whether its site is open, and that site. Its log buffer is lent to each call.
 pub struct Session {
@@ -36,6 +38,12 @@ pub struct Session {
 pub struct Turned {
     pub session: Session,
     pub reply: ReplyLine,
+}
+
+// What a line gives with its reply written: the session after it, and where the reply ends.
+pub struct Answered {
+    pub session: Session,
+    pub next: Written,
 }
 
 // The unended line so far: its first `len` bytes, or that it is above 1,024 bytes.
@@ -276,5 +284,28 @@ impl Session {
     {
         let c = read_command(line);
         self.obey(log, c)
+    }
+
+    // A session "before site".
+    pub fn start() -> Session
+        ensures { λ r. ⌜ ((bytes : List ℕ) → Starts r bytes) ⌝ }
+    {
+        Session {
+            opened: false,
+            site: Site::blank(),
+        }
+    }
+
+    // A line of the input, without its end, and its reply, with its end, at the front of `out`.
+    pub fn answer(self, log: &mut [u8], line: &[u8], out: &mut [u8]) -> Answered
+        requires { ⌜ ValidSession self (now log) ⌝ }
+        ensures { λ r. ⌜ Answers self (now (log .entry)) (turn (length (now (log .entry))) (now (line .entry)) (sessionView self (now (log .entry))))
+            r (now (log .exit)) (now (out .entry)) (now (out .exit)) ⌝ }
+    {
+        let t = self.turn(log, line);
+        let session = t.session;
+        let reply = t.reply;
+        let next = write_reply(out, 0, reply);
+        Answered { session, next }
     }
 }
