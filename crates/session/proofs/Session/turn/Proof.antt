@@ -1,0 +1,30 @@
+use denote.Ref.{now}
+use Rattle.session.specs.ReadLaws.{asks-read, tells-read, turns-by}
+use borrow.Author.Needs.{needs}
+use Rattle.session.proofs.Session.turn.Statement.{statement}
+use Rattle.session.proofs.Session.turn.Tie as tie
+use Rattle.session.proofs.Session.turn.Reads as reads
+use Rattle.session.proofs.Session.turn.Lts as lts
+use Rattle.reader.proofs.read_command.Reads as read-command-reads
+use Rattle.session.proofs.Session.obey.Reads as obey-reads
+
+read-command-requires : tie.Need-read-command-requires
+read-command-requires c κs = search needs
+
+obey-requires : tie.Need-obey-requires
+obey-requires c κs =
+    let e = c .before .before .before .before in
+    let q = c .before .read-command .ensures in
+    (e .pre, (asks-read (now (e .args .line)) _ q, tells-read (now (e .args .line)) _ q))
+
+same-length : tie.Need-same-length
+same-length c = search needs
+
+returns : tie.Need-returns
+returns c =
+    let e = c .before .before .before .before .before .before .before in
+    turns-by (now (e .args .line)) _ (c .before .before .before .before .read-command .ensures)
+    (e .args .self) (now (e .args .log)) _ _ (c .before .before .obey .ensures)
+
+pub turn-spec : {M : Type 1} → statement M
+turn-spec = tie.close (tie.spec read-command-requires obey-requires same-length returns)
