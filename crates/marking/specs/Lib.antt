@@ -1,0 +1,4 @@
+pub mod Page
+pub mod FrameLaws
+pub mod PageLaws
+pub mod Sample

@@ -1,0 +1,98 @@
+-- The recovery claim at the printed page: an examination paper as an input text, and the last line that the session prints for it. Proved in PageLaws.
+use mathlib.Core.Path.{_≡_}
+use mathlib.Core.Bool.{Bool}
+use mathlib.Core.Option.{none}
+use mathlib.Core.List.{List, [], _∷_, _++_}
+use mathlib.Core.List.{List·Memᴰ as Mem}
+use Prim.Native.Nat.{ℕ, _<_}
+use lib.Dec.{T}
+use Rattle.forms.specs.Decimal.{Step}
+use Rattle.forms.specs.Decimal.Step.{got, bad}
+use Rattle.forms.specs.Forms.{Command, Did, Answer, Shown, didText, commandText, answerText}
+use Rattle.forms.specs.Reading.{readCommand}
+use Rattle.rules.specs.Book.{Cell, cell}
+use Rattle.rules.specs.Log.{ended, linesOf, restOf}
+use Rattle.rules.specs.State.{State, ok, versionAt}
+use Rattle.rules.specs.Calls.{openSite, Call}
+use Rattle.rules.specs.Run.{run}
+use Rattle.rules.specs.Session.{replies, sessionIn}
+use Rattle.recovery.specs.Claim.{counted, Fair, lostBy, Closed, Just, Asked}
+
+-- ### The calls of a text
+
+-- The call of the site that a form is, in a session whose log buffer has `room` bytes: after a cut the log stands in a buffer of that length again.
+-- `(site N)` is no call of the site: once the site is open it is refused 14 and changes nothing.
+unfoldable pub callOf : ℕ → Command → List Call
+callOf room (Command.SiteOf n) = []
+callOf room (Command.Add i us) = Call.Add i us ∷ []
+callOf room (Command.Finish i) = Call.Finish i ∷ []
+callOf room (Command.Withdraw i) = Call.Withdraw i ∷ []
+callOf room (Command.Persistent n) = Call.Persistent n ∷ []
+callOf room (Command.Stable n) = Call.Stable n ∷ []
+callOf room (Command.Show h) = Call.Show h ∷ []
+callOf room (Command.Cut k) = Call.Cut k room ∷ []
+callOf room (Command.Redo d) = Call.Redo (didText d) ∷ []
+callOf room Command.End = Call.End ∷ []
+
+-- An unreadable line is no call: it is refused 1 and changes nothing.
+unfoldable pub callRead : ℕ → Step Command → List Call
+callRead room bad = []
+callRead room (got c rest) = callOf room c
+
+-- "reads one form a line": the calls that some lines are, in their order. The lines may be any bytes.
+unfoldable pub callsOf : ℕ → List (List ℕ) → List Call
+callsOf room [] = []
+callsOf room (l ∷ ls) = callRead room (readCommand l) ++ callsOf room ls
+
+-- ### The paper
+
+-- The text's lines are these, each with its end, and nothing stands behind the last.
+pub record Text (input : List ℕ) (lines : List (List ℕ)) : Type 0 where
+  pub whole : linesOf input ≡ lines
+  pub rest : restOf input ≡ []
+
+-- `(site N)` and any lines
+abbrev pub fitting : ℕ → List (List ℕ) → List (List ℕ)
+fitting n first = commandText (Command.SiteOf n) ∷ first
+
+-- `(site N)` and any lines, the supply cut `(cut K)`, and any lines
+abbrev pub cutFitting : ℕ → List (List ℕ) → ℕ → List (List ℕ) → List (List ℕ)
+cutFitting n first k later = fitting n first ++ commandText (Command.Cut k) ∷ later
+
+-- some lines, and `(show H)` as the last
+abbrev pub asking : List (List ℕ) → ℕ → List (List ℕ)
+asking lines h = lines ++ commandText (Command.Show h) ∷ []
+
+-- ### The marking sheet
+
+-- The line that `(show H)` prints of a site if the book holds the cell c for H: "history, version, persistent, stable, place, profile".
+-- Version, place and profile are the book's; persistent and stable version are by the site's own marks.
+unfoldable pub sheet : ℕ → Cell → State → List ℕ
+sheet h c site =
+    ended (answerText (Shown h (c .version) (versionAt (site .persistentTo) h site) (versionAt (site .stableTo) h site) (c .place) (c .profile)))
+
+-- For every text with these lines and then `(show H)` the session prints the replies to these lines, and then the marking sheet: it is the last line.
+abbrev pub Prints : ℕ → List (List ℕ) → ℕ → Cell → State → Type 0
+Prints room lines h c site = (input : List ℕ) → Text input (asking lines h) → sessionIn room input ≡ replies room lines none ++ sheet h c site
+
+-- What the session prints of history h. The picked cut took the site from `before` to `after`, and the paper ends at `final`.
+pub record Marked (room n : ℕ) (first : List (List ℕ)) (k : ℕ) (later : List (List ℕ)) (before after final : State) (chosen : Did → Bool) (h : ℕ) : Type 0 where
+  -- "The book is fed did lines only: those the picked cut kept, then the chosen lines whose traced lines are all chosen, in first order."
+  pub fed : List Did
+  pub fedAre : Just (Closed (lostBy before after) chosen) (lostBy before after) fed
+  -- "At the end `show` of each history gives the book's profile, version and place"
+  pub prints : Prints room (cutFitting n first k later) h (cell h (after .log ++ fed)) final
+  -- "if every lost line was chosen, also those just before the picked cut": what `(show H)` prints in the place of the cut
+  pub printsFirst : ((d : Did) → Mem d (lostBy before after) → T (chosen d)) →
+      Prints room (fitting n first) h (cell h (before .log)) before × Prints room (cutFitting n first k later) h (cell h (before .log)) final
+
+-- The claim at the page: for every site that `(site N)` opens, any lines before the picked cut and any lines behind it, where their calls are as the
+-- recovery claim asks (the cut fair; behind it each accepted cut fair, each accepted redo a chosen line, no end accepted, and each chosen line comes).
+abbrev pub PageClaim : Type 0
+PageClaim =
+    (room n : ℕ) (s : State) (answer : Answer) → openSite n room ≡ ok s answer →
+    (first : List (List ℕ)) (k : ℕ) (later : List (List ℕ)) (after : State) (chosen : Did → Bool) →
+    Fair (counted 0 (callsOf room first) s) k room (run (callsOf room first) s) after →
+    Asked 0 s (λ a. callsOf room first ++ Call.Cut k room ∷ a) (callsOf room later) (lostBy (run (callsOf room first) s) after) chosen →
+    (h : ℕ) → h < n →
+    Marked room n first k later (run (callsOf room first) s) after (run (callsOf room first ++ Call.Cut k room ∷ callsOf room later) s) chosen h
