@@ -1,4 +1,5 @@
 pub mod Page
 pub mod FrameLaws
 pub mod PageLaws
+pub mod Restart
 pub mod Sample
