@@ -2,4 +2,6 @@ pub mod Page
 pub mod FrameLaws
 pub mod PageLaws
 pub mod Restart
+pub mod Keepers
+pub mod KeepersLaws
 pub mod Sample

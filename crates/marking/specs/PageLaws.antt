@@ -23,12 +23,12 @@ use Rattle.rules.specs.State.{State, Reply, refused, ok, settle, versionAt}
 use Rattle.rules.specs.Calls.{openRefusal, openSite, opened, Call, show, writable, perform, step}
 use Rattle.rules.specs.CheckLaws.{check-none, unless-ok, unless-check, not-false}
 use Rattle.rules.specs.LogLaws.{histories-most}
-use Rattle.rules.specs.GoodLaws.{good-open}
+use Rattle.rules.specs.GoodLaws.{good-open, good-run}
 use Rattle.rules.specs.Run.{run}
 use Rattle.rules.specs.Session.{Session, turnOf, opening, calling, obey, onCommand, turn, replies, afterLines, restReply, sessionIn}
 use Rattle.recovery.specs.Claim.{justOpened, counted, Fair, lostBy, came, Asked, Shows, Recovered}
 use Rattle.recovery.specs.Ending.{closed-every, just-all, just-one}
-use Rattle.recovery.specs.Recovery.{run-append, recovery}
+use Rattle.recovery.specs.Recovery.{run-append, show-is, recovery}
 use Rattle.recovery.specs.Steps.{ok-state}
 use Rattle.marking.specs.FrameLaws.{Frame, frame-lines}
 use Rattle.marking.specs.Page.{callOf, callRead, callsOf, Text, fitting, cutFitting, asking, sheet, Prints, Marked, PageClaim}
@@ -153,10 +153,14 @@ shown h st c (p, q, e) =
     let same = same-marks st h _ _ _ _ _ (c .version) p q (c .place) (c .profile) found in
     e ∙ ap₂ (λ (x y : ℕ). ok st (Shown h (c .version) x y (c .place) (c .profile))) (same .0) (same .1)
 
--- What a site shows is what the book of its log holds.
-shows-own : (h : ℕ) (st : State) (c : Cell) → Shows st h c → Shows st h (cell h (st .log))
-unfolding step perform show
-shows-own h st c (p, q, e) = (_, _, e ∙ sym (unless-check _ NoSuchHistory _ st _ (unless-check _ Unreadable _ st _ e .1) .1))
+-- If every lost line was chosen, each history shows at the end what the book of the first log holds.
+pub shows-first : (before after : State) (lost : List Did) (chosen : Did → Bool) (lines : List (List ℕ)) (final : State) →
+    Recovered before after lost chosen lines final → ((d : Did) → Mem d lost → T (chosen d)) → (h : ℕ) → h < before .histories →
+    Shows final h (cell h (before .log))
+shows-first before after lost chosen lines final R every h lt =
+    subst (λ (l : List Did). Shows final h (cell h l))
+    (ap (λ (l : List Did). after .log ++ l) (just-one (R .fedAre) lost (just-all lost (closed-every lost chosen every))) ∙ sym (R .first))
+    (R .shows h lt)
 
 -- A session that comes to the site st at its last line, `(show H)`.
 prints-at : (room : ℕ) (lines : List (List ℕ)) (h : ℕ) (c : Cell) (st : State) → h ≤ top → afterLines room lines none ≡ some st → Shows st h c → Prints room lines h c st
@@ -226,17 +230,11 @@ module _
           prints = prints-at room (cutFitting n first k later) h (cell h (after .log ++ R .fed)) final low to-end (R .shows h here-too);
           printsFirst = λ every. (
             prints-at room (fitting n first) h (cell h (before .log)) before low to-cut
-                (let z = R .showsFirst every h here-too in shows-own h before (z .0) (z .1)),
+                (show-is h before (good-run (callsOf room first) s (good-open n room s answer opening-ok)) here-too),
             prints-at room (cutFitting n first k later) h (cell h (before .log)) final low to-end
-                (subst (λ (l : List Did). Shows final h (cell h l)) (all-fed every) (R .shows h here-too)),
+                (shows-first before after (lostBy before after) chosen _ final R every h here-too),
           );
         }
-      where
-        all-fed : ((d : Did) → Mem d (lostBy before after) → T (chosen d)) → after .log ++ R .fed ≡ before .log
-        all-fed every =
-            ap (λ (l : List Did). after .log ++ l)
-            (just-one (R .fedAre) (lostBy before after) (just-all (lostBy before after) (closed-every (lostBy before after) chosen every)))
-            ∙ sym (R .first)
 
 -- The claim at the printed page.
 pub page : PageClaim
