@@ -6,3 +6,4 @@ pub mod Restart
 pub mod Keepers
 pub mod KeepersLaws
 pub mod Sample
+pub mod Stations
