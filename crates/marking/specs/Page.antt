@@ -8,15 +8,16 @@ use Prim.Native.Nat.{ℕ, _<_}
 use lib.Dec.{T}
 use Rattle.forms.specs.Decimal.{Step}
 use Rattle.forms.specs.Decimal.Step.{got, bad}
-use Rattle.forms.specs.Forms.{Command, Did, Answer, Shown, didText, commandText, answerText}
+use Rattle.forms.specs.Forms.{Command, Did, Answer, Shown, Ended, didText, commandText, answerText}
 use Rattle.forms.specs.Reading.{readCommand}
 use Rattle.rules.specs.Book.{Cell, cell}
-use Rattle.rules.specs.Log.{ended, linesOf, restOf}
-use Rattle.rules.specs.State.{State, ok, versionAt}
-use Rattle.rules.specs.Calls.{openSite, Call}
+use Rattle.rules.specs.Log.{ended, linesOf, restOf, historiesFit}
+use Rattle.rules.specs.State.{State, ok, logLimit, versionAt}
+use Rattle.rules.specs.Calls.{opened, openSite, Call}
+use Rattle.rules.specs.Good.{didIds}
 use Rattle.rules.specs.Run.{run}
 use Rattle.rules.specs.Session.{replies, sessionIn}
-use Rattle.recovery.specs.Claim.{counted, Fair, lostBy, Closed, Just, Asked}
+use Rattle.recovery.specs.Claim.{counted, Fair, lostBy, came, Asked, Recovered}
 
 -- ### The calls of a text
 
@@ -75,16 +76,26 @@ sheet h c site =
 abbrev pub Prints : ℕ → List (List ℕ) → ℕ → Cell → State → Type 0
 Prints room lines h c site = (input : List ℕ) → Text input (asking lines h) → sessionIn room input ≡ replies room lines none ++ sheet h c site
 
--- What the session prints of history h. The picked cut took the site from `before` to `after`, and the paper ends at `final`.
-pub record Marked (room n : ℕ) (first : List (List ℕ)) (k : ℕ) (later : List (List ℕ)) (before after final : State) (chosen : Did → Bool) (h : ℕ) : Type 0 where
-  -- "The book is fed did lines only: those the picked cut kept, then the chosen lines whose traced lines are all chosen, in first order."
-  pub fed : List Did
-  pub fedAre : Just (Closed (lostBy before after) chosen) (lostBy before after) fed
-  -- "At the end `show` of each history gives the book's profile, version and place"
-  pub prints : Prints room (cutFitting n first k later) h (cell h (after .log ++ fed)) final
+-- For every text with these lines and then `(end)` the session prints the replies to these lines, and then the ids of the lines that still wait.
+abbrev pub PrintsWaiting : ℕ → List (List ℕ) → List ℕ → Type 0
+PrintsWaiting room lines ids =
+    (input : List ℕ) → Text input (lines ++ commandText Command.End ∷ []) → sessionIn room input ≡ replies room lines none ++ ended (answerText (Ended ids))
+
+-- ### The claim at the page
+
+-- What holds of the paper. The picked cut took the site from `before` to `after`, and the last line finds it at `final`; `came` are the lines that came.
+pub record Marked
+    (room n : ℕ) (first : List (List ℕ)) (k : ℕ) (later : List (List ℕ)) (before after : State) (chosen : Did → Bool) (came : List (List ℕ)) (final : State) :
+    Type 0 where
+  -- the recovery claim of the paper's calls, all of it: what has run, the log's bytes, who waits, and what the book was fed
+  pub recovered : Recovered before after (lostBy before after) chosen came final
+  -- "At the end `show` of each history gives the book's profile, version and place": the last line is the marking sheet
+  pub prints : (h : ℕ) → h < n → Prints room (cutFitting n first k later) h (cell h (after .log ++ recovered .fed)) final
   -- "if every lost line was chosen, also those just before the picked cut": what `(show H)` prints in the place of the cut
-  pub printsFirst : ((d : Did) → Mem d (lostBy before after) → T (chosen d)) →
+  pub printsFirst : ((d : Did) → Mem d (lostBy before after) → T (chosen d)) → (h : ℕ) → h < n →
       Prints room (fitting n first) h (cell h (before .log)) before × Prints room (cutFitting n first k later) h (cell h (before .log)) final
+  -- "`end` would name the other chosen lines in the order in which each first came after the last accepted cut."
+  pub printsOthers : PrintsWaiting room (cutFitting n first k later) (didIds (recovered .others))
 
 -- The claim at the page: for every site that `(site N)` opens, any lines before the picked cut and any lines behind it, where their calls are as the
 -- recovery claim asks (the cut fair; behind it each accepted cut fair, each accepted redo a chosen line, no end accepted, and each chosen line comes).
@@ -94,5 +105,16 @@ PageClaim =
     (first : List (List ℕ)) (k : ℕ) (later : List (List ℕ)) (after : State) (chosen : Did → Bool) →
     Fair (counted 0 (callsOf room first) s) k room (run (callsOf room first) s) after →
     Asked 0 s (λ a. callsOf room first ++ Call.Cut k room ∷ a) (callsOf room later) (lostBy (run (callsOf room first) s) after) chosen →
-    (h : ℕ) → h < n →
-    Marked room n first k later (run (callsOf room first) s) after (run (callsOf room first ++ Call.Cut k room ∷ callsOf room later) s) chosen h
+    Marked room n first k later (run (callsOf room first) s) after chosen
+    (came (callsOf room first ++ Call.Cut k room ∷ callsOf room later) s) (run (callsOf room first ++ Call.Cut k room ∷ callsOf room later) s)
+
+-- The same of the session program: "its log buffer has 65,536 bytes", and `(site N)` with N from 1 to 16 opens the site.
+abbrev pub ProgramClaim : Type 0
+ProgramClaim =
+    (n : ℕ) → T (historiesFit n) → (first : List (List ℕ)) (k : ℕ) (later : List (List ℕ)) (after : State) (chosen : Did → Bool) →
+    Fair (counted 0 (callsOf logLimit first) (opened n logLimit)) k logLimit (run (callsOf logLimit first) (opened n logLimit)) after →
+    Asked 0 (opened n logLimit) (λ a. callsOf logLimit first ++ Call.Cut k logLimit ∷ a) (callsOf logLimit later)
+    (lostBy (run (callsOf logLimit first) (opened n logLimit)) after) chosen →
+    Marked logLimit n first k later (run (callsOf logLimit first) (opened n logLimit)) after chosen
+    (came (callsOf logLimit first ++ Call.Cut k logLimit ∷ callsOf logLimit later) (opened n logLimit))
+    (run (callsOf logLimit first ++ Call.Cut k logLimit ∷ callsOf logLimit later) (opened n logLimit))

@@ -6,32 +6,35 @@ use mathlib.Core.List.{List, [], _∷_, _++_, append-assoc, append-nil}
 use mathlib.Core.List.{List·Memᴰ as Mem}
 use Prim.Native.Nat.{ℕ, _+_, _≤_, _<_}
 use native.Mathlib.Omega.{arith}
-use lib.Dec.{T, leb, leb→le}
+use lib.Dec.{T, leb, leb→le, ltb}
 use lib.ListN.{length, length-append}
 use Rattle.forms.specs.Decimal.{Step, digits, top}
 use Rattle.forms.specs.Decimal.Step.{got, bad}
 use Rattle.forms.specs.DecimalLaws.{digits-at-most}
 use Rattle.forms.specs.Words.{bytes}
-use Rattle.forms.specs.ListLaws.{true-T}
-use Rattle.forms.specs.Forms.{Command, Did, Answer, Outcome, Accepted, Shown, oneText, siteText, didText, commandText, answerText, outcomeText}
+use Rattle.forms.specs.ListLaws.{true-T, T-true}
+use Rattle.forms.specs.Forms.{Command, Did, Answer, Outcome, Accepted, Opened, Shown, Ended, oneText, siteText, didText, commandText, answerText, outcomeText}
 use Rattle.forms.specs.Reading.{readCommand}
-use Rattle.forms.specs.declared.Refusal.the-variants.{Unreadable, WrongCount, NoSuchHistory}
+use Rattle.forms.specs.declared.Refusal.the-variants.{Unreadable, WrongCount, NoSuchHistory, NoRoom, AboveLimit}
 use Rattle.forms.specs.CommandLaws.{command-written}
 use Rattle.rules.specs.Book.{Cell, cell}
 use Rattle.rules.specs.Log.{ended, linesOf, restOf, historiesFit}
-use Rattle.rules.specs.State.{State, Reply, refused, ok, settle, versionAt}
-use Rattle.rules.specs.Calls.{openRefusal, openSite, opened, Call, show, writable, perform, step}
-use Rattle.rules.specs.CheckLaws.{check-none, unless-ok, unless-check, not-false}
+use Rattle.rules.specs.State.{State, Reply, refused, ok, settle, logLimit, versionAt}
+use Rattle.rules.specs.Calls.{openFull, openRefusal, openSite, opened, Call, show, writable, perform, step}
+use Rattle.rules.specs.CheckLaws.{check-none, none-check, unless-none, le-not-lt, unless-ok, unless-check, not-false}
 use Rattle.rules.specs.LogLaws.{histories-most}
-use Rattle.rules.specs.GoodLaws.{good-open}
+use Rattle.rules.specs.FitLaws.{length-ended}
+use Rattle.forms.specs.LengthLaws.{site-length}
+use Rattle.rules.specs.Good.{didIds}
+use Rattle.rules.specs.GoodLaws.{good-open, good-run}
 use Rattle.rules.specs.Run.{run}
-use Rattle.rules.specs.Session.{Session, turnOf, opening, calling, obey, onCommand, turn, replies, afterLines, restReply, sessionIn}
+use Rattle.rules.specs.Session.{Session, Turn, turnOf, opening, calling, obey, onCommand, turn, replies, afterLines, restReply, sessionIn, session}
 use Rattle.recovery.specs.Claim.{justOpened, counted, Fair, lostBy, came, Asked, Shows, Recovered}
 use Rattle.recovery.specs.Ending.{closed-every, just-all, just-one}
-use Rattle.recovery.specs.Recovery.{run-append, recovery}
+use Rattle.recovery.specs.Recovery.{run-append, show-is, recovery}
 use Rattle.recovery.specs.Steps.{ok-state}
 use Rattle.marking.specs.FrameLaws.{Frame, frame-lines}
-use Rattle.marking.specs.Page.{callOf, callRead, callsOf, Text, fitting, cutFitting, asking, sheet, Prints, Marked, PageClaim}
+use Rattle.marking.specs.Page.{callOf, callRead, callsOf, Text, fitting, cutFitting, asking, sheet, Prints, PrintsWaiting, Marked, PageClaim, ProgramClaim}
 
 -- ### A line of a session with a site
 
@@ -103,7 +106,7 @@ session-last room ls l input text =
 
 -- ### Printed forms are read
 
-one-short : (w : List ℕ) (n : ℕ) → length w ≤ 100 → n ≤ top → length (oneText w n) ≤ 1024
+pub one-short : (w : List ℕ) (n : ℕ) → length w ≤ 100 → n ≤ top → length (oneText w n) ≤ 1024
 unfolding oneText
 one-short w n h few = simp length-append (let d = digits-at-most n few in omega arith)
 
@@ -118,6 +121,10 @@ show-form n h = command-written (Command.Show n) h (one-short (bytes "(show ") n
 pub cut-form : (k : ℕ) → k ≤ top → readCommand (commandText (Command.Cut k)) ≡ got (Command.Cut k) []
 unfolding commandText
 cut-form n h = command-written (Command.Cut n) h (one-short (bytes "(cut ") n (omega arith) h)
+
+pub end-form : readCommand (commandText Command.End) ≡ got Command.End []
+unfolding commandText
+end-form = command-written Command.End tt (omega arith)
 
 -- ### The paper
 
@@ -153,18 +160,38 @@ shown h st c (p, q, e) =
     let same = same-marks st h _ _ _ _ _ (c .version) p q (c .place) (c .profile) found in
     e ∙ ap₂ (λ (x y : ℕ). ok st (Shown h (c .version) x y (c .place) (c .profile))) (same .0) (same .1)
 
--- What a site shows is what the book of its log holds.
-shows-own : (h : ℕ) (st : State) (c : Cell) → Shows st h c → Shows st h (cell h (st .log))
-unfolding step perform show
-shows-own h st c (p, q, e) = (_, _, e ∙ sym (unless-check _ NoSuchHistory _ st _ (unless-check _ Unreadable _ st _ e .1) .1))
+-- If every lost line was chosen, each history shows at the end what the book of the first log holds.
+pub shows-first : (before after : State) (lost : List Did) (chosen : Did → Bool) (lines : List (List ℕ)) (final : State) →
+    Recovered before after lost chosen lines final → ((d : Did) → Mem d lost → T (chosen d)) → (h : ℕ) → h < before .histories →
+    Shows final h (cell h (before .log))
+shows-first before after lost chosen lines final R every h lt =
+    subst (λ (l : List Did). Shows final h (cell h l))
+    (ap (λ (l : List Did). after .log ++ l) (just-one (R .fedAre) lost (just-all lost (closed-every lost chosen every))) ∙ sym (R .first))
+    (R .shows h lt)
 
--- A session that comes to the site st at its last line, `(show H)`.
-prints-at : (room : ℕ) (lines : List (List ℕ)) (h : ℕ) (c : Cell) (st : State) → h ≤ top → afterLines room lines none ≡ some st → Shows st h c → Prints room lines h c st
-unfolding turn onCommand obey calling turnOf sheet outcomeText
-prints-at room lines h c st low e shows input text =
-    session-last room lines (commandText (Command.Show h)) input text
+-- A session that comes to the site st at its last line, a form that is a call which the site accepts.
+last-accepted : (room : ℕ) (lines : List (List ℕ)) (f : Command) (c : Call) (st after : State) (answer : Answer) →
+    readCommand (commandText f) ≡ got f [] → ((x : Session) → obey room f x ≡ calling c x) → afterLines room lines none ≡ some st → step c st ≡ ok after answer →
+    (input : List ℕ) → Text input (lines ++ commandText f ∷ []) → sessionIn room input ≡ replies room lines none ++ ended (answerText answer)
+unfolding turn onCommand calling turnOf outcomeText
+last-accepted room lines f c st after answer reads is at e input text =
+    session-last room lines (commandText f) input text
     ∙ ap (λ (x : Outcome). replies room lines none ++ ended (outcomeText x))
-    (ap₂ (λ (x : Step Command) (y : Session). onCommand room x y .reply) (show-form h low) e ∙ ap (λ (x : Reply). turnOf x (some st) .reply) (shown h st c shows))
+    (ap₂ (λ (x : Step Command) (y : Session). onCommand room x y .reply) reads at
+    ∙ ap (λ (x : Turn). x .reply) (is (some st))
+    ∙ ap (λ (x : Reply). turnOf x (some st) .reply) e)
+
+prints-at : (room : ℕ) (lines : List (List ℕ)) (h : ℕ) (c : Cell) (st : State) → h ≤ top → afterLines room lines none ≡ some st → Shows st h c →
+    Prints room lines h c st
+unfolding obey sheet
+prints-at room lines h c st low at shows input text =
+    last-accepted room lines (Command.Show h) (Call.Show h) st st _ (show-form h low) (λ x. refl) at (shown h st c shows) input text
+
+waits-at : (room : ℕ) (lines : List (List ℕ)) (ids : List ℕ) (st : State) → afterLines room lines none ≡ some st →
+    (after : State) → step Call.End st ≡ ok after (Ended ids) → PrintsWaiting room lines ids
+unfolding obey
+waits-at room lines ids st at after e input text =
+    last-accepted room lines Command.End Call.End st after (Ended ids) end-form (λ x. refl) at e input text
 
 module _
     (room n : ℕ) (s : State) (answer : Answer) (opening-ok : openSite n room ≡ ok s answer) (first : List (List ℕ)) (k : ℕ) (later : List (List ℕ)) (after : State)
@@ -197,48 +224,71 @@ module _
       frame-lines n room first s (good-open n room s answer opening-ok)
       (subst (Frame n room) (sym (opens room n s answer opening-ok .site)) (unfold opened in record { n-is = refl; room-is = refl })) .n-is
 
-  module _
-      (asked : Asked 0 s (λ a. callsOf room first ++ Call.Cut k room ∷ a) (callsOf room later) (lostBy (run (callsOf room first) s) after) chosen)
-      (h : ℕ) (known : h < n) where
+  at-first : (h : ℕ) → h < n → h < run (callsOf room first) s .histories
+  at-first h known = subst (λ (i : ℕ). h < i) (sym has) known
+
+  low : (h : ℕ) → h < n → h ≤ top
+  low h known = omega (arith, histories-most n (opens room n s answer opening-ok .fits))
+
+  -- What `(show H)` prints in the place of the cut.
+  prints-first : (h : ℕ) → h < n → Prints room (fitting n first) h (cell h (run (callsOf room first) s .log)) (run (callsOf room first) s)
+  prints-first h known =
+      prints-at room (fitting n first) h (cell h (run (callsOf room first) s .log)) (run (callsOf room first) s) (low h known) to-cut
+      (show-is h (run (callsOf room first) s) (good-run (callsOf room first) s (good-open n room s answer opening-ok)) (at-first h known))
+
+-- The claim at the printed page.
+pub page : PageClaim
+page room n s answer e first k later after chosen fair asked =
+    record {
+      recovered = R;
+      prints = λ h known. prints-at room lines h (cell h (after .log ++ R .fed)) final (low′ h known) end-at (R .shows h (at-first′ h known));
+      printsFirst = λ every h known. (
+        prints-first room n s answer e first k later after chosen fair h known,
+        prints-at room lines h (cell h (before .log)) final (low′ h known) end-at
+            (shows-first before after (lostBy before after) chosen _ final R every h (at-first′ h known)),
+      );
+      printsOthers = λ input text. waits-at room lines (didIds (R .others)) final end-at (R .named .0) (R .named .1) input text;
+    }
+  where
     before : State
     before = run (callsOf room first) s
 
     final : State
     final = run (callsOf room first ++ Call.Cut k room ∷ callsOf room later) s
 
-    low : h ≤ top
-    low = omega (arith, histories-most n (opens room n s answer opening-ok .fits))
+    lines : List (List ℕ)
+    lines = cutFitting n first k later
 
     R : Recovered before after (lostBy before after) chosen (came (callsOf room first ++ Call.Cut k room ∷ callsOf room later) s) final
-    unfolding before final
-    R = recovery 0 s (justOpened n room s answer opening-ok) (callsOf room first) k room (callsOf room later) after chosen fair asked
+    R = recovery 0 s (justOpened n room s answer e) (callsOf room first) k room (callsOf room later) after chosen fair asked
 
-    here-too : h < before .histories
-    unfolding before
-    here-too = subst (λ (i : ℕ). h < i) (sym has) known
+    end-at : afterLines room lines none ≡ some final
+    end-at = to-end room n s answer e first k later after chosen fair
 
-    marked : Marked room n first k later before after final chosen h
-    unfolding before final
-    marked =
-        record {
-          fed = R .fed;
-          fedAre = R .fedAre;
-          prints = prints-at room (cutFitting n first k later) h (cell h (after .log ++ R .fed)) final low to-end (R .shows h here-too);
-          printsFirst = λ every. (
-            prints-at room (fitting n first) h (cell h (before .log)) before low to-cut
-                (let z = R .showsFirst every h here-too in shows-own h before (z .0) (z .1)),
-            prints-at room (cutFitting n first k later) h (cell h (before .log)) final low to-end
-                (subst (λ (l : List Did). Shows final h (cell h l)) (all-fed every) (R .shows h here-too)),
-          );
-        }
-      where
-        all-fed : ((d : Did) → Mem d (lostBy before after) → T (chosen d)) → after .log ++ R .fed ≡ before .log
-        all-fed every =
-            ap (λ (l : List Did). after .log ++ l)
-            (just-one (R .fedAre) (lostBy before after) (just-all (lostBy before after) (closed-every (lostBy before after) chosen every)))
-            ∙ sym (R .first)
+    at-first′ : (h : ℕ) → h < n → h < before .histories
+    at-first′ = at-first room n s answer e first k later after chosen fair
 
--- The claim at the printed page.
-pub page : PageClaim
-unfolding before final
-page room n s answer e first k later after chosen fair asked h known = marked room n s answer e first k later after chosen fair asked h known
+    low′ : (h : ℕ) → h < n → h ≤ top
+    low′ = low room n s answer e first k later after chosen fair
+
+-- ### The session program
+
+-- `(site N)` with N from 1 to 16 opens the site.
+pub site-opens : (n : ℕ) → T (historiesFit n) → openSite n logLimit ≡ ok (opened n logLimit) Opened
+unfolding openSite openRefusal openFull
+site-opens n h =
+    unless-none _ _ (none-check _ WrongCount _ some-histories
+    (none-check _ NoRoom _ (le-not-lt logLimit (length (ended (siteText n))) (omega (arith, length-ended (siteText n), site-length n (histories-most n h))))
+    (none-check (ltb logLimit logLimit) AboveLimit none refl refl)))
+  where
+    some-histories : not (historiesFit n) ≡ false
+    some-histories = rw (T-true (historiesFit n) h)
+
+pub program : ProgramClaim
+program n h first k later after chosen fair asked = page logLimit n (opened n logLimit) Opened (site-opens n h) first k later after chosen fair asked
+
+-- What is said of a session over a buffer of 65,536 bytes is said of the program's session.
+pub prints-session : (lines : List (List ℕ)) (h : ℕ) (c : Cell) (st : State) → Prints logLimit lines h c st →
+    (input : List ℕ) → Text input (asking lines h) → session input ≡ replies logLimit lines none ++ sheet h c st
+unfolding session
+prints-session lines h c st p = p
