@@ -34,7 +34,8 @@ use Rattle.recovery.specs.Ending.{closed-every, just-all, just-one}
 use Rattle.recovery.specs.Recovery.{run-append, show-is, recovery}
 use Rattle.recovery.specs.Steps.{ok-state}
 use Rattle.marking.specs.FrameLaws.{Frame, frame-lines}
-use Rattle.marking.specs.Page.{callOf, callRead, callsOf, Text, fitting, cutFitting, asking, sheet, Prints, PrintsWaiting, Marked, PageClaim, ProgramClaim}
+use Rattle.marking.specs.Page.{callOf, callRead, callsOf, Text, fitting, cutFitting, asking}
+use Rattle.marking.specs.Page.{sheet, Prints, PrintsWaiting, Marked, PageClaim, ProgramClaim}
 
 -- ### A line of a session with a site
 
@@ -171,7 +172,8 @@ shows-first before after lost chosen lines final R every h lt =
 
 -- A session that comes to the site st at its last line, a form that is a call which the site accepts.
 last-accepted : (room : ℕ) (lines : List (List ℕ)) (f : Command) (c : Call) (st after : State) (answer : Answer) →
-    readCommand (commandText f) ≡ got f [] → ((x : Session) → obey room f x ≡ calling c x) → afterLines room lines none ≡ some st → step c st ≡ ok after answer →
+    readCommand (commandText f) ≡ got f [] → ((x : Session) → obey room f x ≡ calling c x) →
+    afterLines room lines none ≡ some st → step c st ≡ ok after answer →
     (input : List ℕ) → Text input (lines ++ commandText f ∷ []) → sessionIn room input ≡ replies room lines none ++ ended (answerText answer)
 unfolding turn onCommand calling turnOf outcomeText
 last-accepted room lines f c st after answer reads is at e input text =
@@ -194,8 +196,8 @@ waits-at room lines ids st at after e input text =
     last-accepted room lines Command.End Call.End st after (Ended ids) end-form (λ x. refl) at e input text
 
 module _
-    (room n : ℕ) (s : State) (answer : Answer) (opening-ok : openSite n room ≡ ok s answer) (first : List (List ℕ)) (k : ℕ) (later : List (List ℕ)) (after : State)
-    (chosen : Did → Bool) (fair : Fair (counted 0 (callsOf room first) s) k room (run (callsOf room first) s) after) where
+    (room n : ℕ) (s : State) (answer : Answer) (opening-ok : openSite n room ≡ ok s answer) (first : List (List ℕ)) (k : ℕ) (later : List (List ℕ))
+    (after : State) (chosen : Did → Bool) (fair : Fair (counted 0 (callsOf room first) s) k room (run (callsOf room first) s) after) where
   -- Where the lines before the picked cut bring the session, and where all lines bring it.
   to-cut : afterLines room (fitting n first) none ≡ some (run (callsOf room first) s)
   unfolding afterLines

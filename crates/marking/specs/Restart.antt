@@ -47,7 +47,8 @@ module _ (st : State) (G : Good st) (buffer : List ℕ) (held : HoldsLog buffer 
   long : length (logBytes st) ≤ length buffer
   long = omega (arith, ap length (held .bytes), length-take (length (logBytes st)) buffer)
 
-  at-restart : restart buffer (length (logBytes st)) ≡ ok (restarted (length buffer) (st .histories) (st .log)) (Restarted (length (st .log)) (length (logBytes st)))
+  at-restart : restart buffer (length (logBytes st))
+      ≡ ok (restarted (length buffer) (st .histories) (st .log)) (Restarted (length (st .log)) (length (logBytes st)))
   unfolding restart restartAs logBytes restarted
   at-restart =
       unless-none _ _ (none-check _ AboveLimit none
