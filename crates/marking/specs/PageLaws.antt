@@ -1,24 +1,24 @@
 -- The claim at the printed page, proved.
 use mathlib.Core.Path.{_≡_, refl, sym, ap, ap₂, _∙_, subst}
-use mathlib.Core.Bool.{Bool, true, false, not}
-use mathlib.Core.Option.{Option, none, some}
+use mathlib.Core.Bool.{Bool, false, not}
+use mathlib.Core.Option.{none, some}
 use mathlib.Core.List.{List, [], _∷_, _++_, append-assoc, append-nil}
 use mathlib.Core.List.{List·Memᴰ as Mem}
 use Prim.Native.Nat.{ℕ, _+_, _≤_, _<_}
 use native.Mathlib.Omega.{arith}
 use lib.Dec.{T, leb, leb→le, ltb}
 use lib.ListN.{length, length-append}
-use Rattle.forms.specs.Decimal.{Step, digits, top}
+use Rattle.forms.specs.Decimal.{Step, top}
 use Rattle.forms.specs.Decimal.Step.{got, bad}
 use Rattle.forms.specs.DecimalLaws.{digits-at-most}
 use Rattle.forms.specs.Words.{bytes}
 use Rattle.forms.specs.ListLaws.{true-T, T-true}
-use Rattle.forms.specs.Forms.{Command, Did, Answer, Outcome, Accepted, Opened, Shown, Ended, oneText, siteText, didText, commandText, answerText, outcomeText}
+use Rattle.forms.specs.Forms.{Command, Did, Answer, Outcome, Opened, Shown, Ended, oneText, siteText, didText, commandText, answerText, outcomeText}
 use Rattle.forms.specs.Reading.{readCommand}
 use Rattle.forms.specs.declared.Refusal.the-variants.{Unreadable, WrongCount, NoSuchHistory, NoRoom, AboveLimit}
 use Rattle.forms.specs.CommandLaws.{command-written}
 use Rattle.rules.specs.Book.{Cell, cell}
-use Rattle.rules.specs.Log.{ended, linesOf, restOf, historiesFit}
+use Rattle.rules.specs.Log.{ended, historiesFit}
 use Rattle.rules.specs.State.{State, Reply, refused, ok, settle, logLimit, versionAt}
 use Rattle.rules.specs.Calls.{openFull, openRefusal, openSite, opened, Call, show, writable, perform, step}
 use Rattle.rules.specs.CheckLaws.{check-none, none-check, unless-none, le-not-lt, unless-ok, unless-check, not-false}
@@ -29,13 +29,13 @@ use Rattle.rules.specs.Good.{didIds}
 use Rattle.rules.specs.GoodLaws.{good-open, good-run}
 use Rattle.rules.specs.Run.{run}
 use Rattle.rules.specs.Session.{Session, Turn, turnOf, opening, calling, obey, onCommand, turn, replies, afterLines, restReply, sessionIn, session}
-use Rattle.recovery.specs.Claim.{justOpened, counted, Fair, lostBy, came, Asked, Shows, Recovered}
+use Rattle.recovery.specs.Claim.{justOpened, counted, Fair, lostBy, came, Shows, Recovered}
 use Rattle.recovery.specs.Ending.{closed-every, just-all, just-one}
 use Rattle.recovery.specs.Recovery.{run-append, show-is, recovery}
 use Rattle.recovery.specs.Steps.{ok-state}
 use Rattle.marking.specs.FrameLaws.{Frame, frame-lines}
 use Rattle.marking.specs.Page.{callOf, callRead, callsOf, Text, fitting, cutFitting, asking}
-use Rattle.marking.specs.Page.{sheet, Prints, PrintsWaiting, Marked, PageClaim, ProgramClaim}
+use Rattle.marking.specs.Page.{sheet, Prints, PrintsWaiting, PageClaim, ProgramClaim}
 
 -- ### A line of a session with a site
 
