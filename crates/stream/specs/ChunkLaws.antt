@@ -1,10 +1,10 @@
 -- Chunks fed one after the other give the replies of the whole.
-use Prim.Native.Nat.{ℕ, zero, suc, _+_, _≤_, _<_}
+use Prim.Native.Nat.{ℕ, zero, suc, _+_, _-_, _≤_, _<_}
 use native.Mathlib.Omega.{arith}
 use mathlib.Core.Path.{_≡_, refl, sym, ap, ap₂, subst, _∙_}
 use mathlib.Core.List.{List, [], _∷_, _++_}
-use lib.ListN.{length, take, drop}
-use lib.Seq.{take-at}
+use lib.ListN.{length, take, drop, length-drop}
+use lib.Seq.{take-at, length-take-le}
 use Rattle.rules.specs.Session.{restReply, sessionIn}
 use Rattle.session.specs.Model.{sessionView}
 use Rattle.session.specs.Feeding.{Progress, atStart, fed, fedAll, joined, Begins}
@@ -138,3 +138,19 @@ moves s old chunk r new out page v f long some = by-used (r .used) refl
     by-used : (k : ℕ) → r .used ≡ k → 0 < r .used
     by-used zero e = absurd (omega (arith, f .stops (omega (arith, e, some)), none e, long))
     by-used (suc k) e = omega (arith, e)
+
+-- The same for what is left of a chunk: some of it is used, and not more.
+pub record Moves (chunk : List ℕ) (at used : ℕ) : Type 0 where
+  pub some : 0 < used
+  pub within : at + used ≤ length chunk
+
+pub moves-on : (s : Stream) (old chunk : List ℕ) (at : ℕ) (r : Fed) (new out page : List ℕ) → ValidStream s old →
+    Feeds s old (take (length chunk - at) (drop at chunk)) r new out page → 2730 ≤ length out → at < length chunk → Moves chunk at (r .used)
+moves-on s old chunk at r new out page v f long lt =
+    record {
+      some = moves s old (take (length chunk - at) (drop at chunk)) r new out page v f long (omega (arith, size, lt));
+      within = let w = f .within in omega (arith, size, lt, w);
+    }
+  where
+    size : length (take (length chunk - at) (drop at chunk)) ≡ length chunk - at
+    size = length-take-le (length chunk - at) (drop at chunk) (let d = length-drop at chunk in omega (arith, d))

@@ -19,7 +19,7 @@ use Rattle.site.specs.Model.{Says, Printable}
 use Rattle.session.specs.declared.Begun.{Begun}
 use Rattle.session.specs.declared.Session.{Session}
 use Rattle.session.specs.Model.{sessionView, Starts}
-use Rattle.session.specs.Feeding.{Progress, atStart, fed, Begins}
+use Rattle.session.specs.Feeding.{Progress, atStart, fed, UsableBegun, Begins}
 use Rattle.writer.specs.Write.{placed, Wrote, Writes, WritesIf, withEnd}
 use Rattle.writer.specs.WriteLaws.{placed-none, writes-there, writes-not}
 use Rattle.writer.specs.declared.Written.{Written}
@@ -28,7 +28,7 @@ use Rattle.stream.specs.declared.Stream.{Stream}
 use Rattle.stream.specs.declared.Fed.{Fed}
 use Rattle.stream.specs.declared.Ran.{Ran}
 use Rattle.stream.specs.Model.{ValidStream, standing, StartsStream, Fronts, Comes, Feeds, RunsWhole, RunsPart, Runs}
-use Rattle.stream.specs.LineLaws.{usable, over-is, held-is}
+use Rattle.stream.specs.LineLaws.{some-line, usable, over-is, held-is}
 use Rattle.stream.specs.ProgressLaws.{replied-grows, session-is, fronts-more, fronts-as}
 
 -- ### Where it was written, and where there was no room
@@ -43,6 +43,19 @@ wrote-at l at bs r m next w e = by-test (leb (at + length bs) (length l)) w
     by-test : (b : Bool) → WritesIf b l at bs r m → Wrote l at bs next m
     by-test true x = let z : At next ≡ At (at + length bs) = sym e ∙ x .answer in record { behind = cc; bytes = x .bytes }
     by-test false x = no-room next (sym e ∙ x .answer)
+
+-- what was written lies within the buffer
+pub wrote-within : (l : List ℕ) (at : ℕ) (bs : List ℕ) (r : Written) (m : List ℕ) (next : ℕ) → Writes l at bs r m → r ≡ At next → next ≤ length l
+unfolding Writes
+wrote-within l at bs r m next w e = by-test (leb (at + length bs) (length l)) refl w
+  where
+    by-test : (b : Bool) → leb (at + length bs) (length l) ≡ b → WritesIf b l at bs r m → next ≤ length l
+    by-test true t x =
+        let z : At next ≡ At (at + length bs) = sym e ∙ x .answer in
+        let k : next ≡ at + length bs = cc in
+        let h = leb-true (at + length bs) (length l) t in
+        omega (arith, k, h)
+    by-test false t x = no-room next (sym e ∙ x .answer)
 
 -- no room: it did not fit, and nothing has changed
 pub record Lacks (l : List ℕ) (at : ℕ) (bs m : List ℕ) : Type 0 where
@@ -97,6 +110,11 @@ module _ (b : Begun) (line : List ℕ) (h : Begins b line) (out : List ℕ) (at 
   unfolding restReply
   rest-far e z lt =
       subst (λ (l : List ℕ). Writes out at (restReply l) NoRoom out) (sym (nothing e z)) (writes-not out at [] (omega arith))
+
+-- The reply to the rest lies within the buffer.
+pub rest-within : (b : Begun) (out : List ℕ) (at : ℕ) (r : Written) (page : List ℕ) (n : ℕ) → UsableBegun b →
+    ((line : List ℕ) → Begins b line → Writes out at (restReply line) r page) → r ≡ At n → n ≤ length out
+rest-within b out at r page n u w e = let l = some-line b u in wrote-within out at (restReply (l .line)) r page n (w (l .line) (l .begins)) e
 
 -- ### The start
 
