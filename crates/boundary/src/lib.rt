@@ -1,0 +1,2 @@
+// The library for programs in other languages: functions on numbers and byte slices, with no `requires`.
+pub mod restart;
