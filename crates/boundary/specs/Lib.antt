@@ -1,2 +1,5 @@
 pub mod Codes
 pub mod RestartLaws
+pub mod ArrayLaws
+pub mod KeeperCalls
+pub mod KeeperCallLaws
