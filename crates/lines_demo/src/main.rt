@@ -1,4 +1,5 @@
-// Reads lines from standard input and prints what each reads as, as a command, a did line and a site line.
+// Reads lines from standard input and prints what each reads as, as a command, a did line and a site line, and the bytes of the last two
+// written again. Then it writes replies of every form, and lines where there is room and where there is one byte too little.
 use forms::Asked;
 use forms::AskedHeld;
 use forms::DidLine;
@@ -9,6 +10,11 @@ use forms::Rule;
 use forms::Version;
 use reader::CommandForm;
 use reader::SiteRead;
+
+mod again;
+mod replies;
+mod room;
+
 ghost use Prim.Native.Nat.{_≤_};
 ghost use lib.ListN.{length};
 
@@ -135,6 +141,8 @@ fn say_line(s: &[u8]) {
         say_number(b" | opens ", n);
     }
     say(b"\n");
+    again::say_did_again(s);
+    again::say_site_again(s);
 }
 
 // The position of the first line end from a position on, or the length where there is none.
@@ -165,4 +173,10 @@ fn main() {
     let mut buffer = io::large_buffer();
     let n = io::read_full(0, &mut buffer);
     say_lines(&buffer[..n]);
+    replies::say_refusals();
+    replies::say_paper();
+    replies::say_edges();
+    room::say_did_room();
+    room::say_site_room();
+    room::say_reply_room();
 }

@@ -1,0 +1,132 @@
+// Replies of every form.
+use super::again::say_front;
+use super::say;
+use forms::LogNumber;
+use forms::Numbers;
+use forms::Place;
+use forms::Refusal;
+use forms::ReplyForm;
+use forms::ReplyLine;
+use forms::Shown;
+use forms::Version;
+ghost use Prim.Native.Nat.{_≤_};
+ghost use lib.ListN.{length};
+ghost use Rattle.writer.specs.Write.{NumbersInRange, ReplyInRange};
+
+// The greatest number that a line can have.
+const MOST: u64 = 18446744073709551615;
+
+// A list of numbers, as a reply has it.
+fn listed(ns: &[u64]) -> Numbers
+    requires { ⌜ length (now ns) ≤ 64 ⌝ }
+    ensures { λ r. ⌜ NumbersInRange r ⌝ }
+{
+    let mut values = [0u64; 64];
+    let mut i: usize = 0;
+    while i < ns.len() {
+        values[i] = ns[i];
+        i += 1;
+    }
+    Numbers { count: i, values }
+}
+
+// A reply with its lists.
+pub fn reply(form: ReplyForm, xs: &[u64], ys: &[u64]) -> ReplyLine
+    requires { ⌜ (length (now xs) ≤ 64) × (length (now ys) ≤ 64) ⌝ }
+    ensures { λ r. ⌜ ReplyInRange r ⌝ }
+{
+    let first = listed(xs);
+    let second = listed(ys);
+    ReplyLine {
+        form,
+        first,
+        second,
+    }
+}
+
+// Writes a reply and prints it.
+fn say_reply(form: ReplyForm, xs: &[u64], ys: &[u64])
+    requires { ⌜ (length (now xs) ≤ 64) × (length (now ys) ≤ 64) ⌝ }
+{
+    let r = reply(form, xs, ys);
+    let mut buf = [b'.'; 2730];
+    let w = writer::write_reply(&mut buf, 0, r);
+    say_front(w, &buf);
+}
+
+// A reply without lists.
+fn say_plain(form: ReplyForm) {
+    say_reply(form, &[], &[]);
+}
+
+// The refusals in the order of their numbers.
+pub fn say_refusals() {
+    say_plain(ReplyForm::Refused(Refusal::Unreadable));
+    say_plain(ReplyForm::Refused(Refusal::WrongCount));
+    say_plain(ReplyForm::Refused(Refusal::NoSuchHistory));
+    say_plain(ReplyForm::Refused(Refusal::HistoryTwice));
+    say_plain(ReplyForm::Refused(Refusal::OperandRange));
+    say_plain(ReplyForm::Refused(Refusal::NothingOrders));
+    say_plain(ReplyForm::Refused(Refusal::IdPending));
+    say_plain(ReplyForm::Refused(Refusal::AlreadyDone));
+    say_plain(ReplyForm::Refused(Refusal::ReadOvertaken));
+    say_plain(ReplyForm::Refused(Refusal::TableFull));
+    say_plain(ReplyForm::Refused(Refusal::WrongState));
+    say_plain(ReplyForm::Refused(Refusal::NoRoom));
+    say_plain(ReplyForm::Refused(Refusal::AboveLimit));
+    say_plain(ReplyForm::Refused(Refusal::OutOfTurn));
+    say_plain(ReplyForm::Refused(Refusal::BadLog));
+}
+
+// What show gives of a history.
+fn say_shown(history: u64, version: u64, persistent: u64, stable: u64, place: u64, profile: u64) {
+    say_plain(ReplyForm::Shows(Shown {
+        history,
+        version: Version(version),
+        persistent: Version(persistent),
+        stable: Version(stable),
+        place: Place(place),
+        profile,
+    }));
+}
+
+// The replies of the paper's session, and those of withdraw and stable.
+pub fn say_paper() {
+    say_plain(ReplyForm::Opened);
+    say_reply(ReplyForm::Added, &[5], &[]);
+    say_reply(ReplyForm::Added, &[], &[]);
+    say_reply(ReplyForm::Finished(LogNumber(1)), &[65536, 0], &[6]);
+    say_reply(ReplyForm::Finished(LogNumber(2)), &[1000], &[]);
+    say_reply(ReplyForm::Persisted, &[0], &[0]);
+    say_shown(0, 1, 1, 0, 1, 65536);
+    say_plain(ReplyForm::Restarted { lines: 1, used: 46 });
+    say_shown(1, 0, 0, 0, 1, 0);
+    say_plain(ReplyForm::Redone(1));
+    say_plain(ReplyForm::Ended);
+    say_shown(1, 4, 0, 0, 2, 1000);
+    say_reply(ReplyForm::Withdrawn, &[0, 1], &[]);
+    say_reply(ReplyForm::Stabilised, &[0, 1], &[]);
+    say_reply(ReplyForm::Ended, &[6, 5], &[]);
+}
+
+// Every form with the greatest numbers and with the longest lists.
+pub fn say_edges() {
+    let few = [MOST; 4];
+    let all = [MOST; 64];
+    let two = [MOST, 0];
+    say_reply(ReplyForm::Added, &all, &two);
+    say_reply(ReplyForm::Finished(LogNumber(MOST)), &few, &all);
+    say_reply(ReplyForm::Finished(LogNumber(MOST)), &all, &all);
+    say_reply(ReplyForm::Persisted, &two, &all);
+    say_plain(ReplyForm::Persisted);
+    say_plain(ReplyForm::Withdrawn);
+    say_plain(ReplyForm::Stabilised);
+    say_shown(MOST, MOST, MOST, MOST, MOST, MOST);
+    say_plain(ReplyForm::Restarted {
+        lines: MOST,
+        used: MOST,
+    });
+    say_plain(ReplyForm::Redone(MOST));
+    say_plain(ReplyForm::Redone(0));
+    say_reply(ReplyForm::Ended, &all, &two);
+}
