@@ -1,4 +1,5 @@
 pub mod Codes
+pub mod Play
 pub mod RestartLaws
 pub mod ArrayLaws
 pub mod KeeperCalls
