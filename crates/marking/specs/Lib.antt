@@ -9,3 +9,4 @@ pub mod Examination
 pub mod ExaminationLaws
 pub mod Sample
 pub mod Stations
+pub mod Code
