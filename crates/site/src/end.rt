@@ -4,7 +4,6 @@ ghost use Rattle.site.specs.Model.{view, Valid, Does};
 use super::Called;
 use super::Site;
 use super::no_numbers;
-use super::refusal;
 use forms::Refusal;
 use forms::ReplyForm;
 use forms::ReplyLine;
@@ -33,10 +32,7 @@ impl Site {
                 },
             }
         } else {
-            Called {
-                site: self,
-                reply: refusal(Refusal::OutOfTurn),
-            }
+            self.refused(Refusal::OutOfTurn)
         }
     }
 }

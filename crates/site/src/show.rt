@@ -4,7 +4,6 @@ ghost use Rattle.site.specs.Model.{view, Valid, Does};
 use super::Called;
 use super::Site;
 use super::no_numbers;
-use super::refusal;
 use forms::Refusal;
 use forms::ReplyForm;
 use forms::ReplyLine;
@@ -19,10 +18,7 @@ impl Site {
     {
         let n = self.count;
         if n as u64 <= h {
-            return Called {
-                site: self,
-                reply: refusal(Refusal::NoSuchHistory),
-            };
+            return self.refused(Refusal::NoSuchHistory);
         }
         let i = h as usize;
         let c = self.histories[i];

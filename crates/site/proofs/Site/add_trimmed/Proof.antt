@@ -14,7 +14,7 @@ use Rattle.site.proofs.Site.add_trimmed.Lts as lts
 use Rattle.history.proofs.entry_of_asked.Reads as entry-of-asked-reads
 use Rattle.site.proofs.Site.add_refusal.Reads as add-refusal-reads
 use Rattle.site.proofs.no_numbers.Reads as no-numbers-reads
-use Rattle.site.proofs.refusal.Reads as refusal-reads
+use Rattle.site.proofs.Site.refused.Reads as refused-reads
 use Rattle.table.proofs.Queue.push.Reads as push-reads
 use Rattle.table.proofs.Queue.try_all.Reads as try-all-reads
 
@@ -27,8 +27,8 @@ enum-known-q : tie.Need-enum-known-q
 enum-known-q c = search needs
 
 -- src/add.rt:87:64
-refusal-requires : tie.Need-refusal-requires
-refusal-requires c κs = search needs
+refused-requires : tie.Need-refused-requires
+refused-requires c κs = search needs
 
 -- src/add.rt:89:21
 enum-told : tie.Need-enum-told
@@ -71,7 +71,7 @@ returns c =
     let le : a .id ≤ top = omega (arith, e .fits .id) in
     refuses (a .self) (now (a .log)) _ _ _
     (add-refused (a .id) us (view (a .self) (now (a .log))) le w _ (refused-is _ _ (sym (c .before .before .q .given .1) ∙ r .add-refusal .ensures us h)))
-    (c .refusal .ensures) refl
+    (c .refused .ensures .0) (c .refused .ensures .1)
 
 -- src/add.rt:80:5
 returns-2 : tie.Need-returns-2
@@ -94,7 +94,7 @@ add-trimmed-spec =
     (tie.spec
     add-refusal-requires
     enum-known-q
-    refusal-requires
+    refused-requires
     enum-told
     entry-of-asked-requires
     push-requires

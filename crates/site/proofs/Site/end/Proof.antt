@@ -10,7 +10,7 @@ use Rattle.site.proofs.Site.end.Tie as tie
 use Rattle.site.proofs.Site.end.Reads as reads
 use Rattle.site.proofs.Site.end.Lts as lts
 use Rattle.site.proofs.no_numbers.Reads as no-numbers-reads
-use Rattle.site.proofs.refusal.Reads as refusal-reads
+use Rattle.site.proofs.Site.refused.Reads as refused-reads
 use Rattle.table.proofs.Queue.empty.Reads as empty-reads
 use Rattle.table.proofs.Queue.ids.Reads as ids-reads
 
@@ -28,8 +28,8 @@ no-numbers-requires : tie.Need-no-numbers-requires
 no-numbers-requires c κs = search needs
 
 -- src/end.rt:38:24
-refusal-requires : tie.Need-refusal-requires
-refusal-requires c κs = search needs
+refused-requires : tie.Need-refused-requires
+refused-requires c κs = search needs
 
 -- src/end.rt:15:5
 returns : tie.Need-returns
@@ -42,9 +42,9 @@ returns c =
 returns-2 : tie.Need-returns-2
 returns-2 c =
     let e = c .before .before .before in
-    refuses (e .args .self) (now (e .args .log)) _ OutOfTurn _ (end-refused (e .args .self) (now (e .args .log)) (c .before .if1 .left)) (c .refusal .ensures) refl
+    refuses (e .args .self) (now (e .args .log)) _ OutOfTurn _ (end-refused (e .args .self) (now (e .args .log)) (c .before .if1 .left)) (c .refused .ensures .0) (c .refused .ensures .1)
 
 pub end-spec : {M : Type 1} → statement M
 end-spec =
     tie.close
-    (tie.spec ids-requires empty-requires no-numbers-requires refusal-requires returns returns-2)
+    (tie.spec ids-requires empty-requires no-numbers-requires refused-requires returns returns-2)

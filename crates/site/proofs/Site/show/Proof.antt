@@ -12,18 +12,18 @@ use Rattle.site.proofs.Site.show.Tie as tie
 use Rattle.site.proofs.Site.show.Reads as reads
 use Rattle.site.proofs.Site.show.Lts as lts
 use Rattle.site.proofs.no_numbers.Reads as no-numbers-reads
-use Rattle.site.proofs.refusal.Reads as refusal-reads
+use Rattle.site.proofs.Site.refused.Reads as refused-reads
 
 -- src/show.rt:24:24
-refusal-requires : tie.Need-refusal-requires
-refusal-requires c κs = search needs
+refused-requires : tie.Need-refused-requires
+refused-requires c κs = search needs
 
 -- src/show.rt:22:13
 returns : tie.Need-returns
 returns c =
     let a = c .before .before .before .args in
     let le : a .h ≤ top = omega (arith, c .before .before .before .fits .h) in
-    refuses (a .t1) (now (a .log)) _ NoSuchHistory _ (show-refused (a .t1) (now (a .log)) (a .h) le (c .before .if1 .taken)) (c .refusal .ensures) refl
+    refuses (a .t1) (now (a .log)) _ NoSuchHistory _ (show-refused (a .t1) (now (a .log)) (a .h) le (c .before .if1 .taken)) (c .refused .ensures .0) (c .refused .ensures .1)
 
 -- src/show.rt:28:17
 mul-c : tie.Need-mul-c
@@ -34,24 +34,24 @@ element-copy-out-c : tie.Need-element-copy-out-c
 element-copy-out-c c = omega (arith, c .if1 .left, count-most _ _ (c .before .before .pre))
 
 -- src/show.rt:34:33
-mul-t16 : tie.Need-mul-t16
-mul-t16 c = omega (arith, c .before .before .before .if1 .left, count-most _ _ (c .before .before .before .before .before .pre))
+mul-t15 : tie.Need-mul-t15
+mul-t15 c = omega (arith, c .before .before .before .if1 .left, count-most _ _ (c .before .before .before .before .before .pre))
 
 -- src/show.rt:34:33
 element-copy-out-t11 : tie.Need-element-copy-out-t11
 element-copy-out-t11 c = omega (arith, c .before .before .before .if1 .left, count-most _ _ (c .before .before .before .before .before .pre))
 
 -- src/show.rt:35:29
-mul-t23 : tie.Need-mul-t23
-mul-t23 c = omega (arith, c .before .before .before .before .if1 .left, count-most _ _ (c .before .before .before .before .before .before .pre))
+mul-t22 : tie.Need-mul-t22
+mul-t22 c = omega (arith, c .before .before .before .before .if1 .left, count-most _ _ (c .before .before .before .before .before .before .pre))
 
 -- src/show.rt:35:29
-element-copy-out-t26 : tie.Need-element-copy-out-t26
-element-copy-out-t26 c = omega (arith, c .before .before .before .before .if1 .left, count-most _ _ (c .before .before .before .before .before .before .pre))
+element-copy-out-t25 : tie.Need-element-copy-out-t25
+element-copy-out-t25 c = omega (arith, c .before .before .before .before .if1 .left, count-most _ _ (c .before .before .before .before .before .before .pre))
 
 -- src/show.rt:37:22
-cast-t28 : tie.Need-cast-t28
-cast-t28 c = search needs
+cast-t27 : tie.Need-cast-t27
+cast-t27 c = search needs
 
 -- src/show.rt:43:24
 no-numbers-requires : tie.Need-no-numbers-requires
@@ -73,15 +73,15 @@ pub show-spec : {M : Type 1} → statement M
 show-spec =
     tie.close
     (tie.spec
-    refusal-requires
+    refused-requires
     returns
     mul-c
     element-copy-out-c
-    mul-t16
+    mul-t15
     element-copy-out-t11
-    mul-t23
-    element-copy-out-t26
-    cast-t28
+    mul-t22
+    element-copy-out-t25
+    cast-t27
     no-numbers-requires
     no-numbers-requires-2
     returns-2)

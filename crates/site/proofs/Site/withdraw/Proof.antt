@@ -14,21 +14,21 @@ use Rattle.site.proofs.Site.withdraw.Reads as reads
 use Rattle.site.proofs.Site.withdraw.Lts as lts
 use Rattle.site.proofs.busy.busy.Reads as busy-reads
 use Rattle.site.proofs.no_numbers.Reads as no-numbers-reads
-use Rattle.site.proofs.refusal.Reads as refusal-reads
+use Rattle.site.proofs.Site.refused.Reads as refused-reads
 use Rattle.table.proofs.Queue.find.Reads as find-reads
 use Rattle.table.proofs.Queue.remove.Reads as remove-reads
 use Rattle.table.proofs.became_dry.Reads as became-dry-reads
 
 -- src/withdraw.rt:24:24
-refusal-requires : tie.Need-refusal-requires
-refusal-requires c κs = search needs
+refused-requires : tie.Need-refused-requires
+refused-requires c κs = search needs
 
 -- src/withdraw.rt:22:13
 returns : tie.Need-returns
 returns c =
     let e = c .before .before .before in
     refuses (e .args .self) (now (e .args .log)) _ OutOfTurn _
-    (withdraw-refused-turn (e .args .self) (now (e .args .log)) (e .args .id) (omega (arith, e .fits .id)) (c .before .if1 .taken)) (c .refusal .ensures) refl
+    (withdraw-refused-turn (e .args .self) (now (e .args .log)) (e .args .id) (omega (arith, e .fits .id)) (c .before .if1 .taken)) (c .refused .ensures .0) (c .refused .ensures .1)
 
 -- src/withdraw.rt:28:15
 find-requires : tie.Need-find-requires
@@ -40,8 +40,8 @@ enum-told : tie.Need-enum-told
 enum-told c = search needs
 
 -- src/withdraw.rt:31:24
-refusal-requires-2 : tie.Need-refusal-requires-2
-refusal-requires-2 c κs = search needs
+refused-requires-2 : tie.Need-refused-requires-2
+refused-requires-2 c κs = search needs
 
 -- src/withdraw.rt:33:23
 enum-known-at : tie.Need-enum-known-at
@@ -89,7 +89,7 @@ returns-2 c =
     refuses (e .args .self) (now (e .args .log)) _ WrongState _
     (withdraw-refused-state (e .args .self) (now (e .args .log)) (e .args .id) (omega (arith, e .fits .id)) (f .before .before .if1 .left)
     (sym (f .find .ensures) ∙ c .before .enum-told .given .1))
-    (c .refusal2 .ensures) refl
+    (c .refused2 .ensures .0) (c .refused2 .ensures .1)
 
 -- src/withdraw.rt:16:5
 returns-3 : tie.Need-returns-3
@@ -105,11 +105,11 @@ pub withdraw-spec : {M : Type 1} → statement M
 withdraw-spec =
     tie.close
     (tie.spec
-    refusal-requires
+    refused-requires
     returns
     find-requires
     enum-told
-    refusal-requires-2
+    refused-requires-2
     enum-known-at
     remove-requires
     sub-from
