@@ -1,30 +1,25 @@
 -- Laws of a keeper's calls over raw bytes.
 use Prim.Native.Nat.{ℕ, _+_, _≤_}
 use mathlib.Core.Path.{_≡_, refl, ap, ap₂, sym, subst, _∙_}
-use mathlib.Core.Bool.{Bool, true, false, cond, _&&_}
+use mathlib.Core.Bool.{Bool, true, false}
 use mathlib.Core.Option.{Option, none, some}
-use mathlib.Core.List.{List, [], _∷_, _++_}
+use mathlib.Core.List.{List, _++_}
 use native.Mathlib.Omega.{arith}
-use lib.Dec.{eqb}
-use lib.ListN.{length, take, drop, take-append-drop}
+use lib.ListN.{length, drop, take-append-drop}
 use borrow.Author.Tests.{eq-eqb, ne-eqb}
-use Rattle.forms.specs.Refusals.{numberOf}
 use Rattle.forms.specs.declared.Refusal.{Refusal}
 use Rattle.rules.specs.Log.{didsText}
 use Rattle.rules.specs.Keeper as book
 use Rattle.rules.specs.Keeper.{KeeperReply, keptBytes, handedOut, handOutRefusal}
 use Rattle.history.specs.declared.Verdict.{Verdict}
-use Rattle.history.specs.declared.Verdict.the-variants.{Passes, Refused}
 use Rattle.keeper.specs.declared.Keeper.{Keeper}
 use Rattle.keeper.specs.declared.Kept.{Kept}
 use Rattle.keeper.specs.declared.HandOut.{HandOut}
-use Rattle.keeper.specs.declared.HandOut.the-variants.{Handed, Withheld}
 use Rattle.keeper.specs.declared.Resumed.{Resumed}
 use Rattle.keeper.specs.declared.Resumed.the-variants.{Found, NoKeeper}
-use Rattle.keeper.specs.Model.{view, Valid, Holds, resumable, resumedOf, verdictIn, after, Does, handAnswer, handBytes, HandsOut}
+use Rattle.keeper.specs.Model.{view, Valid, resumable, resumedOf, Does, handAnswer, HandsOut}
 use Rattle.keeper.specs.WalkLaws.{holds-now, used-is}
 use Rattle.keeper.specs.ResumeLaws.{resumable-valid}
-use Rattle.keeper.specs.CallLaws.{handed-within}
 use Rattle.boundary.specs.KeeperCalls.{keeperIn, verdictNumber, replyNumber, replyBytes, Replies, handOutNumber, handedNumber, HandsOver}
 
 -- ### Whether a keeper is taken up
