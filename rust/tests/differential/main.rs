@@ -41,11 +41,6 @@ fn claims() -> impl Iterator<Item = &'static dyn Comparison> {
     CLAIMS.iter().flat_map(|trials| as_comparisons(trials))
 }
 
-/// Restarts and keepers.
-fn others() -> impl Iterator<Item = &'static dyn Comparison> {
-    OTHERS.iter().flatten().map(Box::as_ref)
-}
-
 /// Restarts, keepers and sessions, round by round.
 fn trials() -> impl Iterator<Item = &'static dyn Comparison> {
     let rounds = OTHERS.iter().zip(SESSIONS.iter());
@@ -107,7 +102,7 @@ mod library {
 
     #[test]
     fn its_restarts_and_keepers_agree() {
-        assert_agrees(others(), &Library);
+        assert_agrees(OTHERS.iter().flatten().map(Box::as_ref), &Library);
     }
 
     #[test]

@@ -129,6 +129,11 @@ pub fn used_buffer(length: usize) -> Vec<u8> {
     buffer
 }
 
+/// The lines of some bytes, each with its end but perhaps the last.
+fn lines_of(bytes: &[u8]) -> Vec<Vec<u8>> {
+    bytes.split_inclusive(|&byte| byte == b'\n').map(<[u8]>::to_vec).collect()
+}
+
 /// Lines of bytes, each as text behind a margin.
 pub fn shown_lines<'l>(lines: impl Iterator<Item = &'l Vec<u8>>) -> String {
     lines.map(|line| format!("    {}\n", line.escape_ascii())).collect()
@@ -264,10 +269,6 @@ pub struct RestartTrial {
 }
 
 impl RestartTrial {
-    fn lines(&self) -> Vec<Vec<u8>> {
-        self.kept.split_inclusive(|&byte| byte == b'\n').map(<[u8]>::to_vec).collect()
-    }
-
     fn reply(&self, program: &dyn Program) -> (Option<usize>, Vec<u8>) {
         let log = [self.kept.as_slice(), &self.rest].concat();
         let mut out = used_buffer(64);
@@ -278,16 +279,16 @@ impl RestartTrial {
 
 impl Trial for RestartTrial {
     fn steps(&self) -> usize {
-        self.lines().len()
+        lines_of(&self.kept).len()
     }
 
     fn without(&self, steps: Range<usize>) -> RestartTrial {
-        let kept = without(&self.lines(), steps).concat();
+        let kept = without(&lines_of(&self.kept), steps).concat();
         RestartTrial { kept, rest: self.rest.clone(), above: self.above }
     }
 
     fn shown(&self) -> String {
-        let lines = shown_lines(self.lines().iter());
+        let lines = shown_lines(lines_of(&self.kept).iter());
         let (rest, above) = (self.rest.len(), self.above);
         format!("restart, {rest} bytes behind, {above} bytes above:\n{lines}")
     }
@@ -337,10 +338,6 @@ pub struct KeeperTrial {
 }
 
 impl KeeperTrial {
-    fn start_lines(&self) -> Vec<Vec<u8>> {
-        self.start.split_inclusive(|&byte| byte == b'\n').map(<[u8]>::to_vec).collect()
-    }
-
     /// The keeper of a program before the calls.
     pub fn kept<'p>(&self, program: &'p dyn Program) -> Kept<'p> {
         let mut kept = Kept::new(program, self.room);
@@ -384,20 +381,21 @@ impl<'p> Kept<'p> {
 impl Trial for KeeperTrial {
     /// The calls, then the lines that are there before them.
     fn steps(&self) -> usize {
-        self.calls.len() + self.start_lines().len()
+        self.calls.len() + lines_of(&self.start).len()
     }
 
     fn without(&self, steps: Range<usize>) -> KeeperTrial {
         let calls = self.calls.len();
         let part = |from: usize, to: usize| steps.start.clamp(from, to)..steps.end.clamp(from, to);
         let (from_calls, lines) = (part(0, calls), part(calls, self.steps()));
-        let start = without(&self.start_lines(), lines.start - calls..lines.end - calls).concat();
+        let start =
+            without(&lines_of(&self.start), lines.start - calls..lines.end - calls).concat();
         KeeperTrial { start, calls: without(&self.calls, from_calls), room: self.room }
     }
 
     fn shown(&self) -> String {
         let mut shown = format!("keeper with a buffer of {} bytes:\n", self.room);
-        shown.push_str(&shown_lines(self.start_lines().iter()));
+        shown.push_str(&shown_lines(lines_of(&self.start).iter()));
         for call in &self.calls {
             let line = match call {
                 KeeperCall::Keep(line) => format!("    keep {}\n", line.escape_ascii()),
