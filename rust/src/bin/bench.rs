@@ -55,11 +55,16 @@ fn table() {
     print!("{:46}", "");
     program::all().iter().for_each(|program| print!("{:>18}", program.name()));
     println!("{:>10}", "times");
-    for (number, figure) in figures().iter_mut().enumerate() {
-        report(number, figure);
+    let mut figures = figures();
+    let best: Vec<Vec<f64>> = figures.iter_mut().map(best_rates).collect();
+    for (number, (figure, best)) in figures.iter().zip(&best).enumerate() {
+        print_row(&format!("{number}  {}", figure.name), figure.unit, best);
     }
+    let share = OPERATIONS as f64 / figures[0].work;
+    let operations: Vec<f64> = best[0].iter().map(|rate| rate * share).collect();
+    print_row("   operations of figure 0", "operations/s", &operations);
     match (0..TURNS).map(|_| transactions_per_second()).reduce(faster) {
-        Some(Ok(rate)) => println!("   {:26}{:>17}{rate:>18.0}", "SQLite", "operations/s"),
+        Some(Ok(rate)) => print_row("   SQLite", "operations/s", &[rate]),
         Some(Err(error)) => println!("SQLite is left out: sqlite3 does not run ({error})."),
         None => {}
     }
@@ -72,18 +77,23 @@ fn machine() -> String {
     name.unwrap_or("unknown processor").to_string()
 }
 
-/// Prints a figure for each program, and how many times as long the last takes as the first.
-/// The programs take turns, so that what else the machine does meets all of them.
-fn report(number: usize, figure: &mut Figure) {
+/// The best rate of each program. They take turns, so that what else the machine does meets
+/// all of them.
+fn best_rates(figure: &mut Figure) -> Vec<f64> {
     let mut best = vec![0.0; figure.runs.len()];
     for _ in 0..TURNS {
         for (run, best) in figure.runs.iter_mut().zip(&mut best) {
             *best = rate(figure.work, run).max(*best);
         }
     }
-    print!("{number}  {:26}{:>17}", figure.name, figure.unit);
-    best.iter().for_each(|rate| print!("{rate:>18.0}"));
-    match best.as_slice() {
+    best
+}
+
+/// Prints a rate for each program, and how many times as long the last takes as the first.
+fn print_row(name: &str, unit: &str, rates: &[f64]) {
+    print!("{name:29}{unit:>17}");
+    rates.iter().for_each(|rate| print!("{rate:>18.0}"));
+    match rates {
         [first, .., last] => println!("{:>10.2}", first / last),
         _ => println!(),
     }
@@ -91,13 +101,24 @@ fn report(number: usize, figure: &mut Figure) {
 
 /// The units a second in one turn.
 fn rate(work: f64, run: &mut Run) -> f64 {
-    let start = Instant::now();
+    let (start, before) = (Instant::now(), processor_time());
     let mut runs = 0.0;
     while start.elapsed() < TURN {
         run();
         runs += 1.0;
     }
-    runs * work / start.elapsed().as_secs_f64()
+    let taken = match (before, processor_time()) {
+        (Some(before), Some(after)) => after - before,
+        _ => start.elapsed(),
+    };
+    runs * work / taken.as_secs_f64()
+}
+
+/// How long this thread was at work, where the system tells it: what others did meanwhile does
+/// not count.
+fn processor_time() -> Option<Duration> {
+    let told = fs::read_to_string("/proc/thread-self/schedstat").ok()?;
+    Some(Duration::from_nanos(told.split(' ').next()?.parse().ok()?))
 }
 
 fn figures() -> Vec<Figure> {
