@@ -5,5 +5,8 @@ pub mod Carried
 pub mod Restart
 pub mod Keepers
 pub mod KeepersLaws
+pub mod Examination
+pub mod ExaminationLaws
 pub mod Sample
 pub mod Stations
+pub mod Code

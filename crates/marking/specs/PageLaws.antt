@@ -1,24 +1,24 @@
 -- The claim at the printed page, proved.
 use mathlib.Core.Path.{_≡_, refl, sym, ap, ap₂, _∙_, subst}
-use mathlib.Core.Bool.{Bool, true, false, not}
-use mathlib.Core.Option.{Option, none, some}
+use mathlib.Core.Bool.{Bool, false, not}
+use mathlib.Core.Option.{none, some}
 use mathlib.Core.List.{List, [], _∷_, _++_, append-assoc, append-nil}
 use mathlib.Core.List.{List·Memᴰ as Mem}
 use Prim.Native.Nat.{ℕ, _+_, _≤_, _<_}
 use native.Mathlib.Omega.{arith}
 use lib.Dec.{T, leb, leb→le, ltb}
 use lib.ListN.{length, length-append}
-use Rattle.forms.specs.Decimal.{Step, digits, top}
+use Rattle.forms.specs.Decimal.{Step, top}
 use Rattle.forms.specs.Decimal.Step.{got, bad}
 use Rattle.forms.specs.DecimalLaws.{digits-at-most}
 use Rattle.forms.specs.Words.{bytes}
 use Rattle.forms.specs.ListLaws.{true-T, T-true}
-use Rattle.forms.specs.Forms.{Command, Did, Answer, Outcome, Accepted, Opened, Shown, Ended, oneText, siteText, didText, commandText, answerText, outcomeText}
+use Rattle.forms.specs.Forms.{Command, Did, Answer, Outcome, Opened, Shown, Ended, oneText, siteText, didText, commandText, answerText, outcomeText}
 use Rattle.forms.specs.Reading.{readCommand}
 use Rattle.forms.specs.declared.Refusal.the-variants.{Unreadable, WrongCount, NoSuchHistory, NoRoom, AboveLimit}
 use Rattle.forms.specs.CommandLaws.{command-written}
 use Rattle.rules.specs.Book.{Cell, cell}
-use Rattle.rules.specs.Log.{ended, linesOf, restOf, historiesFit}
+use Rattle.rules.specs.Log.{ended, historiesFit}
 use Rattle.rules.specs.State.{State, Reply, refused, ok, settle, logLimit, versionAt}
 use Rattle.rules.specs.Calls.{openFull, openRefusal, openSite, opened, Call, show, writable, perform, step}
 use Rattle.rules.specs.CheckLaws.{check-none, none-check, unless-none, le-not-lt, unless-ok, unless-check, not-false}
@@ -29,12 +29,13 @@ use Rattle.rules.specs.Good.{didIds}
 use Rattle.rules.specs.GoodLaws.{good-open, good-run}
 use Rattle.rules.specs.Run.{run}
 use Rattle.rules.specs.Session.{Session, Turn, turnOf, opening, calling, obey, onCommand, turn, replies, afterLines, restReply, sessionIn, session}
-use Rattle.recovery.specs.Claim.{justOpened, counted, Fair, lostBy, came, Asked, Shows, Recovered}
+use Rattle.recovery.specs.Claim.{justOpened, counted, Fair, lostBy, came, Shows, Recovered}
 use Rattle.recovery.specs.Ending.{closed-every, just-all, just-one}
 use Rattle.recovery.specs.Recovery.{run-append, show-is, recovery}
 use Rattle.recovery.specs.Steps.{ok-state}
 use Rattle.marking.specs.FrameLaws.{Frame, frame-lines}
-use Rattle.marking.specs.Page.{callOf, callRead, callsOf, Text, fitting, cutFitting, asking, sheet, Prints, PrintsWaiting, Marked, PageClaim, ProgramClaim}
+use Rattle.marking.specs.Page.{callOf, callRead, callsOf, Text, fitting, cutFitting, asking}
+use Rattle.marking.specs.Page.{sheet, Prints, PrintsWaiting, PageClaim, ProgramClaim}
 
 -- ### A line of a session with a site
 
@@ -171,7 +172,8 @@ shows-first before after lost chosen lines final R every h lt =
 
 -- A session that comes to the site st at its last line, a form that is a call which the site accepts.
 last-accepted : (room : ℕ) (lines : List (List ℕ)) (f : Command) (c : Call) (st after : State) (answer : Answer) →
-    readCommand (commandText f) ≡ got f [] → ((x : Session) → obey room f x ≡ calling c x) → afterLines room lines none ≡ some st → step c st ≡ ok after answer →
+    readCommand (commandText f) ≡ got f [] → ((x : Session) → obey room f x ≡ calling c x) →
+    afterLines room lines none ≡ some st → step c st ≡ ok after answer →
     (input : List ℕ) → Text input (lines ++ commandText f ∷ []) → sessionIn room input ≡ replies room lines none ++ ended (answerText answer)
 unfolding turn onCommand calling turnOf outcomeText
 last-accepted room lines f c st after answer reads is at e input text =
@@ -194,8 +196,8 @@ waits-at room lines ids st at after e input text =
     last-accepted room lines Command.End Call.End st after (Ended ids) end-form (λ x. refl) at e input text
 
 module _
-    (room n : ℕ) (s : State) (answer : Answer) (opening-ok : openSite n room ≡ ok s answer) (first : List (List ℕ)) (k : ℕ) (later : List (List ℕ)) (after : State)
-    (chosen : Did → Bool) (fair : Fair (counted 0 (callsOf room first) s) k room (run (callsOf room first) s) after) where
+    (room n : ℕ) (s : State) (answer : Answer) (opening-ok : openSite n room ≡ ok s answer) (first : List (List ℕ)) (k : ℕ) (later : List (List ℕ))
+    (after : State) (chosen : Did → Bool) (fair : Fair (counted 0 (callsOf room first) s) k room (run (callsOf room first) s) after) where
   -- Where the lines before the picked cut bring the session, and where all lines bring it.
   to-cut : afterLines room (fitting n first) none ≡ some (run (callsOf room first) s)
   unfolding afterLines

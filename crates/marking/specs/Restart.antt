@@ -1,23 +1,22 @@
 -- Restart accepts the log of every reached state, whole, and gives the same book.
-use mathlib.Core.Path.{_≡_, refl, sym, ap, _∙_, subst}
-use mathlib.Core.Bool.{Bool, true, false, not, _||_}
+use mathlib.Core.Path.{_≡_, refl, ap, _∙_}
+use mathlib.Core.Bool.{false, not}
 use mathlib.Core.Option.{none}
-use mathlib.Core.List.{List, [], _∷_, _++_}
+use mathlib.Core.List.{List, _++_}
 use Prim.Native.Nat.{ℕ, _≤_, _<_}
 use native.Mathlib.Omega.{arith}
-use lib.Dec.{leb, ltb, le→leb}
+use lib.Dec.{leb, le→leb}
 use lib.ListN.{length, take, length-take}
 use lib.Seq.{take-append-seam, take-length}
 use Rattle.forms.specs.ListLaws.{T-true}
 use Rattle.forms.specs.Decimal.{top}
-use Rattle.forms.specs.Forms.{Answer, Shown, Restarted}
-use Rattle.forms.specs.declared.Refusal.the-variants.{Unreadable, NoSuchHistory, AboveLimit}
-use Rattle.rules.specs.Book.{Cell, cell}
-use Rattle.rules.specs.Checks.{check}
-use Rattle.rules.specs.Log.{Journal, journal, logText, readLog}
+use Rattle.forms.specs.Forms.{Restarted}
+use Rattle.forms.specs.declared.Refusal.the-variants.{Unreadable, AboveLimit}
+use Rattle.rules.specs.Book.{cell}
+use Rattle.rules.specs.Log.{readLog}
 use Rattle.rules.specs.LogLaws.{read-printed}
-use Rattle.rules.specs.State.{State, Reply, refused, ok, logLimit, logBytes}
-use Rattle.rules.specs.Calls.{unless, restarted, restartAs, restart, cutAbove, cut, Call, writable, show, perform, step}
+use Rattle.rules.specs.State.{State, ok, logLimit, logBytes}
+use Rattle.rules.specs.Calls.{restarted, restartAs, restart, cutAbove, cut, Call, writable, perform, step}
 use Rattle.rules.specs.CheckLaws.{unless-none, none-check, le-not-lt, or-false}
 use Rattle.rules.specs.Good.{Good}
 use Rattle.rules.specs.GoodLaws.{good-restart, good-run}
@@ -47,7 +46,8 @@ module _ (st : State) (G : Good st) (buffer : List ℕ) (held : HoldsLog buffer 
   long : length (logBytes st) ≤ length buffer
   long = omega (arith, ap length (held .bytes), length-take (length (logBytes st)) buffer)
 
-  at-restart : restart buffer (length (logBytes st)) ≡ ok (restarted (length buffer) (st .histories) (st .log)) (Restarted (length (st .log)) (length (logBytes st)))
+  at-restart : restart buffer (length (logBytes st))
+      ≡ ok (restarted (length buffer) (st .histories) (st .log)) (Restarted (length (st .log)) (length (logBytes st)))
   unfolding restart restartAs logBytes restarted
   at-restart =
       unless-none _ _ (none-check _ AboveLimit none

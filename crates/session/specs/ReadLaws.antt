@@ -2,25 +2,25 @@
 use Prim.Native.Nat.{ℕ, _+_, _≤_}
 use native.Mathlib.Omega.{arith}
 use mathlib.Core.Path.{_≡_, refl, sym, ap, subst, _∙_}
-use mathlib.Core.Bool.{Bool, true, false, _&&_}
-use mathlib.Core.List.{List, [], _∷_, _++_, List·Memᴰ·not-nil}
+use mathlib.Core.Bool.{true}
+use mathlib.Core.List.{List, [], _++_, List·Memᴰ·not-nil}
 use mathlib.Core.Option.{Option}
-use lib.Dec.{T, leb}
+use lib.Dec.{T}
 use lib.ListN.{length, length-append}
-use borrow.Author.Tests.{le-leb}
 use Rattle.forms.specs.Decimal.{Step, top, digits, digitsWithin}
 use Rattle.forms.specs.Decimal.Step.{got, bad}
 use Rattle.forms.specs.Lists.{all}
-use Rattle.forms.specs.ListLaws.{true-T, all-of}
 use Rattle.forms.specs.Words.{bytes}
 use Rattle.forms.specs.Forms.{Command, SiteOf, Add, Finish, Withdraw, Persistent, Stable, Show, Cut, Redo, End, Update, Did, tailText, listText, didText, redoText, commandText}
 use Rattle.forms.specs.Reading.{readDid, readCommand}
-use Rattle.forms.specs.Writable.{WritableUpdate, WritableDid, WritableCommand, Each}
+use Rattle.forms.specs.Writable.{WritableCommand}
 use Rattle.forms.specs.Held.{heldUpdates, heldDid}
+use Rattle.forms.specs.declared.AskedHeld.{AskedHeld}
+use Rattle.forms.specs.declared.DidLine.{DidLine}
 use Rattle.forms.specs.DidLaws.{readDid-written}
 use Rattle.forms.specs.CommandLaws.{command-read}
 use Rattle.rules.specs.State.{State, Reply}
-use Rattle.rules.specs.Calls.{Call, writableUpdate, unless, writable, perform, step, redo, redoRead, redoRefusal, delivered}
+use Rattle.rules.specs.Calls.{Call, writableUpdate, writable, perform, step, redo, redoRead}
 use Rattle.rules.specs.Session.{Turn, calling, turn}
 use Rattle.reader.specs.declared.CommandForm.{CommandForm}
 use Rattle.reader.specs.declared.CommandRead.{CommandRead}
@@ -28,8 +28,8 @@ use Rattle.reader.specs.Read.{updatesIn, didIn, noDid, commandAnswer}
 use Rattle.site.specs.declared.Called.{Called}
 use Rattle.site.specs.Model.{view, Does}
 use Rattle.site.specs.ModelLaws.{step-performs}
-use Rattle.site.specs.AddLaws.{Asks}
-use Rattle.site.specs.RedoLaws.{Tells}
+use Rattle.site.specs.Trim.{updatesHeld, didHeld, redoOf}
+use Rattle.site.specs.TrimLaws.{updates-writable, add-held, redo-held}
 use Rattle.session.specs.declared.Session.{Session}
 use Rattle.session.specs.declared.Turned.{Turned}
 use Rattle.session.specs.Model.{sessionView, ValidSession, Turns, turnedOf, obeyed}
@@ -37,28 +37,31 @@ use Rattle.session.specs.TurnLaws.{calls, updatesRead, didRead, asked-re
 
 -- ### Redo
 
-redo-step : (did : Did) (st : State) → readDid (didText did) ≡ got did [] → step (Call.Redo (didText did)) st ≡ unless (redoRefusal did st) (delivered did st)
+redo-step : (did : Did) (st : State) → readDid (didText did) ≡ got did [] → step (Call.Redo (didText did)) st ≡ redoOf did st
 unfolding writable perform redo redoRead
 redo-step did st e = step-performs (Call.Redo (didText did)) st refl ∙ ap (λ (z : Step Did). redoRead z st) e
 
 -- A did line that is read back from its text, told to an open session's site, is the turn of that redo.
-pub redoes : (s : Session) (old : List ℕ) (did : Did) (r : Called) (new : List ℕ) (t : Turned) → s .opened ≡ true → ValidSession s old → readDid (didText did) ≡ got did [] →
-    Does (s .site) old (unless (redoRefusal did (view (s .site) old)) (delivered did (view (s .site) old))) r new → t ≡ turnedOf r →
+pub redoes : (s : Session) (old : List ℕ) (d : DidLine) (did : Did) (r : Called) (new : List ℕ) (t : Turned) → s .opened ≡ true → ValidSession s old →
+    d ≡ heldDid did → readDid (didText did) ≡ got did [] →
+    Does (s .site) old (redoOf (didHeld d) (view (s .site) old)) r new → t ≡ turnedOf r →
     Turns s old (calling (Call.Redo (didText did)) (sessionView s old)) t new
-redoes s old did r new t o v e d same =
+redoes s old d did r new t o v h e x same =
     calls s old (Call.Redo (didText did)) r new t o v
-    (subst (λ (x : Reply). Does (s .site) old x r new) (sym (redo-step did (view (s .site) old) e)) d) same
+    (subst (λ (y : Reply). Does (s .site) old y r new)
+    (ap (λ (l : DidLine). redoOf (didHeld l) (view (s .site) old)) h
+    ∙ redo-held did (view (s .site) old) ∙ sym (redo-step did (view (s .site) old) e)) x) same
+
+-- Updates that are held of a list, asked of an open session's site, are the turn of that add.
+pub adds : (s : Session) (old : List ℕ) (i : ℕ) → i ≤ top → (a : AskedHeld) (us : List Update) (r : Called) (new : List ℕ) (t : Turned) → s .opened ≡ true →
+    ValidSession s old → a ≡ heldUpdates us → T (all writableUpdate us) → Does (s .site) old (step (Call.Add i (updatesHeld a)) (view (s .site) old)) r new →
+    t ≡ turnedOf r → Turns s old (calling (Call.Add i us) (sessionView s old)) t new
+adds s old i le a us r new t o v h w x same =
+    calls s old (Call.Add i us) r new t o v
+    (subst (λ (y : Reply). Does (s .site) old y r new)
+    (ap (λ (l : AskedHeld). step (Call.Add i (updatesHeld l)) (view (s .site) old)) h ∙ add-held i us (view (s .site) old) le w) x) same
 
 -- ### What was read can be written
-
-update-writable : (u : Update) → WritableUpdate u → T (writableUpdate u)
-unfolding writableUpdate
-update-writable u w =
-    true-T (leb (u .history) top && leb (u .version) top && leb (u .operand) top)
-    (rw (le-leb (u .history) top (w .history), le-leb (u .version) top (w .version), le-leb (u .operand) top (w .operand)))
-
-updates-writable : (us : List Update) → Each WritableUpdate us → T (all writableUpdate us)
-updates-writable us w = all-of writableUpdate us (λ u m. update-writable u (w u m))
 
 -- the updates of a form
 updates-in : (c : Command) → WritableCommand c → T (all writableUpdate (updatesIn c))
@@ -73,20 +76,16 @@ updates-in (Cut k) w = tt
 updates-in (Redo d) w = tt
 updates-in End w = tt
 
--- A did line that can be written, and is read back from its text.
-pub record Back (d : Did) : Type 0 where
-  pub writable : WritableDid d
-  pub read : readDid (didText d) ≡ got d []
-
-back-of : (d : Did) → WritableDid d → length (didText d) ≤ 1024 → Back d
-back-of d w h = record { writable = w; read = readDid-written d w h }
+-- A did line is read back from its text.
+abbrev pub Back : Did → Type 0
+Back d = readDid (didText d) ≡ got d []
 
 no-did-length : length (didText noDid) ≡ 7
 unfolding didText listText tailText digits digitsWithin
 no-did-length = refl
 
 no-did : Back noDid
-no-did = back-of noDid (record { id = omega arith; changes = λ x m. absurd (List·Memᴰ·not-nil m) }) (omega (arith, no-did-length))
+no-did = readDid-written noDid (record { id = omega arith; changes = λ x m. absurd (List·Memᴰ·not-nil m) }) (omega (arith, no-did-length))
 
 -- the did line of a redo is shorter than its line
 redo-short : (d : Did) → length (commandText (Redo d)) ≤ 1024 → length (didText d) ≤ 1024
@@ -102,7 +101,7 @@ did-in (Persistent n) w h = no-did
 did-in (Stable n) w h = no-did
 did-in (Show n) w h = no-did
 did-in (Cut k) w h = no-did
-did-in (Redo d) w h = back-of d w (redo-short d h)
+did-in (Redo d) w h = readDid-written d w (redo-short d h)
 did-in End w h = no-did
 
 module _ (line : List ℕ) where
@@ -131,12 +130,6 @@ module _ (line : List ℕ) where
     pub did-is : x .did ≡ heldDid (didRead (readCommand line))
     did-is = ap (λ (y : CommandRead). y .did) e ∙ did-read (readCommand line)
 
-    pub asks-read : Asks (x .asked)
-    asks-read = record { updates = updatesRead (readCommand line); held = asked-is; writable = updates-read }
-
-    pub tells-read : Tells (x .did)
-    tells-read = record { did = didRead (readCommand line); held = did-is; writable = did-back .writable }
-
     -- What the form that was read asks for is the line's turn.
     pub turn-by : (room : ℕ) (s : Option State) → obeyed room (x .form) (updatesRead (readCommand line)) (didRead (readCommand line)) s ≡ turn room line s
     turn-by room s =
@@ -147,7 +140,7 @@ module _ (line : List ℕ) where
         Turns s old (obeyed (length old) (x .form) us did (sessionView s old)) r new) → Turns s old (turn (length old) line (sessionView s old)) r new
     turns-by s old r new h =
         subst (λ (t : Turn). Turns s old t r new) (turn-by (length old) (sessionView s old))
-        (h (updatesRead (readCommand line)) (didRead (readCommand line)) asked-is updates-read did-is (did-back .read))
+        (h (updatesRead (readCommand line)) (didRead (readCommand line)) asked-is updates-read did-is did-back)
 
 -- What is done for a form is done for the form that is the same.
 pub formed : (s : Session) (old : List ℕ) (f g : CommandForm) (us : List Update) (did : Did) (r : Turned) (new : List ℕ) → f ≡ g →

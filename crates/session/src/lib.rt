@@ -13,8 +13,6 @@ ghost use Rattle.rules.specs.Calls.{Call, writableUpdate};
 ghost use Rattle.rules.specs.Session.{calling, opening, turn};
 ghost use Rattle.session.specs.Model.{sessionView, ValidSession, turnedOf, Refuses, Turns, obeyed, Starts, Answers};
 ghost use Rattle.session.specs.Feeding.{UsableBegun, Begins};
-ghost use Rattle.site.specs.AddLaws.{Asks};
-ghost use Rattle.site.specs.RedoLaws.{Tells};
 use forms::AskedHeld;
 use forms::DidLine;
 use forms::Refusal;
@@ -190,7 +188,6 @@ impl Session {
     // `(add ID (RULE H U O)...)`
     pub fn add(self, log: &[u8], id: u64, asked: AskedHeld) -> Turned
         requires { ⌜ ValidSession self (now log) ⌝ }
-        requires { ⌜ Asks asked ⌝ }
         ensures { λ r. ⌜ ((us : List Update) → asked ≡ heldUpdates us → T (all writableUpdate us) →
             Turns self (now (log .entry)) (calling (Call.Add id us) (sessionView self (now (log .entry)))) r (now (log .entry))) ⌝ }
     {
@@ -218,7 +215,6 @@ impl Session {
     // `(redo (did ID (RULE H U P O)...))`
     pub fn redo(self, log: &mut [u8], d: DidLine) -> Turned
         requires { ⌜ ValidSession self (now log) ⌝ }
-        requires { ⌜ Tells d ⌝ }
         ensures { λ r. ⌜ ((did : Did) → d ≡ heldDid did → readDid (didText did) ≡ got did [] →
             Turns self (now (log .entry)) (calling (Call.Redo (didText did)) (sessionView self (now (log .entry)))) r (now (log .exit))) ⌝ }
     {
@@ -254,8 +250,6 @@ impl Session {
     // What a form asks for.
     pub fn obey(self, log: &mut [u8], c: CommandRead) -> Turned
         requires { ⌜ ValidSession self (now log) ⌝ }
-        requires { ⌜ Asks (c .asked) ⌝ }
-        requires { ⌜ Tells (c .did) ⌝ }
         ensures { λ r. ⌜ ((us : List Update) (did : Did) → c .asked ≡ heldUpdates us → T (all writableUpdate us) → c .did ≡ heldDid did → readDid (didText did) ≡ got did [] →
             Turns self (now (log .entry)) (obeyed (length (now (log .entry))) (c .form) us did (sessionView self (now (log .entry)))) r (now (log .exit))) ⌝ }
     {

@@ -10,9 +10,11 @@ pub mod PersistentLaws
 pub mod ShowLaws
 pub mod EndLaws
 pub mod LineLaws
+pub mod Trim
 pub mod AddLaws
 pub mod FinishLaws
 pub mod OpenLaws
 pub mod RestartLaws
 pub mod DrainLaws
 pub mod RedoLaws
+pub mod TrimLaws

@@ -1,8 +1,7 @@
 // Which histories are not dry.
-ghost use mathlib.Core.Path.{_≡_};
 ghost use mathlib.Core.Bool.{false, _||_};
 ghost use Prim.Native.Nat.{ℕ, _≤_};
-ghost use lib.ListN.{length, getD};
+ghost use lib.ListN.{getD};
 ghost use Rattle.table.specs.Arrays.{Says};
 ghost use Rattle.table.specs.Dones.{UsableDones};
 ghost use Rattle.table.specs.Queues.{UsableQueue};
@@ -10,20 +9,14 @@ ghost use Rattle.site.specs.Busy.{busyIn};
 use table::DoneList;
 use table::Queue;
 
-fn or(a: bool, b: bool) -> bool
-    ensures { λ r. ⌜ r ≡ (a || b) ⌝ }
-{
-    if a { true } else { b }
-}
-
 // The histories that are marked in one array or in the other.
-fn either(a: [bool; 16], b: [bool; 16]) -> [bool; 16]
+fn joined(a: [bool; 16], b: [bool; 16]) -> [bool; 16]
     ensures { λ r. ⌜ Says false r (λ (h : ℕ). getD a h false || getD b h false) ⌝ }
 {
     let mut r = [false; 16];
     let mut h = 0;
     while h < 16 {
-        let x = or(a[h], b[h]);
+        let x = table::either(a[h], b[h]);
         r[h] = x;
         h += 1;
     }
@@ -42,5 +35,5 @@ pub fn busy(restoring: bool, queue: Queue, finished: DoneList, from: usize) -> [
         return volatile;
     }
     let pending = queue.touched();
-    either(pending, volatile)
+    joined(pending, volatile)
 }

@@ -15,7 +15,7 @@ use table::DoneList;
 use table::Queue;
 
 pub mod add;
-pub mod busy;
+mod busy;
 pub mod end;
 pub mod finish;
 pub mod open;
@@ -69,7 +69,7 @@ impl Site {
 }
 
 // No numbers.
-pub fn no_numbers() -> Numbers
+fn no_numbers() -> Numbers
     ensures { λ r. ⌜ IsNumbers r [] ⌝ }
 {
     Numbers {
@@ -90,7 +90,7 @@ pub fn refusal(q: Refusal) -> ReplyLine
 }
 
 // The greater of two numbers.
-pub fn greater(a: u64, b: u64) -> u64
+fn greater(a: u64, b: u64) -> u64
     ensures { λ r. ⌜ r ≡ max a b ⌝ }
 {
     if a < b { b } else { a }

@@ -29,7 +29,9 @@ say-requires c κs = search needs
 
 -- src/again.rt:19:17
 slice-aggregate-say-2 : tie.Need-slice-aggregate-say-2
-slice-aggregate-say-2 c = front-long _ _ _ (c .before .before .before .before .before .before .before .before .before .pre) (c .before .before .before .before .before .before .r .given .1)
+slice-aggregate-say-2 c =
+    front-long _ _ _ (c .before .before .before .before .before .before .before .before .before .pre)
+    (c .before .before .before .before .before .before .r .given .1)
 
 -- src/again.rt:19:13
 say-requires-2 : tie.Need-say-requires-2

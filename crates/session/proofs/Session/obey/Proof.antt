@@ -92,7 +92,7 @@ unfolding obeyed
 returns c = λ us did h w l back.
     let e = c .before .before .before .before .before .before in
     formed (e .args .self) (now (e .args .log)) (e .args .c .form) _ us did _ _ (c .before .enum-told .given .1)
-    (turn-refused (e .args .self) (now (e .args .log)) _ Unreadable _ (e .pre .0) refl (c .refuse .ensures))
+    (turn-refused (e .args .self) (now (e .args .log)) _ Unreadable _ (e .pre) refl (c .refuse .ensures))
 
 same-length : tie.Need-same-length
 same-length c = search needs

@@ -1,5 +1,5 @@
 use denote.Ref.{now}
-use Rattle.session.specs.ReadLaws.{asks-read, tells-read, turns-by}
+use Rattle.session.specs.ReadLaws.{turns-by}
 use borrow.Author.Needs.{needs}
 use Rattle.session.proofs.Session.turn.Statement.{statement}
 use Rattle.session.proofs.Session.turn.Tie as tie
@@ -12,10 +12,7 @@ read-command-requires : tie.Need-read-command-requires
 read-command-requires c κs = search needs
 
 obey-requires : tie.Need-obey-requires
-obey-requires c κs =
-    let e = c .before .before .before .before in
-    let q = c .before .read-command .ensures in
-    (e .pre, (asks-read (now (e .args .line)) _ q, tells-read (now (e .args .line)) _ q))
+obey-requires c κs = search needs
 
 same-length : tie.Need-same-length
 same-length c = search needs

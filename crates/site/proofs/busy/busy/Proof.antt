@@ -4,7 +4,7 @@ use Rattle.site.proofs.busy.busy.Statement.{statement}
 use Rattle.site.proofs.busy.busy.Tie as tie
 use Rattle.site.proofs.busy.busy.Reads as reads
 use Rattle.site.proofs.busy.busy.Lts as lts
-use Rattle.site.proofs.busy.either.Reads as either-reads
+use Rattle.site.proofs.busy.joined.Reads as joined-reads
 use Rattle.table.proofs.DoneList.touched.Reads as DoneList-touched-reads
 use Rattle.table.proofs.Queue.touched.Reads as Queue-touched-reads
 
@@ -21,13 +21,13 @@ touched-requires-2 : tie.Need-touched-requires-2
 touched-requires-2 c κs = search needs
 
 -- src/busy.rt:49:5
-either-requires : tie.Need-either-requires
-either-requires c κs = search needs
+joined-requires : tie.Need-joined-requires
+joined-requires c κs = search needs
 
 -- src/busy.rt:38:1
 returns-2 : tie.Need-returns-2
-returns-2 c = busy-working _ _ _ _ _ _ _ (c .before .before .if1 .left) (c .before .touched2 .ensures) (c .before .before .before .touched .ensures) (c .either .ensures)
+returns-2 c = busy-working _ _ _ _ _ _ _ (c .before .before .if1 .left) (c .before .touched2 .ensures) (c .before .before .before .touched .ensures) (c .joined .ensures)
 
 pub busy-spec : {M : Type 1} → statement M
 busy-spec =
-    tie.close (tie.spec touched-requires returns touched-requires-2 either-requires returns-2)
+    tie.close (tie.spec touched-requires returns touched-requires-2 joined-requires returns-2)

@@ -4,11 +4,11 @@ use mathlib.Core.Path.{refl}
 use mathlib.Core.Bool.{false}
 use Rattle.table.specs.Arrays.{Says}
 use Rattle.site.specs.BusyLaws.{joinedTo, joined-none, joined-next, joined-all}
-use Rattle.site.proofs.busy.either.Statement.{statement}
-use Rattle.site.proofs.busy.either.Tie as tie
-use Rattle.site.proofs.busy.either.Reads as reads
-use Rattle.site.proofs.busy.either.Lts as lts
-use Rattle.site.proofs.busy.or.Reads as or-reads
+use Rattle.site.proofs.busy.joined.Statement.{statement}
+use Rattle.site.proofs.busy.joined.Tie as tie
+use Rattle.site.proofs.busy.joined.Reads as reads
+use Rattle.site.proofs.busy.joined.Lts as lts
+use Rattle.table.proofs.either.Reads as either-reads
 
 abbrev Inv-loop : tie.InvT-loop
 Inv-loop a b r₀ h₀ r h = Says false r (joinedTo h a b) × (h ≤ 16)
@@ -21,16 +21,16 @@ loop-holds : tie.Need-loop-holds Inv-loop μ-loop
 loop-holds c = (joined-none _ (c .args .t1) (c .args .t2) refl, omega arith)
 
 -- src/busy.rt:30:20
-array-read-or : tie.Need-array-read-or Inv-loop μ-loop
-array-read-or c = omega (arith, c .loop-test .taken)
+array-read-either : tie.Need-array-read-either Inv-loop μ-loop
+array-read-either c = omega (arith, c .loop-test .taken)
 
 -- src/busy.rt:30:26
-array-read-or-2 : tie.Need-array-read-or-2 Inv-loop μ-loop
-array-read-or-2 c = omega (arith, c .loop-test .taken)
+array-read-either-2 : tie.Need-array-read-either-2 Inv-loop μ-loop
+array-read-either-2 c = omega (arith, c .loop-test .taken)
 
 -- src/busy.rt:30:13
-or-requires : tie.Need-or-requires Inv-loop μ-loop
-or-requires c κs = tt
+either-requires : tie.Need-either-requires Inv-loop μ-loop
+either-requires c κs = tt
 
 -- src/busy.rt:31:9
 array-write-r : tie.Need-array-write-r Inv-loop μ-loop
@@ -48,22 +48,22 @@ loop-less c = omega (arith, c .before .loop-test .taken)
 loop-again : tie.Need-loop-again Inv-loop μ-loop
 loop-again c =
     let l = c .before .before .loop in
-    (joined-next (l .r) (c .before .before .before .args .t1) (c .before .before .before .args .t2) (l .h) _ (c .before .loop-test .taken) (c .or .ensures) (l .inv .0), omega (arith, c .before .loop-test .taken))
+    (joined-next (l .r) (c .before .before .before .args .t1) (c .before .before .before .args .t2) (l .h) _ (c .before .loop-test .taken) (c .either .ensures) (l .inv .0), omega (arith, c .before .loop-test .taken))
 
 -- src/busy.rt:24:1
 returns : tie.Need-returns Inv-loop μ-loop
 returns c = joined-all _ (c .before .before .args .t1) (c .before .before .args .t2) (c .before .loop .h) (c .loop-test .left) (c .before .loop .inv .0)
 
-pub either-spec : {M : Type 1} → statement M
-either-spec =
+pub joined-spec : {M : Type 1} → statement M
+joined-spec =
     tie.close
     (tie.spec
     Inv-loop
     μ-loop
     loop-holds
-    array-read-or
-    array-read-or-2
-    or-requires
+    array-read-either
+    array-read-either-2
+    either-requires
     array-write-r
     add-h
     loop-less

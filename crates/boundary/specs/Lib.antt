@@ -1,0 +1,6 @@
+pub mod Codes
+pub mod Play
+pub mod RestartLaws
+pub mod ArrayLaws
+pub mod KeeperCalls
+pub mod KeeperCallLaws

@@ -1,0 +1,29 @@
+// Restart from any bytes, with its reply as text.
+ghost use mathlib.Core.Path.{_≡_};
+ghost use Rattle.forms.specs.Forms.{outcomeText};
+ghost use Rattle.rules.specs.Calls.{restart};
+ghost use Rattle.boundary.specs.Codes.{codeOf, PutsText, replyText};
+use site::Site;
+use writer::Written;
+use writer::write_reply;
+
+// A place in a buffer as a plain number: 2^64 − 1 where there was no room.
+pub fn code(w: Written) -> usize
+    ensures { λ r. ⌜ r ≡ codeOf w ⌝ }
+{
+    match w {
+        Written::At(n) => n,
+        Written::NoRoom => 18446744073709551615,
+    }
+}
+
+// "Restart takes the first K bytes": its reply, with its end, at the front of `out`.
+#[no_mangle]
+pub extern "C" fn site_restart(log: &[u8], k: usize, out: &mut [u8]) -> usize
+    ensures { λ r. ⌜ PutsText (replyText (restart (now (log .entry)) k)) (now (out .entry)) r (now (out .exit)) ⌝ }
+{
+    let c = Site::restart(log, k);
+    let reply = c.reply;
+    let w = write_reply(out, 0, reply);
+    code(w)
+}

@@ -1,0 +1,142 @@
+use denote.Ref.{now}
+use Prim.Native.Nat.{ℕ, _-_, _+_, _≤_, _<_}
+use native.Mathlib.Omega.{arith}
+use mathlib.Core.Path.{_≡_, refl, sym, _∙_}
+use mathlib.Core.List.{List}
+use Rattle.stream.specs.declared.Stream.{Stream}
+use lib.ListN.{length}
+use lib.Seq.{length-take-le}
+use Rattle.stream.specs.Model.{ValidStream}
+use Rattle.stream.specs.ChunkLaws.{Moves, moves-on}
+use borrow.Author.Needs.{needs}
+use Rattle.ledger.proofs.answer.Statement.{statement}
+use Rattle.ledger.proofs.answer.Tie as tie
+use Rattle.ledger.proofs.answer.Reads as reads
+use Rattle.ledger.proofs.answer.Lts as lts
+use Rattle.io.proofs.write_all.Reads as write-all-reads
+use Rattle.stream.proofs.Stream.feed.Reads as feed-reads
+
+-- what holds between two calls of feed
+record Holds (log₀ chunk out₀ log out : List ℕ) (stream : Stream) (at : ℕ) : Type 0 where
+  within : at ≤ length chunk
+  valid : ValidStream stream log
+  room : length log ≡ length log₀
+  long : length out ≡ length out₀
+
+abbrev Inv-loop : tie.InvT-loop
+Inv-loop log₀ chunk out₀ stream₀ at₀ log out stream at = Holds log₀ chunk out₀ log out stream at
+
+abbrev μ-loop : tie.MeasureT-loop
+μ-loop log₀ chunk out₀ stream₀ at₀ log out stream at = length chunk - at
+
+-- the call of feed moved on
+moved : (c : tie.After-feed Inv-loop μ-loop) → Moves (now (c .before .before .before .before .before .before .before .before .before .args .chunk)) (c .before .before .before .before .before .loop .at) (c .feed .result .used)
+moved c =
+    let i = c .before .before .before .before .before .loop .inv in
+    moves-on _ _ (now (c .before .before .before .before .before .before .before .before .before .args .chunk)) (c .before .before .before .before .before .loop .at) (c .feed .result) _ _ _ (i .valid) (c .feed .ensures)
+    (let l = i .long in omega (arith, l, c .before .before .before .before .before .before .before .before .before .pre .1)) (c .before .before .before .before .loop-test .taken)
+
+-- src/main.rt:25:5
+loop-holds : tie.Need-loop-holds Inv-loop μ-loop
+loop-holds c = record { within = omega arith; valid = c .before .before .before .pre .0; room = refl; long = refl }
+
+-- src/main.rt:26:34
+sub-feed : tie.Need-sub-feed Inv-loop μ-loop
+sub-feed c = c .before .before .loop .inv .within
+
+-- src/main.rt:26:34
+part-feed-start : tie.Need-part-feed-start Inv-loop μ-loop
+part-feed-start c = let w = c .before .before .loop .inv .within in search needs
+
+-- src/main.rt:26:34
+part-feed-end : tie.Need-part-feed-end Inv-loop μ-loop
+part-feed-end c = let w = c .before .before .loop .inv .within in search needs
+
+-- src/main.rt:26:13
+feed-requires : tie.Need-feed-requires Inv-loop μ-loop
+feed-requires c κs = c .before .before .before .before .loop .inv .valid
+
+-- src/main.rt:28:9
+add-at : tie.Need-add-at Inv-loop μ-loop
+add-at c = let m = moved (c .before .before .before .before .before) .within in let g : length (now (c .before .before .before .before .before .before .before .before .before .before .before .before .before .before .args .chunk)) < 18446744073709551616 = c .before .before .before .before .before .before .before .before .before .before .before .before .before .before .good .1 .1 .0 .0 in omega (arith, m, g)
+
+-- src/main.rt:30:42
+slice-reshare-prefix-write-all : tie.Need-slice-reshare-prefix-write-all Inv-loop μ-loop
+slice-reshare-prefix-write-all c =
+    let f = c .before .before .before .before .before .before .feed in
+    let long : length (f .last .1 .1 .1 .0) ≡ length (c .before .before .before .before .before .before .before .before .before .before .before .loop .out) = search needs in
+    omega (arith, f .ensures .fits, long)
+
+-- src/main.rt:30:42
+slice-aggregate-write-all : tie.Need-slice-aggregate-write-all Inv-loop μ-loop
+slice-aggregate-write-all c =
+    let f = c .before .before .before .before .before .before .before .feed in
+    let long : length (f .last .1 .1 .1 .0) ≡ length (c .before .before .before .before .before .before .before .before .before .before .before .before .loop .out) = search needs in
+    sym (length-take-le _ _ (omega (arith, f .ensures .fits, long)))
+
+-- src/main.rt:30:13
+write-all-requires : tie.Need-write-all-requires Inv-loop μ-loop
+write-all-requires c κs = search needs
+
+-- src/main.rt:31:13
+same-length : tie.Need-same-length Inv-loop μ-loop
+same-length c = let r = c .before .before .before .before .before .before .before .before .before .feed .ensures .room in r ∙ c .before .before .before .before .before .before .before .before .before .before .before .before .before .before .loop .inv .room
+
+-- src/main.rt:31:13
+same-length-2 : tie.Need-same-length-2 Inv-loop μ-loop
+same-length-2 c =
+    let f = c .before .before .before .before .before .before .before .before .before .feed in
+    let long : length (f .last .1 .1 .1 .0) ≡ length (c .before .before .before .before .before .before .before .before .before .before .before .before .before .before .loop .out) = search needs in
+    long ∙ c .before .before .before .before .before .before .before .before .before .before .before .before .before .before .loop .inv .long
+
+-- src/main.rt:31:13
+returns : tie.Need-returns Inv-loop μ-loop
+returns c = c .before .before .before .before .before .before .before .before .before .feed .ensures .valid
+
+-- src/main.rt:25:5
+loop-less : tie.Need-loop-less Inv-loop μ-loop
+loop-less c = let m = moved (c .before .before .before .before .before .before .before .before .before) in omega (arith, m .some, m .within)
+
+-- src/main.rt:25:5
+loop-again : tie.Need-loop-again Inv-loop μ-loop
+loop-again c =
+    let f = c .before .before .before .before .before .before .before .before .before .feed in
+    let i = c .before .before .before .before .before .before .before .before .before .before .before .before .before .before .loop .inv in
+    let long : length (f .last .1 .1 .1 .0) ≡ length (c .before .before .before .before .before .before .before .before .before .before .before .before .before .before .loop .out) = search needs in
+    record { within = moved (c .before .before .before .before .before .before .before .before .before) .within; valid = f .ensures .valid; room = f .ensures .room ∙ i .room; long = long ∙ i .long }
+
+-- src/main.rt:18:1
+same-length-3 : tie.Need-same-length-3 Inv-loop μ-loop
+same-length-3 c = c .before .loop .inv .room
+
+-- src/main.rt:18:1
+same-length-4 : tie.Need-same-length-4 Inv-loop μ-loop
+same-length-4 c = c .before .loop .inv .long
+
+-- src/main.rt:18:1
+returns-2 : tie.Need-returns-2 Inv-loop μ-loop
+returns-2 c = c .before .loop .inv .valid
+
+pub answer-spec : {M : Type 1} → statement M
+answer-spec =
+    tie.close
+    (tie.spec
+    Inv-loop
+    μ-loop
+    loop-holds
+    sub-feed
+    part-feed-start
+    part-feed-end
+    feed-requires
+    add-at
+    slice-reshare-prefix-write-all
+    slice-aggregate-write-all
+    write-all-requires
+    same-length
+    same-length-2
+    returns
+    loop-less
+    loop-again
+    same-length-3
+    same-length-4
+    returns-2)

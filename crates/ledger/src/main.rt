@@ -1,0 +1,87 @@
+// The fitting ledger: a session's forms from standard input, as they come, and its replies to standard output.
+ghost use Prim.Native.Nat.{_≤_};
+ghost use lib.ListN.{length};
+ghost use Rattle.session.specs.Feeding.{UsableBegun};
+ghost use Rattle.stream.specs.Model.{ValidStream};
+use libc::STDIN_FILENO;
+use libc::STDOUT_FILENO;
+use stream::Stream;
+use writer::Written;
+
+// The stream after some input, and whether to go on.
+struct Going {
+    stream: Stream,
+    on: bool,
+}
+
+// Feeds all bytes of a chunk, and writes the replies; it stops where a write fails.
+fn answer(start: Stream, log: &mut [u8], chunk: &[u8], out: &mut [u8]) -> Going
+    requires { ⌜ ValidStream start (now log) ⌝ }
+    requires { ⌜ 2730 ≤ length (now out) ⌝ }
+    ensures { λ r. ⌜ ValidStream (r .stream) (now (log .exit)) ⌝ }
+{
+    let mut stream = start;
+    let mut at: usize = 0;
+    while at < chunk.len() {
+        let f = stream.feed(log, &chunk[at..], out);
+        let n = f.written;
+        at += f.used;
+        stream = f.stream;
+        if !io::write_all(STDOUT_FILENO, &out[..n]) {
+            return Going { stream, on: false };
+        }
+    }
+    Going { stream, on: true }
+}
+
+// Writes the reply to an unended rest of the input.
+fn close(stream: Stream, out: &mut [u8])
+    requires { ⌜ UsableBegun (stream .begun) ⌝ }
+{
+    if let Written::At(n) = stream.finish(out, 0) {
+        io::write_all(STDOUT_FILENO, &out[..n]);
+    }
+}
+
+// Reads what has come, and answers it; at the end of the input, the unended rest.
+fn step(stream: Stream, log: &mut [u8], chunk: &mut [u8], out: &mut [u8]) -> Going
+    requires { ⌜ ValidStream stream (now log) ⌝ }
+    requires { ⌜ 2730 ≤ length (now out) ⌝ }
+    ensures { λ r. ⌜ ValidStream (r .stream) (now (log .exit)) ⌝ }
+{
+    let got = libc::read(STDIN_FILENO, chunk);
+    if got < 0 {
+        return Going { stream, on: false };
+    }
+    if got == 0 {
+        close(stream, out);
+        return Going { stream, on: false };
+    }
+    let n = io::count(got, chunk);
+    answer(stream, log, &chunk[..n], out)
+}
+
+// A proved loop has to end, and nothing says that the input does: it counts its turns down, from a number that no run uses up.
+fn serve(log: &mut [u8], chunk: &mut [u8], out: &mut [u8])
+    requires { ⌜ 2730 ≤ length (now out) ⌝ }
+{
+    let mut stream = Stream::start();
+    let mut turns = u64::MAX;
+    while turns > 0 {
+        let s = step(stream, log, chunk, out);
+        let on = s.on;
+        stream = s.stream;
+        if on {
+            turns -= 1;
+        } else {
+            return;
+        }
+    }
+}
+
+fn main() {
+    let mut log = io::large_buffer();
+    let mut chunk = io::large_buffer();
+    let mut out = io::large_buffer();
+    serve(&mut log, &mut chunk, &mut out);
+}

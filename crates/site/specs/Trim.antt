@@ -1,0 +1,37 @@
+-- What is held of a line's updates, as a list, for every value that the code can have.
+use Prim.Native.Nat.{ℕ, zero, suc}
+use mathlib.Core.Path.{_≡_}
+use mathlib.Core.List.{List, [], _∷_}
+use Rattle.forms.specs.Forms.{Update, Change, Did}
+use Rattle.forms.specs.Held.{asUpdate, asAsked, asChange, asDone, noUpdate, noChange, firstFour}
+use Rattle.forms.specs.declared.AskedHeld.{AskedHeld}
+use Rattle.forms.specs.declared.DoneHeld.{DoneHeld}
+use Rattle.forms.specs.declared.DidLine.{DidLine}
+use Rattle.rules.specs.State.{State, Reply}
+use Rattle.rules.specs.Calls.{unless, redoRefusal, delivered}
+
+-- The first n of a list, and blanks where it is shorter.
+unfoldable pub padded : {A : Type 0} → A → ℕ → List A → List A
+padded blank zero xs = []
+padded blank (suc n) [] = blank ∷ padded blank n []
+padded blank (suc n) (x ∷ xs) = x ∷ padded blank n xs
+
+-- The updates that are held: as many as are counted, of which the first four are known.
+abbrev pub updatesHeld : AskedHeld → List Update
+updatesHeld h = padded noUpdate (h .count) (firstFour asUpdate (asAsked noUpdate) (h .first))
+
+abbrev pub changesHeld : DoneHeld → List Change
+changesHeld h = padded noChange (h .count) (firstFour asChange (asDone noChange) (h .first))
+
+-- The did line that is held.
+abbrev pub didHeld : DidLine → Did
+didHeld d = record { id = d .id; changes = changesHeld (d .held) }
+
+-- The reply to a redo of a did line: it is refused, or delivered.
+abbrev pub redoOf : Did → State → Reply
+redoOf did st = unless (redoRefusal did st) (delivered did st)
+
+-- The code's value y holds the value x of the forms, which can be written.
+pub record Stands {A B : Type 0} (hold : A → B) (W : A → Type 0) (x : A) (y : B) : Type 0 where
+  pub is : y ≡ hold x
+  pub writable : W x

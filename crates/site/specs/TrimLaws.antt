@@ -1,0 +1,243 @@
+-- Laws of what is held of a line's updates: every value of the code holds a list that can be written; a call with what is held of a list is the call with it.
+use Prim.Native.Nat.{ℕ, zero, suc, _≤_, _<_}
+use native.Mathlib.Omega.{arith}
+use mathlib.Core.Path.{_≡_, refl, sym, ap, subst, _∙_}
+use mathlib.Core.Bool.{Bool, true, false, _&&_, _||_, not, cond, or-true}
+use mathlib.Core.Logic.{_⊎_, inl, inr}
+use mathlib.Core.Option.{Option, none, some}
+use mathlib.Core.List.{List, [], _∷_, map}
+use mathlib.Core.List.{List·Memᴰ as Mem, List·Memᴰ·head as here, List·Memᴰ·tail as there, List·Memᴰ·not-nil, List·Memᴰ·cases-cons}
+use lib.Dec.{T, leb, eqb}
+use lib.ListN.{length, getD}
+use borrow.Author.Tests.{leb-true, leb-false, le-leb, lt-ltb}
+use Rattle.forms.specs.Decimal.{top}
+use Rattle.forms.specs.Lists.{all, any}
+use Rattle.forms.specs.ListLaws.{true-T, all-of, all-at}
+use Rattle.forms.specs.Forms.{Update, Change, Did}
+use Rattle.forms.specs.Writable.{WritableUpdate, WritableChange, WritableDid, Each}
+use Rattle.forms.specs.Held.{asUpdate, asAsked, asChange, asDone, noUpdate, noChange, firstFour, heldUpdates, heldChanges, heldDid}
+use Rattle.forms.specs.HeldLaws.{four-at}
+use Rattle.forms.specs.declared.Asked.{Asked}
+use Rattle.forms.specs.declared.Done.{Done}
+use Rattle.forms.specs.declared.AskedHeld.{AskedHeld}
+use Rattle.forms.specs.declared.DidLine.{DidLine}
+use Rattle.forms.specs.declared.Refusal.{Refusal}
+use Rattle.forms.specs.declared.Refusal.the-variants.{WrongCount, NoSuchHistory, HistoryTwice, OperandRange, OutOfTurn}
+use Rattle.rules.specs.Checks.{check, andThen, wrongCount, noSuchHistory, historyTwice, formRefusal, updatesRefusal, changesRefusal}
+use Rattle.rules.specs.State.{State, Reply, refused}
+use Rattle.rules.specs.Calls.{Call, writableUpdate, unless, step, add, addRefusal, redoRefusal, delivered}
+use Rattle.site.specs.Trim.{padded, updatesHeld, changesHeld, didHeld, redoOf, Stands}
+use Rattle.site.specs.AddLaws.{Asks, add-performs}
+
+-- ### What stands in the places
+
+each-cons : {A : Type 0} (W : A → Type 0) (y : A) (l : List A) → W y → Each W l → Each W (y ∷ l)
+each-cons {A} W y l w ws x m = one (List·Memᴰ·cases-cons m)
+  where
+    one : (x ≡ y) ⊎ Mem x l → W x
+    one (inl e) = subst W (sym e) w
+    one (inr k) = ws x k
+
+module _ {A : Type 0} (blank : A) where
+  pub padded-length : (n : ℕ) (xs : List A) → length (padded blank n xs) ≡ n
+  unfolding padded
+  padded-length zero xs = refl
+  padded-length (suc n) [] = ap suc (padded-length n [])
+  padded-length (suc n) (x ∷ xs) = ap suc (padded-length n xs)
+
+  -- past the count there is none
+  padded-past : (n : ℕ) (xs : List A) (i : ℕ) → n ≤ i → getD (padded blank n xs) i blank ≡ blank
+  unfolding padded
+  padded-past zero xs i h = refl
+  padded-past (suc n) xs zero h = absurd (omega arith)
+  padded-past (suc n) [] (suc i) h = padded-past n [] i (omega arith)
+  padded-past (suc n) (x ∷ xs) (suc i) h = padded-past n xs i (omega arith)
+
+  -- below the count, what stands in that place
+  padded-at : (n : ℕ) (xs : List A) (i : ℕ) → i < n → getD (padded blank n xs) i blank ≡ getD xs i blank
+  unfolding padded
+  padded-at zero xs i h = absurd (omega arith)
+  padded-at (suc n) [] zero h = refl
+  padded-at (suc n) [] (suc i) h = padded-at n [] i (omega arith)
+  padded-at (suc n) (x ∷ xs) zero h = refl
+  padded-at (suc n) (x ∷ xs) (suc i) h = padded-at n xs i (omega arith)
+
+  -- at most four are all held
+  padded-all : (xs : List A) → length xs ≤ 4 → padded blank (length xs) (firstFour (λ x. x) blank xs) ≡ xs
+  unfolding padded
+  padded-all [] h = refl
+  padded-all (a ∷ []) h = refl
+  padded-all (a ∷ b ∷ []) h = refl
+  padded-all (a ∷ b ∷ c ∷ []) h = refl
+  padded-all (a ∷ b ∷ c ∷ d ∷ []) h = refl
+  padded-all (a ∷ b ∷ c ∷ d ∷ x ∷ xs) h = absurd (omega arith)
+
+  -- what holds in each place below the count holds of all
+  padded-each : (W : A → Type 0) (n : ℕ) (xs : List A) → ((i : ℕ) → i < n → W (getD xs i blank)) → Each W (padded blank n xs)
+  unfolding padded
+  padded-each W zero xs h = λ x m. absurd (List·Memᴰ·not-nil m)
+  padded-each W (suc n) [] h = each-cons W blank (padded blank n []) (h 0 (omega arith)) (padded-each W n [] (λ i l. h (suc i) (omega arith)))
+  padded-each W (suc n) (y ∷ ys) h = each-cons W y (padded blank n ys) (h 0 (omega arith)) (padded-each W n ys (λ i l. h (suc i) (omega arith)))
+
+  each-at : (W : A → Type 0) (xs : List A) → Each W xs → (i : ℕ) → i < length xs → W (getD xs i blank)
+  each-at W [] h i l = absurd (omega (arith, l))
+  each-at W (y ∷ ys) h zero l = h y (here refl)
+  each-at W (y ∷ ys) h (suc i) l = each-at W ys (λ x m. h x (there m)) i (omega (arith, l))
+
+  -- four places: what holds there below the count, and of the blank, holds of all that are held
+  four-each : (W : A → Type 0) → W blank → (n : ℕ) (a b c d : A) → ((i : ℕ) → i < n → i < 4 → W (getD (a ∷ b ∷ c ∷ d ∷ []) i blank)) →
+      Each W (padded blank n (a ∷ b ∷ c ∷ d ∷ []))
+  four-each W empty n a b c d h = padded-each W n (a ∷ b ∷ c ∷ d ∷ []) go
+    where
+      go : (i : ℕ) → i < n → W (getD (a ∷ b ∷ c ∷ d ∷ []) i blank)
+      go zero l = h 0 l (omega arith)
+      go (suc zero) l = h 1 l (omega arith)
+      go (suc (suc zero)) l = h 2 l (omega arith)
+      go (suc (suc (suc zero))) l = h 3 l (omega arith)
+      go (suc (suc (suc (suc i)))) l = empty
+
+-- what holds at four places
+four : (P : ℕ → Type 0) → P 0 → P 1 → P 2 → P 3 → (i : ℕ) → i < 4 → P i
+four P a b c d zero h = a
+four P a b c d (suc zero) h = b
+four P a b c d (suc (suc zero)) h = c
+four P a b c d (suc (suc (suc zero))) h = d
+four P a b c d (suc (suc (suc (suc i)))) h = absurd (omega arith)
+
+-- Values of the code: n are counted, and the first four stand in places.
+module _ {A B : Type 0} (f : A → B) (g : B → A) (blank : A) (W : A → Type 0) (n : ℕ) (xs : List B) where
+  -- what the code finds in place i stands for what is held there
+  pub stands-below : (i : ℕ) (r : B) → i < n → i < 4 → Stands f W (g (getD xs i (f blank))) r →
+      Stands f W (getD (padded blank n (firstFour g (f blank) xs)) i blank) r
+  stands-below i r h k s =
+      subst (λ (x : A). Stands f W x r) (sym (padded-at blank n (firstFour g (f blank) xs) i h ∙ four-at g (f blank) xs i blank k)) s
+
+  pub stands-past : (i : ℕ) (r : B) → n ≤ i → Stands f W blank r → Stands f W (getD (padded blank n (firstFour g (f blank) xs)) i blank) r
+  stands-past i r h s = subst (λ (x : A). Stands f W x r) (sym (padded-past blank n (firstFour g (f blank) xs) i h)) s
+
+  -- four values that stand for what is held in the four places
+  four-stand : W blank → {a b c d : B} → Stands f W (getD (padded blank n (firstFour g (f blank) xs)) 0 blank) a →
+      Stands f W (getD (padded blank n (firstFour g (f blank) xs)) 1 blank) b → Stands f W (getD (padded blank n (firstFour g (f blank) xs)) 2 blank) c →
+      Stands f W (getD (padded blank n (firstFour g (f blank) xs)) 3 blank) d →
+      ((a ∷ b ∷ c ∷ d ∷ []) ≡ firstFour f blank (padded blank n (firstFour g (f blank) xs))) × Each W (padded blank n (firstFour g (f blank) xs))
+  four-stand empty p q r s = (
+    (λ i. p .is i ∷ q .is i ∷ r .is i ∷ s .is i ∷ []),
+    four-each blank W empty n _ _ _ _ (λ i l k. subst W (padded-at blank n (firstFour g (f blank) xs) i l)
+        (four (λ j. W (getD (padded blank n (firstFour g (f blank) xs)) j blank)) (p .writable) (q .writable) (r .writable) (s .writable) i k)),
+  )
+
+-- ### Updates and did lines
+
+-- a blank can be written
+blank-update : WritableUpdate noUpdate
+blank-update = record { history = omega arith; version = omega arith; operand = omega arith }
+
+blank-change : WritableChange noChange
+blank-change = record { history = omega arith; version = omega arith; place = omega arith; operand = omega arith }
+
+pub asked-held : (h : AskedHeld) → {a b c d : Asked} →
+    Stands asAsked WritableUpdate (getD (updatesHeld h) 0 noUpdate) a → Stands asAsked WritableUpdate (getD (updatesHeld h) 1 noUpdate) b →
+    Stands asAsked WritableUpdate (getD (updatesHeld h) 2 noUpdate) c → Stands asAsked WritableUpdate (getD (updatesHeld h) 3 noUpdate) d →
+    Stands heldUpdates (Each WritableUpdate) (updatesHeld h) (record { count = h .count; first = a ∷ b ∷ c ∷ d ∷ [] })
+unfolding heldUpdates
+asked-held h p q r s =
+    let k = four-stand asAsked asUpdate noUpdate WritableUpdate (h .count) (h .first) blank-update p q r s in
+    let n = padded-length noUpdate (h .count) (firstFour asUpdate (asAsked noUpdate) (h .first)) in
+    record { is = λ i. record { count = sym n i; first = k .0 i }; writable = k .1 }
+
+pub did-held : (l : DidLine) → l .id ≤ top → {a b c d : Done} →
+    Stands asDone WritableChange (getD (changesHeld (l .held)) 0 noChange) a → Stands asDone WritableChange (getD (changesHeld (l .held)) 1 noChange) b →
+    Stands asDone WritableChange (getD (changesHeld (l .held)) 2 noChange) c → Stands asDone WritableChange (getD (changesHeld (l .held)) 3 noChange) d →
+    Stands heldDid WritableDid (didHeld l) (record { id = l .id; held = record { count = l .held .count; first = a ∷ b ∷ c ∷ d ∷ [] } })
+unfolding heldDid heldChanges
+did-held l le p q r s =
+    let k = four-stand asDone asChange noChange WritableChange (l .held .count) (l .held .first) blank-change p q r s in
+    let n = padded-length noChange (l .held .count) (firstFour asChange (asDone noChange) (l .held .first)) in
+    record {
+      is = λ i. record { id = l .id; held = record { count = sym n i; first = k .0 i } };
+      writable = record { id = le; changes = k .1 };
+    }
+
+update-writable : (u : Update) → WritableUpdate u → T (writableUpdate u)
+unfolding writableUpdate
+update-writable u w =
+    true-T (leb (u .history) top && leb (u .version) top && leb (u .operand) top)
+    (rw (le-leb (u .history) top (w .history), le-leb (u .version) top (w .version), le-leb (u .operand) top (w .operand)))
+
+pub updates-writable : (us : List Update) → Each WritableUpdate us → T (all writableUpdate us)
+updates-writable us w = all-of writableUpdate us (λ u m. update-writable u (w u m))
+
+-- What was trimmed is held of some list.
+pub trimmed-asks : (us : List Update) (a : AskedHeld) → Stands heldUpdates (Each WritableUpdate) us a → Asks a
+trimmed-asks us a s = record { updates = us; held = s .is; writable = updates-writable us (s .writable) }
+
+-- ### What is held of a list is as good as the list
+
+many-refused : {A : Type 0} (history : A → ℕ) (misfits : A → Bool) (n : ℕ) (xs : List A) → 4 < length xs → formRefusal history misfits n xs ≡ some WrongCount
+unfolding formRefusal wrongCount check
+many-refused history misfits n xs h =
+    ap (λ (b : Bool). check b WrongCount (check (noSuchHistory n (map history xs)) NoSuchHistory (check (historyTwice (map history xs)) HistoryTwice
+    (check (any misfits xs) OperandRange none)))) (ap (λ (b : Bool). eqb (length xs) 0 || b) (lt-ltb 4 (length xs) h) ∙ or-true (eqb (length xs) 0))
+
+-- four or fewer are all held, and of more as many
+held-same : {A : Type 0} (blank : A) (xs : List A) → (padded blank (length xs) (firstFour (λ x. x) blank xs) ≡ xs)
+    ⊎ ((4 < length xs) × (4 < length (padded blank (length xs) (firstFour (λ x. x) blank xs))))
+held-same {A} blank xs = go (leb (length xs) 4) refl
+  where
+    ys : List A
+    ys = padded blank (length xs) (firstFour (λ x. x) blank xs)
+
+    go : (b : Bool) → leb (length xs) 4 ≡ b → (ys ≡ xs) ⊎ ((4 < length xs) × (4 < length ys))
+    go true h = inl (padded-all blank xs (leb-true (length xs) 4 h))
+    go false h =
+        let m : 4 < length xs = leb-false (length xs) 4 h in
+        inr (m, subst (λ (k : ℕ). 4 < k) (sym (padded-length blank (length xs) (firstFour (λ x. x) blank xs))) m)
+
+-- an order of checks of which the second refuses
+second-refuses : (b : Bool) (o later : Option Refusal) (x : Reply) → o ≡ some WrongCount →
+    unless (check b OutOfTurn (andThen o later)) x ≡ refused (cond b OutOfTurn WrongCount)
+unfolding unless check andThen
+second-refuses true o later x e = refl
+second-refuses false o later x e = rw e refl
+
+-- above four updates an add is refused, whatever they are
+many-add : (i : ℕ) (us : List Update) (st : State) → 4 < length us → add i us st ≡ refused (cond (st .restoring) OutOfTurn WrongCount)
+unfolding add addRefusal updatesRefusal
+many-add i us st h = second-refuses (st .restoring) _ _ _ (many-refused _ _ (st .histories) us h)
+
+many-redo : (did : Did) (st : State) → 4 < length (did .changes) → redoOf did st ≡ refused (cond (not (st .restoring)) OutOfTurn WrongCount)
+unfolding redoRefusal changesRefusal
+many-redo did st h = second-refuses (not (st .restoring)) _ _ (delivered did st) (many-refused _ _ (st .histories) (did .changes) h)
+
+-- what is held of updates that can be written can be written
+held-writable : (us : List Update) → T (all writableUpdate us) → T (all writableUpdate (updatesHeld (heldUpdates us)))
+unfolding heldUpdates
+held-writable us w =
+    all-of writableUpdate _ (four-each noUpdate (λ u. T (writableUpdate u)) (update-writable noUpdate blank-update) (length us) _ _ _ _
+    (λ i l k. subst (λ (u : Update). T (writableUpdate u)) (sym (four-at (λ u. u) noUpdate us i noUpdate k))
+    (each-at noUpdate (λ u. T (writableUpdate u)) us (all-at writableUpdate us w) i l)))
+
+-- An add of what is held of a list is the add of that list.
+pub add-held : (i : ℕ) (us : List Update) (st : State) → i ≤ top → T (all writableUpdate us) →
+    step (Call.Add i (updatesHeld (heldUpdates us))) st ≡ step (Call.Add i us) st
+unfolding heldUpdates
+add-held i us st le w = go (held-same noUpdate us)
+  where
+    go : (updatesHeld (heldUpdates us) ≡ us) ⊎ ((4 < length us) × (4 < length (updatesHeld (heldUpdates us)))) →
+        step (Call.Add i (updatesHeld (heldUpdates us))) st ≡ step (Call.Add i us) st
+    go (inl e) = ap (λ (l : List Update). step (Call.Add i l) st) e
+    go (inr k) =
+        add-performs i (updatesHeld (heldUpdates us)) st le (held-writable us w)
+        ∙ many-add i (updatesHeld (heldUpdates us)) st (k .1)
+        ∙ sym (add-performs i us st le w ∙ many-add i us st (k .0))
+
+-- A redo of what is held of a did line is the redo of that line.
+pub redo-held : (did : Did) (st : State) →
+    redoOf (didHeld (heldDid did)) st ≡ redoOf did st
+unfolding heldDid heldChanges
+redo-held did st = go (held-same noChange (did .changes))
+  where
+    go : (didHeld (heldDid did) .changes ≡ did .changes) ⊎ ((4 < length (did .changes)) × (4 < length (didHeld (heldDid did) .changes))) →
+        redoOf (didHeld (heldDid did)) st ≡ redoOf did st
+    go (inl e) = ap (λ (l : List Change). redoOf (record { id = did .id; changes = l }) st) e
+    go (inr k) = many-redo (didHeld (heldDid did)) st (k .1) ∙ sym (many-redo did st (k .0))

@@ -1,0 +1,101 @@
+use denote.Ref.{now}
+use Prim.Native.Nat.{_≤_}
+use mathlib.Core.Path.{_≡_}
+use native.Mathlib.Omega.{arith}
+use lib.ListN.{length}
+use Rattle.stream.specs.RunLaws.{run-stops, run-whole, run-short}
+use borrow.Author.Needs.{needs}
+use Rattle.stream.proofs.run.Statement.{statement}
+use Rattle.stream.proofs.run.Tie as tie
+use Rattle.stream.proofs.run.Reads as reads
+use Rattle.stream.proofs.run.Lts as lts
+use Rattle.stream.proofs.Stream.feed.Reads as feed-reads
+use Rattle.stream.proofs.Stream.finish.Reads as finish-reads
+use Rattle.stream.proofs.Stream.start.Reads as start-reads
+
+-- src/lib.rt:209:9
+start-requires : tie.Need-start-requires
+start-requires c κs = search needs
+
+-- src/lib.rt:210:9
+feed-requires : tie.Need-feed-requires
+feed-requires c κs = c .before .before .start .ensures (now (c .before .before .before .before .before .before .args .log)) .valid
+
+-- src/lib.rt:215:9
+same-length : tie.Need-same-length
+same-length c = search needs
+
+-- src/lib.rt:215:9
+same-length-2 : tie.Need-same-length-2
+same-length-2 c = search needs
+
+-- src/lib.rt:215:9
+returns : tie.Need-returns
+returns c =
+    let a = c .before .before .before .before .before .before .before .before .before .before .before .before .before .args in
+    let f = c .before .before .before .before .before .before .feed in
+    run-stops (now (a .input)) (now (a .log)) (c .before .before .before .before .before .before .before .before .before .start .result) (f .result) _ (now (a .out)) _ (c .before .before .before .before .before .before .before .before .before .start .ensures (now (a .log))) (f .ensures) (c .if1 .taken)
+
+-- src/lib.rt:222:11
+finish-requires : tie.Need-finish-requires
+finish-requires c κs = c .before .before .before .before .before .before .before .feed .ensures .valid .begun
+
+-- src/lib.rt:223:21
+enum-known-n : tie.Need-enum-known-n
+enum-known-n c = search needs
+
+-- src/lib.rt:229:28
+enum-told : tie.Need-enum-told
+enum-told c = search needs
+
+-- src/lib.rt:206:1
+same-length-3 : tie.Need-same-length-3
+same-length-3 c = search needs
+
+-- src/lib.rt:206:1
+same-length-4 : tie.Need-same-length-4
+same-length-4 c = search needs
+
+-- src/lib.rt:206:1
+returns-2 : tie.Need-returns-2
+returns-2 c =
+    let a = c .before .before .before .before .before .before .before .before .before .before .before .before .before .before .before .before .before .before .before .before .args in
+    let f = c .before .before .before .before .before .before .before .before .before .before .before .before .before .feed in
+    run-whole (now (a .input)) (now (a .log)) (c .before .before .before .before .before .before .before .before .before .before .before .before .before .before .before .before .start .result) (f .result) _ (now (a .out)) _ (c .before .before .before .before .before .before .before .before .before .before .before .before .before .before .before .before .start .ensures (now (a .log))) (f .ensures)
+    (c .before .before .before .before .before .before .before .if1 .left) (c .before .before .before .before .before .finish .result) _ (c .before .before .before .before .before .finish .ensures) (c .before .n .given .0 .0) (c .before .n .given .1)
+
+-- src/lib.rt:206:1
+same-length-5 : tie.Need-same-length-5
+same-length-5 c = search needs
+
+-- src/lib.rt:206:1
+same-length-6 : tie.Need-same-length-6
+same-length-6 c = search needs
+
+-- src/lib.rt:206:1
+returns-3 : tie.Need-returns-3
+returns-3 c =
+    let a = c .before .before .before .before .before .before .before .before .before .before .before .before .before .before .before .before .before .before .before .args in
+    let f = c .before .before .before .before .before .before .before .before .before .before .before .before .feed in
+    let long : length (f .last .1 .1 .1 .0) ≡ length (now (a .out)) = search needs in
+    run-short (now (a .input)) (now (a .log)) (c .before .before .before .before .before .before .before .before .before .before .before .before .before .before .before .start .result) (f .result) _ (now (a .out)) _ (c .before .before .before .before .before .before .before .before .before .before .before .before .before .before .before .start .ensures (now (a .log))) (f .ensures)
+    (c .before .before .before .before .before .before .if1 .left) (c .before .before .before .before .finish .result) _ (c .before .before .before .before .finish .ensures) (c .enum-told .given .1) long
+
+pub run-spec : {M : Type 1} → statement M
+run-spec =
+    tie.close
+    (tie.spec
+    start-requires
+    feed-requires
+    same-length
+    same-length-2
+    returns
+    finish-requires
+    enum-known-n
+    enum-told
+    same-length-3
+    same-length-4
+    returns-2
+    same-length-5
+    same-length-6
+    returns-3)

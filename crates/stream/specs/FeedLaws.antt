@@ -1,0 +1,152 @@
+-- A chunk, line after line.
+use Prim.Native.Nat.{ℕ, _+_, _-_, _≤_, _<_}
+use native.Mathlib.Omega.{arith}
+use mathlib.Core.Path.{_≡_, refl, sym, ap, ap₂, subst, _∙_}
+use mathlib.Core.List.{List, [], _∷_, _++_}
+use lib.ListN.{length, take, drop, take-append-drop, length-drop}
+use lib.Seq.{take-all, take-length}
+use Rattle.forms.specs.Forms.{Outcome, outcomeText}
+use Rattle.forms.specs.Held.{outcomeOf}
+use Rattle.rules.specs.Log.{ended}
+use Rattle.rules.specs.LineSplitLaws.{NoEnd}
+use Rattle.rules.specs.Session.{Turn, turn}
+use Rattle.journal.specs.Model.{EndAt}
+use Rattle.journal.specs.LineLaws.{take-line}
+use Rattle.site.specs.Model.{Printable}
+use Rattle.writer.specs.Write.{Wrote}
+use Rattle.session.specs.declared.Begun.{Begun}
+use Rattle.session.specs.declared.Session.{Session}
+use Rattle.session.specs.declared.Turned.{Turned}
+use Rattle.session.specs.Model.{sessionView, ValidSession, Turns}
+use Rattle.session.specs.Feeding.{Progress, fed, UsableBegun, Begins}
+use Rattle.session.specs.FeedingLaws.{fed-append, fed-none}
+use Rattle.stream.specs.declared.Stream.{Stream}
+use Rattle.stream.specs.declared.Fed.{Fed}
+use Rattle.stream.specs.Model.{ValidStream, standing, Comes, Feeds}
+use Rattle.stream.specs.LineLaws.{some-line, usable}
+use Rattle.stream.specs.ProgressLaws.{opened, fed-open, answered, fed-line, fronts-none, fronts-fits, fronts-more}
+
+-- The stream s has been fed the first bytes of the chunk.
+pub record Along (s : Stream) (old chunk : List ℕ) (r : Fed) (new out page : List ℕ) : Type 0 where
+  pub within : r .used ≤ length chunk
+  pub room : length new ≡ length old
+  pub long : length page ≡ length out
+  pub before : ValidStream s old
+  pub valid : ValidStream (r .stream) new
+  pub does : (line : List ℕ) → Begins (s .begun) line →
+      Comes (fed (length old) (take (r .used) chunk) (standing s line old)) (r .stream) new out page (r .written)
+
+pub along-start : (s : Stream) (old chunk out : List ℕ) → ValidStream s old → Along s old chunk (record { stream = s; used = 0; written = 0 }) old out out
+along-start s old chunk out v =
+    record {
+      within = omega arith;
+      room = refl;
+      long = refl;
+      before = v;
+      valid = v;
+      does = λ line h.
+          subst (λ (g : Progress). Comes g s old out out 0) (sym (fed-none (length old) (standing s line old)))
+          (record { begun = h; session = refl; replies = fronts-none out });
+    }
+
+module _ (s : Stream) (old chunk : List ℕ) (r : Fed) (new out page : List ℕ) (a : Along s old chunk r new out page) where
+  -- what is written lies within the buffer
+  pub along-fits : r .written ≤ length out
+  along-fits =
+      let l = some-line (s .begun) (a .before .begun) in
+      fronts-fits (fed (length old) (take (r .used) chunk) (standing s (l .line) old) .replied) out page (r .written) (a .does (l .line) (l .begins) .replies) (a .long)
+
+  pub along-feeds : (r .used < length chunk → length out < r .written + 2730) → Feeds s old chunk r new out page
+  along-feeds h =
+      record {
+        within = a .within;
+        stops = h;
+        fits = along-fits;
+        room = a .room;
+        valid = a .valid;
+        does = a .does;
+      }
+
+  -- No line ends any more: the rest is kept.
+  pub along-rest : (b : Begun) → NoEnd (drop (r .used) chunk) →
+      ((line : List ℕ) → Begins (r .stream .begun) line → Begins b (line ++ take (length chunk - r .used) (drop (r .used) chunk))) →
+      Along s old chunk (record { stream = record { session = r .stream .session; begun = b }; used = length chunk; written = r .written }) new out page
+  along-rest b h w =
+      record {
+        within = omega arith;
+        room = a .room;
+        long = a .long;
+        before = a .before;
+        valid = record { session = a .valid .session; begun = held };
+        does = λ line begins.
+            let x = a .does line begins in
+            subst (λ (g : Progress). Comes g (record { session = r .stream .session; begun = b }) new out page (r .written)) (sym (is line))
+            (record { begun = keeps (fed (length old) (take (r .used) chunk) (standing s line old) .begun) (x .begun); session = x .session; replies = x .replies });
+      }
+    where
+      keeps : (line : List ℕ) → Begins (r .stream .begun) line → Begins b (line ++ drop (r .used) chunk)
+      keeps line k =
+          subst (λ (l : List ℕ). Begins b (line ++ l))
+          (take-all (length chunk - r .used) (drop (r .used) chunk) (let d = length-drop (r .used) chunk in omega (arith, d))) (w line k)
+
+      held : UsableBegun b
+      held =
+          let l = some-line (r .stream .begun) (a .valid .begun) in
+          usable b (l .line ++ drop (r .used) chunk) (keeps (l .line) (l .begins))
+
+      is : (line : List ℕ) →
+          fed (length old) (take (length chunk) chunk) (standing s line old)
+          ≡ opened (drop (r .used) chunk) (fed (length old) (take (r .used) chunk) (standing s line old))
+      is line =
+          ap (λ (l : List ℕ). fed (length old) l (standing s line old)) (take-length chunk ∙ sym (take-append-drop (r .used) chunk))
+          ∙ sym (fed-append (length old) (take (r .used) chunk) (drop (r .used) chunk) (standing s line old))
+          ∙ fed-open (length old) (drop (r .used) chunk) (fed (length old) (take (r .used) chunk) (standing s line old)) h
+
+  -- One line more.
+  module _ (e : ℕ) (ends : EndAt chunk (r .used) e) (t : Turned) (after : List ℕ)
+      (turns : (line : List ℕ) → Begins (r .stream .begun) line →
+      Turns (r .stream .session) new (turn (length new) (line ++ take (e - r .used) (drop (r .used) chunk)) (sessionView (r .stream .session) new)) t after) where
+    abbrev part : List ℕ
+    part = take (e - r .used) (drop (r .used) chunk)
+
+    pub line-printable : Printable (t .reply)
+    line-printable = let l = some-line (r .stream .begun) (a .valid .begun) in turns (l .line) (l .begins) .answer .printable
+
+    pub along-line : (b : Begun) (n : ℕ) (next : List ℕ) → length after ≡ length new → length next ≡ length page → Begins b [] →
+        Wrote page (r .written) (ended (outcomeText (outcomeOf (t .reply)))) n next →
+        Along s old chunk (record { stream = record { session = t .session; begun = b }; used = e + 1; written = n }) after out next
+    along-line b n next same long none w =
+        record {
+          within = omega (arith, ends .before);
+          room = same ∙ a .room;
+          long = long ∙ a .long;
+          before = a .before;
+          valid = record { session = let l = some-line (r .stream .begun) (a .valid .begun) in turns (l .line) (l .begins) .valid; begun = usable b [] none };
+          does = λ line begins. subst (λ (g : Progress). Comes g (record { session = t .session; begun = b }) after out next n) (sym (is line)) (comes line begins);
+        }
+      where
+        soFar : List ℕ → Progress
+        soFar line = fed (length old) (take (r .used) chunk) (standing s line old)
+
+        is : (line : List ℕ) → fed (length old) (take (e + 1) chunk) (standing s line old) ≡ answered (length old) part (soFar line)
+        is line =
+            ap (λ (l : List ℕ). fed (length old) l (standing s line old)) (take-line chunk (r .used) e ends)
+            ∙ sym (fed-append (length old) (take (r .used) chunk) (ended part) (standing s line old))
+            ∙ fed-line (length old) part (soFar line) (ends .unended)
+
+        comes : (line : List ℕ) → Begins (s .begun) line → Comes (answered (length old) part (soFar line)) (record { session = t .session; begun = b }) after out next n
+        comes line begins =
+            record {
+              begun = none;
+              session = x .after ∙ ap (λ (y : Turn). y .after) same-turn;
+              replies =
+                  fronts-more (soFar line .replied) out page (r .written) (ended (outcomeText (turn (length old) (soFar line .begun ++ part) (soFar line .session) .reply))) n next
+                  (a .does line begins .replies)
+                  (subst (λ (o : Outcome). Wrote page (r .written) (ended (outcomeText o)) n next) (x .answer .outcome ∙ ap (λ (y : Turn). y .reply) same-turn) w);
+            }
+          where
+            x : Turns (r .stream .session) new (turn (length new) (soFar line .begun ++ part) (sessionView (r .stream .session) new)) t after
+            x = turns (soFar line .begun) (a .does line begins .begun)
+
+            same-turn : turn (length new) (soFar line .begun ++ part) (sessionView (r .stream .session) new) ≡ turn (length old) (soFar line .begun ++ part) (soFar line .session)
+            same-turn = ap₂ (λ (k : ℕ) v. turn k (soFar line .begun ++ part) v) (a .room) (a .does line begins .session)

@@ -1,0 +1,85 @@
+-- A stream as the rule book's progress, and what feeding it a chunk promises.
+use Prim.Native.Nat.{ℕ, _+_, _-_, _≤_, _<_}
+use mathlib.Core.Path.{_≡_}
+use mathlib.Core.Bool.{Bool, true, false}
+use mathlib.Core.List.{List, [], _∷_, _++_}
+use lib.ListN.{length, take, drop}
+use Rattle.rules.specs.LineSplitLaws.{NoEnd}
+use Rattle.rules.specs.Session.{sessionIn}
+use Rattle.journal.specs.Model.{EndAt}
+use Rattle.session.specs.Model.{sessionView, ValidSession}
+use Rattle.session.specs.Feeding.{Progress, atStart, fed, UsableBegun, Begins}
+use Rattle.stream.specs.declared.End.{End}
+use Rattle.stream.specs.declared.Stream.{Stream}
+use Rattle.stream.specs.declared.Fed.{Fed}
+use Rattle.stream.specs.declared.Ran.{Ran}
+
+-- where the next line ends
+abbrev pub Ends : List ℕ → ℕ → End → Type 0
+Ends s at (End.At e) = EndAt s at e
+Ends s at End.Nothing = NoEnd (drop at s)
+
+-- ### The stream
+
+-- The invariant of a stream and the bytes of its log buffer.
+pub record ValidStream (s : Stream) (bytes : List ℕ) : Type 0 where
+  pub session : ValidSession (s .session) bytes
+  pub begun : UsableBegun (s .begun)
+
+-- The rule book's progress that a stream is, whose unended line is `line`, with nothing replied yet.
+abbrev pub standing : Stream → List ℕ → List ℕ → Progress
+standing s line bytes = record { begun = line; session = sessionView (s .session) bytes; replied = [] }
+
+-- A stream "before site", with nothing read.
+pub record StartsStream (s : Stream) (bytes : List ℕ) : Type 0 where
+  pub valid : ValidStream s bytes
+  pub begun : Begins (s .begun) []
+  pub is : standing s [] bytes ≡ atStart
+
+-- ### One chunk
+
+-- The text, of n bytes, stands at the front of the buffer that was `out` and is `page`, and the rest of that buffer is as it was.
+pub record Fronts (text out page : List ℕ) (n : ℕ) : Type 0 where
+  pub count : n ≡ length text
+  pub bytes : page ≡ text ++ drop n out
+
+-- The stream has come to the progress g, and its replies, of n bytes, are written.
+pub record Comes (g : Progress) (s : Stream) (bytes out page : List ℕ) (n : ℕ) : Type 0 where
+  pub begun : Begins (s .begun) (g .begun)
+  pub session : sessionView (s .session) bytes ≡ g .session
+  pub replies : Fronts (g .replied) out page n
+
+-- The stream s, whose log buffer was `old` and is `new`, is fed the first bytes of the chunk: all of them, or a line is left for whose
+-- reply `out` may have no room.
+pub record Feeds (s : Stream) (old chunk : List ℕ) (r : Fed) (new out page : List ℕ) : Type 0 where
+  pub within : r .used ≤ length chunk
+  pub stops : r .used < length chunk → length out < r .written + 2730
+  pub fits : r .written ≤ length out
+  pub room : length new ≡ length old
+  pub valid : ValidStream (r .stream) new
+  pub does : (line : List ℕ) → Begins (s .begun) line →
+      Comes (fed (length old) (take (r .used) chunk) (standing s line old)) (r .stream) new out page (r .written)
+
+-- ### A whole input
+
+-- All replies of the session are written.
+pub record RunsWhole (input old : List ℕ) (r : Ran) (out page : List ℕ) : Type 0 where
+  pub used : r .used ≡ length input
+  pub replies : Fronts (sessionIn (length old) input) out page (r .written)
+
+-- `out` is too short, or nearly: the replies to the lines that were taken are written.
+pub record RunsPart (input old : List ℕ) (r : Ran) (out page : List ℕ) : Type 0 where
+  pub within : r .used ≤ length input
+  pub short : length out < length (sessionIn (length old) input) + 2730
+  pub replies : Fronts (fed (length old) (take (r .used) input) atStart .replied) out page (r .written)
+
+abbrev pub RunsIf : Bool → List ℕ → List ℕ → Ran → List ℕ → List ℕ → Type 0
+RunsIf true input old r out page = RunsWhole input old r out page
+RunsIf false input old r out page = RunsPart input old r out page
+
+-- The input's session over the log buffer that was `old` and is `new`.
+pub record Runs (input old : List ℕ) (r : Ran) (new out page : List ℕ) : Type 0 where
+  pub room : length new ≡ length old
+  pub valid : ValidStream (r .stream) new
+  pub session : sessionView (r .stream .session) new ≡ fed (length old) (take (r .used) input) atStart .session
+  pub replies : RunsIf (r .whole) input old r out page
