@@ -48,6 +48,9 @@ mod linked {
             out: *mut u8,
             out_length: usize,
         ) -> u64;
+
+        #[cfg(feature = "site-calls")]
+        pub fn site_add_and_finish(log: *mut u8, log_length: usize, operations: u64) -> usize;
     }
 }
 
@@ -56,6 +59,41 @@ pub struct Library;
 
 // Each call lends the library slices that are valid and, where it writes, borrowed by nobody
 // else until it returns. It keeps none of them.
+impl Library {
+    /// The number in place of a refusal's where the places are not sixteen.
+    pub const NOT_SIXTEEN: u64 = 998;
+
+    /// Hands out the lines above the kept places, however many these are.
+    pub fn hand_out_above(
+        &self,
+        buffer: &[u8],
+        used: usize,
+        places: &[u64],
+        out: &mut [u8],
+    ) -> Outcome {
+        // SAFETY: see above.
+        outcome(unsafe {
+            linked::keeper_hand_out(
+                buffer.as_ptr(),
+                buffer.len(),
+                used,
+                places.as_ptr(),
+                places.len(),
+                out.as_mut_ptr(),
+                out.len(),
+            )
+        })
+    }
+
+    /// Opens a site of 4 histories and adds and finishes this many operations, without text.
+    /// Gives the bytes of the log in use.
+    #[cfg(feature = "site-calls")]
+    pub fn add_and_finish(&self, log: &mut [u8], operations: u64) -> usize {
+        // SAFETY: see above.
+        unsafe { linked::site_add_and_finish(log.as_mut_ptr(), log.len(), operations) }
+    }
+}
+
 impl Program for Library {
     fn name(&self) -> &str {
         "library"
@@ -63,7 +101,7 @@ impl Program for Library {
 
     fn session(&self, input: &[u8], log: &mut [u8], out: &mut [u8]) -> Option<usize> {
         // SAFETY: see above.
-        let length = unsafe {
+        fitting(unsafe {
             linked::session_whole(
                 input.as_ptr(),
                 input.len(),
@@ -72,13 +110,14 @@ impl Program for Library {
                 out.as_mut_ptr(),
                 out.len(),
             )
-        };
-        (length != usize::MAX).then_some(length)
+        })
     }
 
-    fn restart(&self, log: &[u8], kept: usize, out: &mut [u8]) -> usize {
+    fn restart(&self, log: &[u8], kept: usize, out: &mut [u8]) -> Option<usize> {
         // SAFETY: see above.
-        unsafe { linked::site_restart(log.as_ptr(), log.len(), kept, out.as_mut_ptr(), out.len()) }
+        fitting(unsafe {
+            linked::site_restart(log.as_ptr(), log.len(), kept, out.as_mut_ptr(), out.len())
+        })
     }
 
     fn keep(&self, buffer: &mut [u8], used: usize, line: &[u8]) -> Outcome {
@@ -97,22 +136,16 @@ impl Program for Library {
     }
 
     fn hand_out(&self, buffer: &[u8], used: usize, kept: &Places, out: &mut [u8]) -> Outcome {
-        // SAFETY: see above.
-        outcome(unsafe {
-            linked::keeper_hand_out(
-                buffer.as_ptr(),
-                buffer.len(),
-                used,
-                kept.as_ptr(),
-                kept.len(),
-                out.as_mut_ptr(),
-                out.len(),
-            )
-        })
+        self.hand_out_above(buffer, used, kept, out)
     }
 }
 
-/// Below 1,000 it is a refusal's number, else 1,000 more than a number of bytes.
+/// The length of a text, unless it is 2^64 - 1, which says that the text does not fit.
+fn fitting(length: usize) -> Option<usize> {
+    (length != usize::MAX).then_some(length)
+}
+
+/// Below 1,000 it is a refusal's number, 998 or 999, else 1,000 more than a number of bytes.
 fn outcome(code: u64) -> Outcome {
     match code.checked_sub(1000) {
         Some(bytes) => Ok(bytes as usize),

@@ -11,19 +11,26 @@ use crate::writer;
 /// The bytes in use after a keeper's call, or handed out by it; else the refusal's number.
 pub type Outcome = Result<usize, u64>;
 
+/// The number in place of a refusal's where the first bytes are not what a keeper keeps.
+pub const NO_KEEPER: u64 = 999;
+
+/// The room that is lent behind the replies of a session. No reply has more bytes.
+pub const SPARE: usize = 2730;
+
 /// One implementation of the ledger.
 pub trait Program {
     fn name(&self) -> &str;
 
     /// Runs a whole session over a log buffer. Gives the length of the replies, or nothing
-    /// when `out` is too short for them.
+    /// when `out` is too short for them. It may ask for [`SPARE`] bytes more than they have.
     fn session(&self, input: &[u8], log: &mut [u8], out: &mut [u8]) -> Option<usize>;
 
-    /// Restarts from the first `kept` bytes of a log. Gives the length of the reply line,
-    /// for which 64 bytes are enough.
-    fn restart(&self, log: &[u8], kept: usize, out: &mut [u8]) -> usize;
+    /// Restarts from the first `kept` bytes of a log. Gives the length of the reply line, for
+    /// which 64 bytes are enough, or nothing when `out` is too short for it.
+    fn restart(&self, log: &[u8], kept: usize, out: &mut [u8]) -> Option<usize>;
 
-    /// Stores a did line in a keeper's buffer.
+    /// Stores a did line in a keeper's buffer. Here and below the first `used` bytes of the
+    /// buffer must be what a keeper keeps: else nothing changes, and [`NO_KEEPER`] says so.
     fn keep(&self, buffer: &mut [u8], used: usize, line: &[u8]) -> Outcome;
 
     /// Drops the lines up to a place of a history from a keeper's buffer.
@@ -57,6 +64,11 @@ impl Second {
     pub fn from_paper() -> Second {
         Second::new("second program", Rules::PAPER)
     }
+
+    /// The keeper whose lines the first bytes of a buffer are.
+    fn keeper(&self, buffer: &[u8], used: usize) -> Result<Keeper, u64> {
+        Keeper::resume(buffer, used, self.rules).ok_or(NO_KEEPER)
+    }
 }
 
 impl Program for Second {
@@ -65,33 +77,36 @@ impl Program for Second {
     }
 
     fn session(&self, input: &[u8], log: &mut [u8], out: &mut [u8]) -> Option<usize> {
-        let replies = session::run(input, log, self.rules);
-        out.get_mut(..replies.len())?.copy_from_slice(&replies);
-        Some(replies.len())
+        put(&session::run(input, log, self.rules), out)
     }
 
-    fn restart(&self, log: &[u8], kept: usize, out: &mut [u8]) -> usize {
+    fn restart(&self, log: &[u8], kept: usize, out: &mut [u8]) -> Option<usize> {
         let restarted: Answer = Site::restart(log, kept as u64, self.rules)
             .map(|site| Reply::Restarted { lines: site.done(), bytes: site.used() });
         let mut reply = Vec::new();
         writer::answer(&mut reply, &restarted);
-        out[..reply.len()].copy_from_slice(&reply);
-        reply.len()
+        put(&reply, out)
     }
 
     fn keep(&self, buffer: &mut [u8], used: usize, line: &[u8]) -> Outcome {
-        let mut keeper = Keeper::with(used, self.rules);
+        let mut keeper = self.keeper(buffer, used)?;
         outcome(keeper.keep(line, buffer).map(|()| keeper.used()))
     }
 
     fn drop_up_to(&self, buffer: &mut [u8], used: usize, history: u64, place: u64) -> Outcome {
-        let mut keeper = Keeper::with(used, self.rules);
+        let mut keeper = self.keeper(buffer, used)?;
         outcome(keeper.drop_up_to(history, place, buffer).map(|()| keeper.used()))
     }
 
     fn hand_out(&self, buffer: &[u8], used: usize, kept: &Places, out: &mut [u8]) -> Outcome {
-        outcome(Keeper::with(used, self.rules).hand_out(kept, buffer, out))
+        outcome(self.keeper(buffer, used)?.hand_out(kept, buffer, out))
     }
+}
+
+/// Puts a text at the front of a buffer, if it fits; gives its length.
+fn put(text: &[u8], out: &mut [u8]) -> Option<usize> {
+    out.get_mut(..text.len())?.copy_from_slice(text);
+    Some(text.len())
 }
 
 fn outcome(result: Result<usize, Refusal>) -> Outcome {

@@ -1,6 +1,6 @@
 //! The examples and edge cases that the paper gives, one by one.
 
-use second::program::{self, Outcome, Program};
+use second::program::{self, Outcome, Program, SPARE};
 
 const ROOM: usize = 65_536;
 
@@ -15,7 +15,7 @@ const FIRST: &str =
 fn run(input: &str, room: usize) -> (String, Vec<u8>) {
     agreed(|program| {
         let mut log = vec![255; room];
-        let mut out = vec![0; 100 + 100 * input.lines().count()];
+        let mut out = vec![0; 100 * input.lines().count() + SPARE];
         let length = program.session(input.as_bytes(), &mut log, &mut out).expect("room for them");
         (text(&out[..length]), log)
     })
@@ -50,7 +50,7 @@ fn last_reply(input: &str) -> String {
 fn restart(log: &[u8], kept: usize) -> String {
     agreed(|program| {
         let mut out = [0; 64];
-        let length = program.restart(log, kept, &mut out);
+        let length = program.restart(log, kept, &mut out).expect("room for the reply");
         text(&out[..length]).trim_end().to_string()
     })
 }

@@ -1,6 +1,10 @@
 //! Measures the programs on the same input: this one, the proved library where it is linked,
 //! and, for one figure, SQLite where it is installed.
+//!
+//! Without arguments it prints a table. With a figure's number, a program's number and a number
+//! of runs it only runs, for a profiler to watch.
 
+use std::env;
 use std::fs;
 use std::hint::black_box;
 use std::io::{self, Write};
@@ -8,13 +12,13 @@ use std::process::{Command, Stdio};
 use std::time::{Duration, Instant};
 
 use second::forms::{Operation, Rule, Update};
-use second::program::{self, Program};
+use second::program::{self, Program, SPARE};
 use second::rules::Rules;
 use second::site::Site;
 
 /// How long a figure is measured, in each of several turns of which the best counts.
 const TURN: Duration = Duration::from_millis(200);
-const TURNS: usize = 5;
+const TURNS: usize = 7;
 
 /// How many operations a session adds and finishes.
 const OPERATIONS: usize = 2000;
@@ -27,24 +31,42 @@ struct Figure {
     name: &'static str,
     unit: &'static str,
     work: f64,
-    run: Run,
+    /// How each program runs it.
+    runs: Vec<Run>,
 }
 
-type Run = Box<dyn Fn(&dyn Program)>;
+type Run = Box<dyn FnMut()>;
 
 fn main() {
+    let arguments: Vec<usize> = env::args().skip(1).filter_map(|word| word.parse().ok()).collect();
+    match arguments[..] {
+        [] => table(),
+        [figure, program, runs] => {
+            let run = &mut figures()[figure].runs[program];
+            (0..runs).for_each(|_| run());
+        }
+        _ => println!("bench, or bench FIGURE PROGRAM RUNS"),
+    }
+}
+
+/// Prints all figures.
+fn table() {
     println!("{}, {} build\n", machine(), if cfg!(debug_assertions) { "debug" } else { "release" });
-    let programs = program::all();
-    print!("{:42}", "");
-    programs.iter().for_each(|program| print!("{:>18}", program.name()));
-    println!("{:>10}", if programs.len() > 1 { "times" } else { "" });
-    figures().iter().for_each(|figure| report(figure, &programs));
-    let turns = (0..TURNS).map(|_| rate(2.0 * OPERATIONS as f64, finish_in_place));
-    let in_place = turns.fold(0.0, f64::max);
-    report_beside("add and finish without text", "calls/s", in_place);
-    match transactions_per_second() {
-        Ok(rate) => report_beside("SQLite, one an operation", "commits/s", rate),
-        Err(error) => println!("SQLite is left out: sqlite3 does not run ({error})."),
+    print!("{:46}", "");
+    program::all().iter().for_each(|program| print!("{:>18}", program.name()));
+    println!("{:>10}", "times");
+    let mut figures = figures();
+    let best: Vec<Vec<f64>> = figures.iter_mut().map(best_rates).collect();
+    for (number, (figure, best)) in figures.iter().zip(&best).enumerate() {
+        print_row(&format!("{number}  {}", figure.name), figure.unit, best);
+    }
+    let share = OPERATIONS as f64 / figures[0].work;
+    let operations: Vec<f64> = best[0].iter().map(|rate| rate * share).collect();
+    print_row("   operations of figure 0", "operations/s", &operations);
+    match (0..TURNS).map(|_| transactions_per_second()).reduce(faster) {
+        Some(Ok(rate)) => print_row("   SQLite", "operations/s", &[rate]),
+        Some(Err(error)) => println!("SQLite is left out: sqlite3 does not run ({error})."),
+        None => {}
     }
 }
 
@@ -55,37 +77,48 @@ fn machine() -> String {
     name.unwrap_or("unknown processor").to_string()
 }
 
-/// Prints a figure for each program, and how many times faster the first is than the last.
-/// The programs take turns, so that what else the machine does meets all of them.
-fn report(figure: &Figure, programs: &[Box<dyn Program>]) {
-    print!("{:30}{:>12}", figure.name, figure.unit);
-    let mut best = vec![0.0; programs.len()];
+/// The best rate of each program. They take turns, so that what else the machine does meets
+/// all of them.
+fn best_rates(figure: &mut Figure) -> Vec<f64> {
+    let mut best = vec![0.0; figure.runs.len()];
     for _ in 0..TURNS {
-        for (program, best) in programs.iter().zip(&mut best) {
-            *best = rate(figure.work, || (figure.run)(program.as_ref())).max(*best);
+        for (run, best) in figure.runs.iter_mut().zip(&mut best) {
+            *best = rate(figure.work, run).max(*best);
         }
     }
-    best.iter().for_each(|rate| print!("{rate:>18.0}"));
-    match best.as_slice() {
+    best
+}
+
+/// Prints a rate for each program, and how many times as long the last takes as the first.
+fn print_row(name: &str, unit: &str, rates: &[f64]) {
+    print!("{name:29}{unit:>17}");
+    rates.iter().for_each(|rate| print!("{rate:>18.0}"));
+    match rates {
         [first, .., last] => println!("{:>10.2}", first / last),
         _ => println!(),
     }
 }
 
-/// Prints a figure that only one program has.
-fn report_beside(name: &str, unit: &str, rate: f64) {
-    println!("{name:30}{unit:>12}{rate:>18.0}");
-}
-
 /// The units a second in one turn.
-fn rate(work: f64, run: impl Fn()) -> f64 {
-    let start = Instant::now();
+fn rate(work: f64, run: &mut Run) -> f64 {
+    let (start, before) = (Instant::now(), processor_time());
     let mut runs = 0.0;
     while start.elapsed() < TURN {
         run();
         runs += 1.0;
     }
-    runs * work / start.elapsed().as_secs_f64()
+    let taken = match (before, processor_time()) {
+        (Some(before), Some(after)) => after - before,
+        _ => start.elapsed(),
+    };
+    runs * work / taken.as_secs_f64()
+}
+
+/// How long this thread was at work, where the system tells it: what others did meanwhile does
+/// not count.
+fn processor_time() -> Option<Duration> {
+    let told = fs::read_to_string("/proc/thread-self/schedstat").ok()?;
+    Some(Duration::from_nanos(told.split(' ').next()?.parse().ok()?))
 }
 
 fn figures() -> Vec<Figure> {
@@ -93,62 +126,82 @@ fn figures() -> Vec<Figure> {
     vec![
         session("add and finish", added_and_finished(OPERATIONS)),
         session("redo of 64 lines in order", redone(false)),
-        session("redo of 64 lines in reverse", redone(true)),
+        session("redo of 64 in reverse", redone(true)),
         session("mixed session", mixed()),
         restart(log.clone()),
         hand_out(log),
+        site_calls(),
     ]
+}
+
+/// The figure, run by each program as the function says.
+fn figure<R: FnMut() + 'static>(
+    name: &'static str,
+    unit: &'static str,
+    work: f64,
+    run_by: impl Fn(Box<dyn Program>) -> R,
+) -> Figure {
+    let runs = program::all().into_iter().map(|program| Box::new(run_by(program)) as Run);
+    Figure { name, unit, work, runs: runs.collect() }
 }
 
 /// A session measured from text to text, in calls.
 fn session(name: &'static str, input: String) -> Figure {
     let lines = input.lines().count();
-    Figure {
-        name,
-        unit: "calls/s",
-        work: lines as f64,
-        run: Box::new(move |program| {
-            let mut log = vec![0; Site::LONGEST_LOG];
-            let mut out = vec![0; 200 * lines];
+    figure(name, "calls/s", lines as f64, |program| {
+        let input = input.clone();
+        let (mut log, mut out) = (vec![0; Site::LONGEST_LOG], vec![0; 200 * lines + SPARE]);
+        move || {
             let length = program.session(black_box(input.as_bytes()), &mut log, &mut out);
             assert!(black_box(length).is_some(), "the replies fit");
-        }),
-    }
+        }
+    })
 }
 
 fn restart(log: Vec<u8>) -> Figure {
-    Figure {
-        name: "restart from a full log",
-        unit: "MB/s",
-        work: log.len() as f64 / 1e6,
-        run: Box::new(move |program| {
-            let mut out = [0; 64];
+    figure("restart from a full log", "MB/s", log.len() as f64 / 1e6, |program| {
+        let (log, mut out) = (log.clone(), [0; 64]);
+        move || {
             let length = program.restart(black_box(&log), log.len(), &mut out);
-            assert!(black_box(&out[..length]).starts_with(b"(ok "), "the log restarts");
-        }),
-    }
+            assert!(length.is_some() && black_box(&out).starts_with(b"(ok "), "the log restarts");
+        }
+    })
 }
 
 /// A full keeper that hands out all it has.
 fn hand_out(log: Vec<u8>) -> Figure {
     let first = log.iter().position(|&byte| byte == b'\n').map_or(0, |end| end + 1);
-    let buffer = log[first..].to_vec();
-    Figure {
-        name: "keeper hands out all lines",
-        unit: "MB/s",
-        work: buffer.len() as f64 / 1e6,
-        run: Box::new(move |program| {
-            let mut out = vec![0; buffer.len()];
-            let handed = program.hand_out(black_box(&buffer), buffer.len(), &[0; 16], &mut out);
-            assert_eq!(black_box(handed), Ok(buffer.len()));
-        }),
-    }
+    let lines = log[first..].to_vec();
+    figure("keeper hands out all lines", "MB/s", lines.len() as f64 / 1e6, |program| {
+        let (lines, mut out) = (lines.clone(), vec![0; lines.len()]);
+        move || {
+            let handed = program.hand_out(black_box(&lines), lines.len(), &[0; 16], &mut out);
+            assert_eq!(black_box(handed), Ok(lines.len()));
+        }
+    })
+}
+
+/// The site's own calls, without text.
+fn site_calls() -> Figure {
+    let mut log = vec![0; Site::LONGEST_LOG];
+    let runs: Vec<Run> = vec![
+        Box::new(move || finish_in_place(&mut log)),
+        #[cfg(feature = "site-calls")]
+        {
+            let mut log = vec![0; Site::LONGEST_LOG];
+            Box::new(move || {
+                let used = second::library::Library.add_and_finish(&mut log, OPERATIONS as u64);
+                assert!(black_box(used) <= log.len());
+            })
+        },
+    ];
+    Figure { name: "the same without text", unit: "calls/s", work: 2.0 * OPERATIONS as f64, runs }
 }
 
 /// `(add ..)` of the operation with this number, in one of four histories.
 fn add_line(number: usize) -> String {
-    let (history, version, operand) = (number % 4, number / 4 + 1, number % 1024);
-    format!("(add {number} (inc {history} {version} {operand}))\n")
+    let (history, version) = (number % 4, number / 4 + 1);
+    format!("(add {number} (inc {history} {version} 7))\n")
 }
 
 /// Operations added and finished one by one, with marks that keep the table small.
@@ -205,20 +258,24 @@ fn mixed() -> String {
 }
 
 /// Adds and finishes operations by the site's own calls, without text.
-fn finish_in_place() {
-    let mut log = vec![0; Site::LONGEST_LOG];
-    let mut site = Site::open(4, &mut log, Rules::PAPER).expect("a site");
+fn finish_in_place(log: &mut [u8]) {
+    let mut site = Site::open(4, log, Rules::PAPER).expect("a site");
     for id in 0..OPERATIONS as u64 {
         let update = Update { rule: Rule::Inc, history: id % 4, version: id / 4 + 1, operand: 7 };
         let operation = Operation { id, updates: [update].into_iter().collect() };
         site.add(black_box(operation)).expect("it fits");
-        site.finish(black_box(id), &mut log).expect("it is in progress");
+        site.finish(black_box(id), log).expect("it is in progress");
         if id % 32 == 31 {
             site.make_persistent(id + 1).expect("it is done");
             site.make_stable(id + 1).expect("it is persistent");
         }
     }
     black_box(site);
+}
+
+/// The faster of two rates, or what went wrong.
+fn faster(one: io::Result<f64>, other: io::Result<f64>) -> io::Result<f64> {
+    Ok(one?.max(other?))
 }
 
 /// SQLite in memory, by its command line program: one transaction an operation.
@@ -228,11 +285,11 @@ fn transactions_per_second() -> io::Result<f64> {
                   INSERT INTO history VALUES (0,0,0,0),(1,0,0,0),(2,0,0,0),(3,0,0,0);\n";
     let mut script = tables.to_string();
     for number in 0..TRANSACTIONS {
-        let (history, version, operand) = (number % 4, number / 4 + 1, number % 256);
+        let (history, version) = (number % 4, number / 4 + 1);
         script += &format!(
-            "BEGIN; UPDATE history SET profile = (profile & ~255) | {operand}, version = {version}, \
+            "BEGIN; UPDATE history SET profile = (profile & ~255) | 7, version = {version}, \
              place = place + 1 WHERE number = {history} AND version = {version} - 1; \
-             INSERT INTO log VALUES ({number}, {number}, 'inc', {history}, {version}, {operand}); \
+             INSERT INTO log VALUES ({number}, {number}, 'inc', {history}, {version}, 7); \
              COMMIT;\n"
         );
     }

@@ -38,6 +38,10 @@ pub fn sessions(round: u64) -> Vec<SessionTrial> {
         let (mood, lines) = (Mood::any(&mut random), random.between(3, most + most / 3));
         trials.push(session(&mut random, mood, lines));
     }
+    for _ in 0..9 {
+        let (mood, lines) = (Mood::any(&mut random), random.between(60, 90));
+        trials.push(session(&mut random, mood, lines));
+    }
     let (mood, lines) = (Mood::any(&mut random), random.between(150, 450));
     trials.push(session(&mut random, mood, lines));
     let (mood, lines) = (Mood::careful(&mut random), random.between(100, 300));
@@ -95,7 +99,7 @@ fn cuts_at_every_byte(random: &mut Random) -> Vec<SessionTrial> {
     let lines: Vec<&str> = text.lines().skip(1).collect();
     let mut trials = Vec::new();
     for kept in 0..=log.len() + 1 {
-        let mut pieces = pieces.clone();
+        let (mut pieces, unwatched) = (pieces.clone(), pieces.len());
         let mut say = |line: String| pieces.push(format!("{line}\n").into_bytes());
         say(format!("(cut {kept})"));
         for again in [false, true] {
@@ -109,7 +113,7 @@ fn cuts_at_every_byte(random: &mut Random) -> Vec<SessionTrial> {
         }
         say("(end)".to_string());
         (0..histories).for_each(|history| say(format!("(show {history})")));
-        trials.push(SessionTrial { pieces, room: log.len().max(9), closely: false });
+        trials.push(SessionTrial { pieces, room: log.len().max(9), unwatched });
     }
     trials
 }
@@ -173,30 +177,67 @@ fn keepers(round: u64) -> Vec<KeeperTrial> {
             9 => Site::LONGEST_LOG + random.between(0, 1),
             _ => random.between(0, Site::LONGEST_LOG),
         };
-        let calls = random.between(10, 60);
-        trials.push(keeper(&mut random, room, calls));
+        trials.push(keeper(&mut random, Vec::new(), room));
     }
-    if round % 32 == 7 {
-        trials.push(keeper(&mut random, Site::LONGEST_LOG, 2500));
+    if round % 16 == 7 {
+        let start = kept_lines(&mut random, Site::LONGEST_LOG - 900);
+        trials.push(keeper(&mut random, start, Site::LONGEST_LOG));
+    }
+    if round % 16 == 11 {
+        trials.extend(damaged_keepers(&mut random));
     }
     trials
 }
 
-fn keeper(random: &mut Random, room: usize, calls: usize) -> KeeperTrial {
+/// Keepers whose bytes were damaged at every byte and line and cut everywhere.
+fn damaged_keepers(random: &mut Random) -> Vec<KeeperTrial> {
+    let (good, lines) = (kept_lines(random, 1), kept_lines(random, 150));
+    let mut starts = [damage::every_byte(&lines), damage::every_line(&lines)].concat();
+    starts.extend((0..=lines.len()).map(|length| lines[..length].to_vec()));
+    starts.push(damage::long_line(random, 1024));
+    let damaged = |start: Vec<u8>| {
+        let room = match random.below(20) {
+            0 => random.between(0, start.len()),
+            1 => Site::LONGEST_LOG + random.between(0, 1),
+            _ => start.len() + random.between(0, 100),
+        };
+        let drop = KeeperCall::Drop { history: random.below(17), place: random.below(9) };
+        let hand_out = KeeperCall::HandOut { kept: [random.below(3); 16], room: 300 };
+        let mut calls = vec![KeeperCall::Keep(good[..good.len() - 1].to_vec()), drop, hand_out];
+        random.shuffle(&mut calls);
+        KeeperTrial { start, calls, room }
+    };
+    starts.into_iter().map(damaged).collect()
+}
+
+/// Lines that a keeper keeps, each with its end: as few as have this many bytes together.
+fn kept_lines(random: &mut Random, bytes: usize) -> Vec<u8> {
     let program = Second::from_paper();
-    let mut kept = Kept::new(&program, room);
-    let fills = calls > 100;
-    let mut made = Vec::new();
-    for _ in 0..calls {
-        let call = match random.below(if fills { 1000 } else { 10 }) {
+    let mut lines = Vec::new();
+    while lines.len() < bytes {
+        let line = new_line(random);
+        if program.keep(&mut used_buffer(line.len() + 1), 0, &line).is_ok() {
+            lines.extend([line, b"\n".to_vec()].concat());
+        }
+    }
+    lines
+}
+
+/// Calls of a keeper in any order. One that has lines at the start is full soon.
+fn keeper(random: &mut Random, start: Vec<u8>, room: usize) -> KeeperTrial {
+    let program = Second::from_paper();
+    let mut trial = KeeperTrial { start, calls: Vec::new(), room };
+    let mut kept = trial.kept(&program);
+    for _ in 0..random.between(10, 60) {
+        let call = match random.below(if trial.start.is_empty() { 10 } else { 60 }) {
             0 => KeeperCall::Drop { history: random.below(17), place: random.below(9) },
             1..=2 => hand_out(random, &program, &kept),
-            _ => KeeperCall::Keep(kept_line(random, &made)),
+            _ => KeeperCall::Keep(kept_line(random, &trial.calls)),
         };
         let _ = kept.call(&call);
-        made.push(call);
+        trial.calls.push(call);
     }
-    KeeperTrial { calls: made, room }
+    trial
 }
 
 /// A hand-out into a buffer that just fits, just does not, or is large.

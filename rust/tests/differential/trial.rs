@@ -6,26 +6,39 @@ use std::ops::Range;
 use std::sync::LazyLock;
 
 use second::keeper::Places;
-use second::program::{Outcome, Program};
+use second::program::{Outcome, Program, SPARE};
+
+use crate::random::Random;
 
 /// Sessions up to this many lines are compared after every line.
-const SHORT: usize = 48;
+const SHORT: usize = 100;
 
 /// A list of steps for two programs.
 pub trait Trial: Sized + Send + Sync {
     fn steps(&self) -> usize;
 
-    /// The trial with some of its steps left out.
+    /// The trial with some of its steps left out. What is left is compared at its end only,
+    /// if that is a choice.
     fn without(&self, steps: Range<usize>) -> Self;
 
     /// Its steps as text.
     fn shown(&self) -> String;
 
-    /// What a program answers, step by step.
+    /// How many calls are made of each program.
+    fn calls(&self) -> usize {
+        self.steps()
+    }
+
+    /// What a program answers, call by call.
     fn replies(&self, program: &dyn Program) -> Vec<String>;
 
     /// Where the programs differ, in words.
     fn difference(&self, left: &dyn Program, right: &dyn Program) -> Option<String>;
+
+    /// The trial up to the step after which the programs differ, compared at its end only.
+    fn up_to_difference(&self, left: &dyn Program, right: &dyn Program) -> Option<Self> {
+        self.difference(left, right).map(|_| self.without(0..0))
+    }
 }
 
 /// The shortest trial found that shows a difference.
@@ -41,11 +54,14 @@ pub trait Comparison: Send + Sync {
     fn answers(&self, program: &dyn Program) -> Vec<String>;
 
     fn mismatch(&self, left: &dyn Program, right: &dyn Program) -> Option<Mismatch>;
+
+    /// A mismatch that shows at the trial's end, which is found faster.
+    fn mismatch_at_end(&self, left: &dyn Program, right: &dyn Program) -> Option<Mismatch>;
 }
 
 impl<T: Trial> Comparison for T {
     fn calls(&self) -> usize {
-        self.steps()
+        Trial::calls(self)
     }
 
     fn answers(&self, program: &dyn Program) -> Vec<String> {
@@ -53,19 +69,23 @@ impl<T: Trial> Comparison for T {
     }
 
     fn mismatch(&self, left: &dyn Program, right: &dyn Program) -> Option<Mismatch> {
-        self.difference(left, right)?;
-        let shortest = shrink(self, |trial| trial.difference(left, right).is_some());
+        let failing = self.up_to_difference(left, right)?;
+        let shortest = shrink(failing, |trial| trial.difference(left, right).is_some());
         let difference = shortest.difference(left, right)?;
         let mut report = format!("{} and {} differ\n", left.name(), right.name());
         write!(report, "{}{difference}", shortest.shown()).expect("a string takes all");
         Some(Mismatch { steps: shortest.steps(), report })
     }
+
+    fn mismatch_at_end(&self, left: &dyn Program, right: &dyn Program) -> Option<Mismatch> {
+        self.without(0..0).mismatch(left, right)
+    }
 }
 
 /// Leaves out steps as long as the trial fails: runs of steps, ever shorter, until no single
 /// step can be left out.
-fn shrink<T: Trial>(trial: &T, fails: impl Fn(&T) -> bool) -> T {
-    let mut shortest = trial.without(0..0);
+fn shrink<T: Trial>(trial: T, fails: impl Fn(&T) -> bool) -> T {
+    let mut shortest = trial;
     let mut run = shortest.steps().div_ceil(2);
     loop {
         let before = shortest.steps();
@@ -92,13 +112,26 @@ pub fn without<T: Clone>(list: &[T], gone: Range<usize>) -> Vec<T> {
     [&list[..gone.start], &list[gone.end..]].concat()
 }
 
-/// A buffer that something was in before: each byte differs from its neighbours.
+/// A buffer that something was in before: random bytes, and lines of another log.
 pub fn used_buffer(length: usize) -> Vec<u8> {
-    static BYTES: LazyLock<Vec<u8>> =
-        LazyLock::new(|| (0usize..100_000).map(|at| (at * 37 + at / 256 + 11) as u8).collect());
+    static BYTES: LazyLock<Vec<u8>> = LazyLock::new(|| {
+        let mut random = Random::new(5);
+        let mut bytes = Vec::new();
+        while bytes.len() < 100_000 {
+            let strange = random.between(1, 100);
+            bytes.extend((0..strange).map(|_| random.number() as u8));
+            bytes.extend(b"\n(did 5 (inc 0 1 1 513)(not 1 0 1 0))\n");
+        }
+        bytes
+    });
     let mut buffer = BYTES.repeat(length / BYTES.len());
     buffer.extend_from_slice(&BYTES[..length % BYTES.len()]);
     buffer
+}
+
+/// The lines of some bytes, each with its end but perhaps the last.
+fn lines_of(bytes: &[u8]) -> Vec<Vec<u8>> {
+    bytes.split_inclusive(|&byte| byte == b'\n').map(<[u8]>::to_vec).collect()
 }
 
 /// Lines of bytes, each as text behind a margin.
@@ -111,8 +144,8 @@ pub fn shown_lines<'l>(lines: impl Iterator<Item = &'l Vec<u8>>) -> String {
 pub struct SessionTrial {
     pub pieces: Vec<Vec<u8>>,
     pub room: usize,
-    /// Compared after every line also while it is long.
-    pub closely: bool,
+    /// How many lines come before it is compared after every line.
+    pub unwatched: usize,
 }
 
 /// What a session leaves behind.
@@ -127,7 +160,7 @@ impl Played {
     /// Runs a session with room enough for its replies.
     pub fn by(program: &dyn Program, pieces: &[Vec<u8>], room: usize) -> Played {
         let mut log = used_buffer(room);
-        let mut out = used_buffer(100 + 200 * pieces.len());
+        let mut out = used_buffer(200 * pieces.len() + SPARE);
         let length = program.session(&pieces.concat(), &mut log, &mut out);
         Played { length, out, log }
     }
@@ -137,17 +170,22 @@ impl Played {
         replies.split_inclusive(|&byte| byte == b'\n').map(as_text).collect()
     }
 
-    /// How this differs from what another program left behind.
-    fn difference(&self, other: &Played) -> String {
+    /// How this differs from what another program left behind. Replies that do not fit are
+    /// a difference too: there is always room for them.
+    fn difference(&self, other: &Played) -> Option<String> {
+        if self == other && self.length.is_some() {
+            return None;
+        }
         let (left, right) = (self.replies(), other.replies());
         if let Some(at) = first_difference(&left, &right) {
             let reply = |replies: &[String]| replies.get(at).cloned().unwrap_or("none".to_string());
-            return format!("reply {} is {}, or {}\n", at + 1, reply(&left), reply(&right));
+            return Some(format!("reply {} is {}, or {}\n", at + 1, reply(&left), reply(&right)));
         }
-        match first_difference(&self.log, &other.log) {
+        Some(match first_difference(&self.log, &other.log) {
             Some(at) => format!("byte {at} of the log buffer differs\n"),
+            None if self.length.is_none() => "there is no room for the replies\n".to_string(),
             None => "the reply buffer differs behind the replies\n".to_string(),
-        }
+        })
     }
 }
 
@@ -158,14 +196,36 @@ fn as_text(reply: &[u8]) -> String {
 
 /// Where two lists first differ.
 pub fn first_difference<T: PartialEq>(left: &[T], right: &[T]) -> Option<usize> {
+    if left == right {
+        return None;
+    }
     let longest = left.len().max(right.len());
     (0..longest).find(|&at| left.get(at) != right.get(at))
 }
 
 impl SessionTrial {
     pub fn new(pieces: Vec<Vec<u8>>, room: usize) -> SessionTrial {
-        let closely = pieces.len() <= SHORT;
-        SessionTrial { pieces, room, closely }
+        let unwatched = if pieces.len() > SHORT { pieces.len() - 1 } else { 0 };
+        SessionTrial { pieces, room, unwatched }
+    }
+
+    /// The trial compared at its end only.
+    fn at_end(pieces: Vec<Vec<u8>>, room: usize) -> SessionTrial {
+        let unwatched = pieces.len().saturating_sub(1);
+        SessionTrial { pieces, room, unwatched }
+    }
+
+    /// How many lines it is compared after.
+    pub fn watched(&self) -> usize {
+        self.pieces.len() - self.unwatched
+    }
+
+    /// After how many lines the programs differ, and how.
+    fn first_difference(&self, left: &dyn Program, right: &dyn Program) -> Option<(usize, String)> {
+        (self.unwatched + 1..=self.pieces.len()).find_map(|length| {
+            let played = |program| Played::by(program, &self.pieces[..length], self.room);
+            Some((length, played(left).difference(&played(right))?))
+        })
     }
 }
 
@@ -175,9 +235,7 @@ impl Trial for SessionTrial {
     }
 
     fn without(&self, steps: Range<usize>) -> SessionTrial {
-        let pieces = without(&self.pieces, steps);
-        let closely = self.closely || pieces.len() <= SHORT;
-        SessionTrial { pieces, room: self.room, closely }
+        SessionTrial::at_end(without(&self.pieces, steps), self.room)
     }
 
     fn shown(&self) -> String {
@@ -190,13 +248,12 @@ impl Trial for SessionTrial {
     }
 
     fn difference(&self, left: &dyn Program, right: &dyn Program) -> Option<String> {
-        let whole = self.pieces.len();
-        let first = if self.closely { 0 } else { whole };
-        (first..=whole).find_map(|length| {
-            let played = |program| Played::by(program, &self.pieces[..length], self.room);
-            let (left, right) = (played(left), played(right));
-            (left != right).then(|| left.difference(&right))
-        })
+        self.first_difference(left, right).map(|found| found.1)
+    }
+
+    fn up_to_difference(&self, left: &dyn Program, right: &dyn Program) -> Option<SessionTrial> {
+        let length = self.first_difference(left, right)?.0;
+        Some(SessionTrial::at_end(self.pieces[..length].to_vec(), self.room))
     }
 }
 
@@ -212,11 +269,7 @@ pub struct RestartTrial {
 }
 
 impl RestartTrial {
-    fn lines(&self) -> Vec<Vec<u8>> {
-        self.kept.split_inclusive(|&byte| byte == b'\n').map(<[u8]>::to_vec).collect()
-    }
-
-    fn reply(&self, program: &dyn Program) -> (usize, Vec<u8>) {
+    fn reply(&self, program: &dyn Program) -> (Option<usize>, Vec<u8>) {
         let log = [self.kept.as_slice(), &self.rest].concat();
         let mut out = used_buffer(64);
         let length = program.restart(&log, self.kept.len() + self.above, &mut out);
@@ -226,28 +279,33 @@ impl RestartTrial {
 
 impl Trial for RestartTrial {
     fn steps(&self) -> usize {
-        self.lines().len()
+        lines_of(&self.kept).len()
     }
 
     fn without(&self, steps: Range<usize>) -> RestartTrial {
-        let kept = without(&self.lines(), steps).concat();
+        let kept = without(&lines_of(&self.kept), steps).concat();
         RestartTrial { kept, rest: self.rest.clone(), above: self.above }
     }
 
     fn shown(&self) -> String {
-        let lines = shown_lines(self.lines().iter());
+        let lines = shown_lines(lines_of(&self.kept).iter());
         let (rest, above) = (self.rest.len(), self.above);
         format!("restart, {rest} bytes behind, {above} bytes above:\n{lines}")
     }
 
+    fn calls(&self) -> usize {
+        1
+    }
+
     fn replies(&self, program: &dyn Program) -> Vec<String> {
         let (length, out) = self.reply(program);
-        vec![format!("restart {}", as_text(&out[..length.min(out.len())]))]
+        vec![format!("restart {}", as_text(&out[..length.unwrap_or(0).min(out.len())]))]
     }
 
     fn difference(&self, left: &dyn Program, right: &dyn Program) -> Option<String> {
+        let reply = self.reply(left);
+        let differ = reply != self.reply(right) || reply.0.is_none();
         let replies = (self.replies(left), self.replies(right));
-        let differ = self.reply(left) != self.reply(right);
         differ.then(|| format!("the replies are {replies:?}\n"))
     }
 }
@@ -273,8 +331,21 @@ impl KeeperCall {
 /// Calls of one keeper with a buffer of some length.
 #[derive(Clone)]
 pub struct KeeperTrial {
+    /// The bytes that are said to be in use before the calls, perhaps more than the buffer's.
+    pub start: Vec<u8>,
     pub calls: Vec<KeeperCall>,
     pub room: usize,
+}
+
+impl KeeperTrial {
+    /// The keeper of a program before the calls.
+    pub fn kept<'p>(&self, program: &'p dyn Program) -> Kept<'p> {
+        let mut kept = Kept::new(program, self.room);
+        let length = self.start.len().min(self.room);
+        kept.buffer[..length].copy_from_slice(&self.start[..length]);
+        kept.used = self.start.len();
+        kept
+    }
 }
 
 /// A keeper of one program with its buffer.
@@ -308,16 +379,23 @@ impl<'p> Kept<'p> {
 }
 
 impl Trial for KeeperTrial {
+    /// The calls, then the lines that are there before them.
     fn steps(&self) -> usize {
-        self.calls.len()
+        self.calls.len() + lines_of(&self.start).len()
     }
 
     fn without(&self, steps: Range<usize>) -> KeeperTrial {
-        KeeperTrial { calls: without(&self.calls, steps), room: self.room }
+        let calls = self.calls.len();
+        let part = |from: usize, to: usize| steps.start.clamp(from, to)..steps.end.clamp(from, to);
+        let (from_calls, lines) = (part(0, calls), part(calls, self.steps()));
+        let start =
+            without(&lines_of(&self.start), lines.start - calls..lines.end - calls).concat();
+        KeeperTrial { start, calls: without(&self.calls, from_calls), room: self.room }
     }
 
     fn shown(&self) -> String {
         let mut shown = format!("keeper with a buffer of {} bytes:\n", self.room);
+        shown.push_str(&shown_lines(lines_of(&self.start).iter()));
         for call in &self.calls {
             let line = match call {
                 KeeperCall::Keep(line) => format!("    keep {}\n", line.escape_ascii()),
@@ -328,8 +406,12 @@ impl Trial for KeeperTrial {
         shown
     }
 
+    fn calls(&self) -> usize {
+        self.calls.len()
+    }
+
     fn replies(&self, program: &dyn Program) -> Vec<String> {
-        let mut kept = Kept::new(program, self.room);
+        let mut kept = self.kept(program);
         let reply = |call| match kept.call(call).0 {
             Ok(_) => format!("{} ok", call.word()),
             Err(number) => format!("{} refused {number}", call.word()),
@@ -338,7 +420,7 @@ impl Trial for KeeperTrial {
     }
 
     fn difference(&self, left: &dyn Program, right: &dyn Program) -> Option<String> {
-        let (mut left, mut right) = (Kept::new(left, self.room), Kept::new(right, self.room));
+        let (mut left, mut right) = (self.kept(left), self.kept(right));
         self.calls.iter().enumerate().find_map(|(at, call)| {
             let ((first, out), (second, other_out)) = (left.call(call), right.call(call));
             let what = if first != second {
