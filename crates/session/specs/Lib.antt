@@ -2,7 +2,6 @@ pub mod Model
 pub mod TurnLaws
 pub mod Feeding
 pub mod FeedingLaws
-pub mod BegunLaws
 pub mod OpenLaws
 pub mod ReadLaws
 pub mod AnswerLaws

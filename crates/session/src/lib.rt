@@ -1,7 +1,7 @@
 // A session: one form a line in, one reply a line out, over a site whose log stands in a lent buffer.
 ghost use mathlib.Core.Path.{_≡_};
 ghost use Prim.Native.Nat.{ℕ};
-ghost use mathlib.Core.List.{List, [], _∷_, _++_};
+ghost use mathlib.Core.List.{List, []};
 ghost use lib.Dec.{T};
 ghost use lib.ListN.{length};
 ghost use Rattle.forms.specs.Lists.{all};
@@ -12,7 +12,7 @@ ghost use Rattle.forms.specs.Held.{heldUpdates, heldDid};
 ghost use Rattle.rules.specs.Calls.{Call, writableUpdate};
 ghost use Rattle.rules.specs.Session.{calling, opening, turn};
 ghost use Rattle.session.specs.Model.{sessionView, ValidSession, turnedOf, Refuses, Turns, obeyed, Starts, Answers};
-ghost use Rattle.session.specs.Feeding.{UsableBegun, Begins};
+ghost use Rattle.session.specs.Feeding.{Begins};
 use forms::AskedHeld;
 use forms::DidLine;
 use forms::Refusal;
@@ -59,28 +59,6 @@ pub fn no_line() -> Begun
         bytes: [0; 1024],
         len: 0,
         over: false,
-    }
-}
-
-// One byte more, which ends no line.
-pub fn with_byte(b: Begun, x: u8) -> Begun
-    requires { ⌜ UsableBegun b ⌝ }
-    ensures { λ r. ⌜ ((line : List ℕ) → Begins b line → Begins r (line ++ (x ∷ []))) ⌝ }
-{
-    let n = b.len;
-    let mut bytes = b.bytes;
-    if n < 1024 {
-        bytes[n] = x;
-        return Begun {
-            bytes,
-            len: n + 1,
-            over: b.over,
-        };
-    }
-    Begun {
-        bytes,
-        len: n,
-        over: true,
     }
 }
 

@@ -2,13 +2,13 @@
 use Prim.Native.Nat.{ℕ, _+_, _-_, _≤_, _<_}
 use native.Mathlib.Omega.{arith}
 use mathlib.Core.Path.{_≡_, refl, sym, ap, ap₂, subst, _∙_}
-use mathlib.Core.List.{List, [], _∷_, _++_}
+use mathlib.Core.List.{List, [], _∷_, _++_, append-nil}
 use lib.ListN.{length, take, drop, take-append-drop, length-drop}
 use lib.Seq.{take-all, take-length}
 use Rattle.forms.specs.Forms.{Outcome, outcomeText}
 use Rattle.forms.specs.Held.{outcomeOf}
-use Rattle.rules.specs.Log.{ended}
-use Rattle.rules.specs.LineSplitLaws.{NoEnd}
+use Rattle.rules.specs.Log.{ended, linesFrom, restFrom}
+use Rattle.rules.specs.LineSplitLaws.{NoEnd, lines-append, lines-from-open, rest-from-open}
 use Rattle.rules.specs.Session.{Turn, turn}
 use Rattle.journal.specs.Model.{EndAt}
 use Rattle.journal.specs.LineLaws.{take-line}
@@ -23,8 +23,17 @@ use Rattle.session.specs.FeedingLaws.{fed-append, fed-none}
 use Rattle.stream.specs.declared.Stream.{Stream}
 use Rattle.stream.specs.declared.Fed.{Fed}
 use Rattle.stream.specs.Model.{ValidStream, standing, Comes, Feeds}
+use Rattle.stream.specs.Logging.{overlaid, logged}
+use Rattle.stream.specs.LoggingLaws.{turn-logs, logged-append}
 use Rattle.stream.specs.LineLaws.{some-line, usable}
 use Rattle.stream.specs.ProgressLaws.{opened, fed-open, answered, fed-line, fronts-none, fronts-fits, fronts-more}
+
+-- A begun line that ends.
+line-ended : (line part : List ℕ) → NoEnd part → linesFrom line (ended part) ≡ (line ++ part) ∷ []
+unfolding ended linesFrom
+line-ended line part h =
+    lines-append line part (10 ∷ [])
+    ∙ ap₂ (λ (ls : List (List ℕ)) (l : List ℕ). ls ++ linesFrom l (10 ∷ [])) (lines-from-open line part h) (rest-from-open line part h)
 
 -- The stream s has been fed the first bytes of the chunk.
 pub record Along (s : Stream) (old chunk : List ℕ) (r : Fed) (new out page : List ℕ) : Type 0 where
@@ -33,10 +42,12 @@ pub record Along (s : Stream) (old chunk : List ℕ) (r : Fed) (new out page : L
   pub long : length page ≡ length out
   pub before : ValidStream s old
   pub valid : ValidStream (r .stream) new
+  pub log : (line : List ℕ) → Begins (s .begun) line → new ≡ logged (length old) (linesFrom line (take (r .used) chunk)) (sessionView (s .session) old) old
   pub does : (line : List ℕ) → Begins (s .begun) line →
       Comes (fed (length old) (take (r .used) chunk) (standing s line old)) (r .stream) new out page (r .written)
 
 pub along-start : (s : Stream) (old chunk out : List ℕ) → ValidStream s old → Along s old chunk (record { stream = s; used = 0; written = 0 }) old out out
+unfolding logged linesFrom
 along-start s old chunk out v =
     record {
       within = omega arith;
@@ -44,6 +55,7 @@ along-start s old chunk out v =
       long = refl;
       before = v;
       valid = v;
+      log = λ line h. refl;
       does = λ line h.
           subst (λ (g : Progress). Comes g s old out out 0) (sym (fed-none (length old) (standing s line old)))
           (record { begun = h; session = refl; replies = fronts-none out });
@@ -64,6 +76,7 @@ module _ (s : Stream) (old chunk : List ℕ) (r : Fed) (new out page : List ℕ)
         fits = along-fits;
         room = a .room;
         valid = a .valid;
+        log = a .log;
         does = a .does;
       }
 
@@ -78,6 +91,7 @@ module _ (s : Stream) (old chunk : List ℕ) (r : Fed) (new out page : List ℕ)
         long = a .long;
         before = a .before;
         valid = record { session = a .valid .session; begun = held };
+        log = λ line begins. a .log line begins ∙ ap (λ (ls : List (List ℕ)). logged (length old) ls (sessionView (s .session) old) old) (sym (same-lines line));
         does = λ line begins.
             let x = a .does line begins in
             subst (λ (g : Progress). Comes g (record { session = r .stream .session; begun = b }) new out page (r .written)) (sym (is line))
@@ -88,6 +102,13 @@ module _ (s : Stream) (old chunk : List ℕ) (r : Fed) (new out page : List ℕ)
       keeps line k =
           subst (λ (l : List ℕ). Begins b (line ++ l))
           (take-all (length chunk - r .used) (drop (r .used) chunk) (let d = length-drop (r .used) chunk in omega (arith, d))) (w line k)
+
+      same-lines : (line : List ℕ) → linesFrom line (take (length chunk) chunk) ≡ linesFrom line (take (r .used) chunk)
+      same-lines line =
+          ap (λ (l : List ℕ). linesFrom line l) (take-length chunk ∙ sym (take-append-drop (r .used) chunk))
+          ∙ lines-append line (take (r .used) chunk) (drop (r .used) chunk)
+          ∙ ap (λ (ls : List (List ℕ)). linesFrom line (take (r .used) chunk) ++ ls) (lines-from-open (restFrom line (take (r .used) chunk)) (drop (r .used) chunk) h)
+          ∙ append-nil (linesFrom line (take (r .used) chunk))
 
       held : UsableBegun b
       held =
@@ -115,6 +136,7 @@ module _ (s : Stream) (old chunk : List ℕ) (r : Fed) (new out page : List ℕ)
     pub along-line : (b : Begun) (n : ℕ) (next : List ℕ) → length after ≡ length new → length next ≡ length page → Begins b [] →
         Wrote page (r .written) (ended (outcomeText (outcomeOf (t .reply)))) n next →
         Along s old chunk (record { stream = record { session = t .session; begun = b }; used = e + 1; written = n }) after out next
+    unfolding logged fed
     along-line b n next same long none w =
         record {
           within = omega (arith, ends .before);
@@ -122,6 +144,7 @@ module _ (s : Stream) (old chunk : List ℕ) (r : Fed) (new out page : List ℕ)
           long = long ∙ a .long;
           before = a .before;
           valid = record { session = let l = some-line (r .stream .begun) (a .valid .begun) in turns (l .line) (l .begins) .valid; begun = usable b [] none };
+          log = λ line begins. logs line begins;
           does = λ line begins. subst (λ (g : Progress). Comes g (record { session = t .session; begun = b }) after out next n) (sym (is line)) (comes line begins);
         }
       where
@@ -134,19 +157,34 @@ module _ (s : Stream) (old chunk : List ℕ) (r : Fed) (new out page : List ℕ)
             ∙ sym (fed-append (length old) (take (r .used) chunk) (ended part) (standing s line old))
             ∙ fed-line (length old) part (soFar line) (ends .unended)
 
+        more-lines : (line : List ℕ) → linesFrom line (take (e + 1) chunk) ≡ linesFrom line (take (r .used) chunk) ++ ((soFar line .begun ++ part) ∷ [])
+        more-lines line =
+            ap (λ (l : List ℕ). linesFrom line l) (take-line chunk (r .used) e ends)
+            ∙ lines-append line (take (r .used) chunk) (ended part)
+            ∙ ap (λ (ls : List (List ℕ)). linesFrom line (take (r .used) chunk) ++ ls) (line-ended (restFrom line (take (r .used) chunk)) part (ends .unended))
+
+        -- the line's turn, as the rule book has it
+        same-turn : (line : List ℕ) → Begins (s .begun) line →
+            turn (length new) (soFar line .begun ++ part) (sessionView (r .stream .session) new) ≡ turn (length old) (soFar line .begun ++ part) (soFar line .session)
+        same-turn line begins = ap₂ (λ (k : ℕ) v. turn k (soFar line .begun ++ part) v) (a .room) (a .does line begins .session)
+
+        logs : (line : List ℕ) → Begins (s .begun) line → after ≡ logged (length old) (linesFrom line (take (e + 1) chunk)) (sessionView (s .session) old) old
+        logs line begins =
+            turn-logs (r .stream .session) new _ t after (a .valid .session) (turns (soFar line .begun) (a .does line begins .begun))
+            ∙ ap₂ (λ (y : Turn) (l : List ℕ). overlaid (y .after) l) (same-turn line begins) (a .log line begins)
+            ∙ sym (logged-append (length old) (linesFrom line (take (r .used) chunk)) ((soFar line .begun ++ part) ∷ []) (sessionView (s .session) old) old)
+            ∙ ap (λ (ls : List (List ℕ)). logged (length old) ls (sessionView (s .session) old) old) (sym (more-lines line))
+
         comes : (line : List ℕ) → Begins (s .begun) line → Comes (answered (length old) part (soFar line)) (record { session = t .session; begun = b }) after out next n
         comes line begins =
             record {
               begun = none;
-              session = x .after ∙ ap (λ (y : Turn). y .after) same-turn;
+              session = x .after ∙ ap (λ (y : Turn). y .after) (same-turn line begins);
               replies =
                   fronts-more (soFar line .replied) out page (r .written) (ended (outcomeText (turn (length old) (soFar line .begun ++ part) (soFar line .session) .reply))) n next
                   (a .does line begins .replies)
-                  (subst (λ (o : Outcome). Wrote page (r .written) (ended (outcomeText o)) n next) (x .answer .outcome ∙ ap (λ (y : Turn). y .reply) same-turn) w);
+                  (subst (λ (o : Outcome). Wrote page (r .written) (ended (outcomeText o)) n next) (x .answer .outcome ∙ ap (λ (y : Turn). y .reply) (same-turn line begins)) w);
             }
           where
             x : Turns (r .stream .session) new (turn (length new) (soFar line .begun ++ part) (sessionView (r .stream .session) new)) t after
             x = turns (soFar line .begun) (a .does line begins .begun)
-
-            same-turn : turn (length new) (soFar line .begun ++ part) (sessionView (r .stream .session) new) ≡ turn (length old) (soFar line .begun ++ part) (soFar line .session)
-            same-turn = ap₂ (λ (k : ℕ) v. turn k (soFar line .begun ++ part) v) (a .room) (a .does line begins .session)

@@ -1,5 +1,7 @@
+pub mod Logging
 pub mod Model
 pub mod LineLaws
+pub mod LoggingLaws
 pub mod ProgressLaws
 pub mod FeedLaws
 pub mod RunLaws

@@ -3,12 +3,15 @@ use Prim.Native.Nat.{ℕ, _+_, _-_, _≤_, _<_}
 use mathlib.Core.Path.{_≡_}
 use mathlib.Core.Bool.{Bool, true, false}
 use mathlib.Core.List.{List, [], _∷_, _++_}
+use mathlib.Core.Option.{none}
 use lib.ListN.{length, take, drop}
+use Rattle.rules.specs.Log.{linesFrom, linesOf}
 use Rattle.rules.specs.LineSplitLaws.{NoEnd}
 use Rattle.rules.specs.Session.{sessionIn}
 use Rattle.journal.specs.Model.{EndAt}
 use Rattle.session.specs.Model.{sessionView, ValidSession}
 use Rattle.session.specs.Feeding.{Progress, atStart, fed, UsableBegun, Begins}
+use Rattle.stream.specs.Logging.{logged}
 use Rattle.stream.specs.declared.End.{End}
 use Rattle.stream.specs.declared.Stream.{Stream}
 use Rattle.stream.specs.declared.Fed.{Fed}
@@ -57,6 +60,8 @@ pub record Feeds (s : Stream) (old chunk : List ℕ) (r : Fed) (new out page : L
   pub fits : r .written ≤ length out
   pub room : length new ≡ length old
   pub valid : ValidStream (r .stream) new
+  -- the log buffer, to its last byte
+  pub log : (line : List ℕ) → Begins (s .begun) line → new ≡ logged (length old) (linesFrom line (take (r .used) chunk)) (sessionView (s .session) old) old
   pub does : (line : List ℕ) → Begins (s .begun) line →
       Comes (fed (length old) (take (r .used) chunk) (standing s line old)) (r .stream) new out page (r .written)
 
@@ -82,4 +87,6 @@ pub record Runs (input old : List ℕ) (r : Ran) (new out page : List ℕ) : Typ
   pub room : length new ≡ length old
   pub valid : ValidStream (r .stream) new
   pub session : sessionView (r .stream .session) new ≡ fed (length old) (take (r .used) input) atStart .session
+  -- the log buffer, to its last byte
+  pub log : new ≡ logged (length old) (linesOf (take (r .used) input)) none old
   pub replies : RunsIf (r .whole) input old r out page

@@ -5,6 +5,7 @@ use native.Mathlib.Nat.{add-zero}
 use mathlib.Core.Path.{_≡_, refl, sym, ap, subst, _∙_}
 use mathlib.Core.Bool.{Bool, true, false}
 use mathlib.Core.List.{List, [], _∷_, _++_}
+use mathlib.Core.Option.{none}
 use lib.Dec.{leb}
 use lib.ListN.{length, take, drop, length-append, take-append-drop}
 use lib.Seq.{take-all, length-take-le}
@@ -13,7 +14,7 @@ use Rattle.forms.specs.Forms.{Outcome, Refused, outcomeText}
 use Rattle.forms.specs.Held.{outcomeOf}
 use Rattle.forms.specs.declared.Refusal.the-variants.{Unreadable}
 use Rattle.forms.specs.declared.ReplyLine.{ReplyLine}
-use Rattle.rules.specs.Log.{ended}
+use Rattle.rules.specs.Log.{ended, linesOf}
 use Rattle.rules.specs.Session.{restReply, sessionIn}
 use Rattle.site.specs.Model.{Says, Printable}
 use Rattle.session.specs.declared.Begun.{Begun}
@@ -28,6 +29,7 @@ use Rattle.stream.specs.declared.Stream.{Stream}
 use Rattle.stream.specs.declared.Fed.{Fed}
 use Rattle.stream.specs.declared.Ran.{Ran}
 use Rattle.stream.specs.Model.{ValidStream, standing, StartsStream, Fronts, Comes, Feeds, RunsWhole, RunsPart, Runs}
+use Rattle.stream.specs.Logging.{logged}
 use Rattle.stream.specs.LineLaws.{some-line, usable, over-is, held-is}
 use Rattle.stream.specs.ProgressLaws.{replied-grows, session-is, fronts-more, fronts-as}
 
@@ -136,6 +138,10 @@ module _ (input old : List ℕ) (s : Stream) (f : Fed) (new out page : List ℕ)
   comes : Comes done (f .stream) new out page (f .written)
   comes = subst (λ (g : Progress). Comes (fed (length old) (take (f .used) input) g) (f .stream) new out page (f .written)) (starts .is) (feeds .does [] (starts .begun))
 
+  logs : new ≡ logged (length old) (linesOf (take (f .used) input)) none old
+  unfolding atStart
+  logs = feeds .log [] (starts .begun) ∙ ap (λ (g : Progress). logged (length old) (linesOf (take (f .used) input)) (g .session) old) (starts .is)
+
   grows : length (done .replied) ≤ length (fed (length old) input atStart .replied)
   grows =
       subst (λ (l : List ℕ). length (done .replied) ≤ length (fed (length old) l atStart .replied)) (take-append-drop (f .used) input)
@@ -159,6 +165,7 @@ module _ (input old : List ℕ) (s : Stream) (f : Fed) (new out page : List ℕ)
         room = feeds .room;
         valid = feeds .valid;
         session = comes .session;
+        log = logs;
         replies = record { within = feeds .within; short = omega (arith, k, g, h); replies = comes .replies };
       }
 
@@ -179,6 +186,7 @@ module _ (input old : List ℕ) (s : Stream) (f : Fed) (new out page : List ℕ)
           room = feeds .room;
           valid = feeds .valid;
           session = comes .session;
+          log = logs;
           replies = record {
             used = let w = feeds .within in omega (arith, w, all);
             replies =
@@ -200,6 +208,7 @@ module _ (input old : List ℕ) (s : Stream) (f : Fed) (new out page : List ℕ)
           room = feeds .room;
           valid = feeds .valid;
           session = comes .session;
+          log = logs;
           replies = record {
             within = feeds .within;
             short = omega (arith, k, h, z, long);

@@ -1,0 +1,50 @@
+-- What a turn leaves in the log buffer.
+use Prim.Native.Nat.{ℕ, _≤_}
+use native.Mathlib.Omega.{arith}
+use mathlib.Core.Path.{_≡_, refl, sym, ap, ap₂, subst, _∙_}
+use mathlib.Core.Bool.{Bool, true, false}
+use mathlib.Core.List.{List, [], _∷_, _++_}
+use mathlib.Core.Option.{Option, none, some}
+use lib.ListN.{length, take, drop, take-append-drop}
+use lib.Seq.{length-take-le}
+use Rattle.forms.specs.Forms.{Outcome, Refused, Accepted}
+use Rattle.rules.specs.State.{State, logBytes}
+use Rattle.rules.specs.Session.{Turn, turn, afterLines}
+use Rattle.site.specs.declared.Site.{Site}
+use Rattle.site.specs.Model.{view, Valid}
+use Rattle.session.specs.declared.Session.{Session}
+use Rattle.session.specs.declared.Turned.{Turned}
+use Rattle.session.specs.Model.{viewIf, sessionView, ValidSession, usedIf, Keeps, Turns}
+use Rattle.stream.specs.Logging.{overlaid, logged}
+
+-- A valid site's log stands at the front, and behind it are the bytes of a buffer that is the same from there on.
+over-site : (s : Site) (bytes other : List ℕ) → Valid s bytes → drop (s .used) bytes ≡ drop (s .used) other → bytes ≡ logBytes (view s bytes) ++ drop (length (logBytes (view s bytes))) other
+unfolding Valid
+over-site s bytes other v e =
+    sym (take-append-drop (s .used) bytes)
+    ∙ ap₂ (λ (a b : List ℕ). a ++ b) (v .carries .text) (e ∙ ap (λ (k : ℕ). drop k other) size)
+  where
+    size : s .used ≡ length (logBytes (view s bytes))
+    size = sym (length-take-le (s .used) bytes (v .carries .within)) ∙ ap length (v .carries .text)
+
+over-view : (o : Bool) (s : Site) (bytes other : List ℕ) → (o ≡ true → Valid s bytes) → drop (usedIf o s) bytes ≡ drop (usedIf o s) other →
+    bytes ≡ overlaid (viewIf o s bytes) other
+unfolding overlaid
+over-view true s bytes other v e = over-site s bytes other (v refl) e
+over-view false s bytes other v e = e
+
+-- The buffer after a turn.
+pub turn-logs : (s : Session) (old : List ℕ) (t : Turn) (r : Turned) (new : List ℕ) → ValidSession s old → Turns s old t r new → new ≡ overlaid (t .after) old
+turn-logs s old t r new v h = by-reply (t .reply) (h .keeps) ∙ ap (λ (x : Option State). overlaid x old) (h .after)
+  where
+    by-reply : (o : Outcome) → Keeps o s old r new → new ≡ overlaid (sessionView (r .session) new) old
+    by-reply (Refused q) k =
+        over-view (r .session .opened) (r .session .site) new old (h .valid .site) (ap (λ (l : List ℕ). drop (usedIf (r .session .opened) (r .session .site)) l) (k .bytes))
+    by-reply (Accepted a) k = over-view (r .session .opened) (r .session .site) new old (h .valid .site) (k .past)
+
+-- Lines in two parts.
+pub logged-append : (room : ℕ) (a b : List (List ℕ)) (s : Option State) (bytes : List ℕ) →
+    logged room (a ++ b) s bytes ≡ logged room b (afterLines room a s) (logged room a s bytes)
+unfolding logged afterLines
+logged-append room [] b s bytes = refl
+logged-append room (l ∷ a) b s bytes = logged-append room a b (turn room l s .after) (overlaid (turn room l s .after) bytes)
