@@ -4,3 +4,5 @@ pub mod RestartLaws
 pub mod ArrayLaws
 pub mod KeeperCalls
 pub mod KeeperCallLaws
+pub mod Rounds
+pub mod RoundsLaws

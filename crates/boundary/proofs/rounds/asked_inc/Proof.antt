@@ -1,0 +1,17 @@
+use mathlib.Core.List.{[], _∷_}
+use Rattle.forms.specs.Held.{asAsked}
+use Rattle.boundary.specs.Rounds.{incOf}
+use Rattle.boundary.specs.RoundsLaws.{held-one}
+use Rattle.boundary.proofs.rounds.asked_inc.Statement.{statement}
+use Rattle.boundary.proofs.rounds.asked_inc.Tie as tie
+use Rattle.boundary.proofs.rounds.asked_inc.Reads as reads
+use Rattle.boundary.proofs.rounds.asked_inc.Lts as lts
+
+-- src/rounds.rt:17:1
+returns : tie.Need-returns
+returns c =
+    let a = asAsked (incOf (c .args .history) (c .args .version)) in
+    held-one (c .args .history) (c .args .version) (a ∷ a ∷ a ∷ [])
+
+pub asked-inc-spec : {M : Type 1} → statement M
+asked-inc-spec = tie.close (tie.spec returns)

@@ -1,0 +1,49 @@
+use denote.Ref.{now}
+use Rattle.rules.specs.Calls.{Call}
+use Rattle.site.specs.Trim.{updatesHeld}
+use Rattle.boundary.specs.RoundsLaws.{call-reaches, two-reach, adds}
+use borrow.Author.Needs.{needs}
+use Rattle.boundary.proofs.rounds.one_operation.Statement.{statement}
+use Rattle.boundary.proofs.rounds.one_operation.Tie as tie
+use Rattle.boundary.proofs.rounds.one_operation.Reads as reads
+use Rattle.boundary.proofs.rounds.one_operation.Lts as lts
+use Rattle.boundary.proofs.rounds.asked_inc.Reads as asked-inc-reads
+use Rattle.site.proofs.Site.add.Reads as add-reads
+use Rattle.site.proofs.Site.finish.Reads as finish-reads
+
+-- src/rounds.rt:37:35
+add-asked-inc : tie.Need-add-asked-inc
+add-asked-inc c = search needs
+
+-- src/rounds.rt:37:9
+asked-inc-requires : tie.Need-asked-inc-requires
+asked-inc-requires c κs = search needs
+
+-- src/rounds.rt:38:9
+add-requires : tie.Need-add-requires
+add-requires c κs = search needs
+
+-- src/rounds.rt:40:9
+finish-requires : tie.Need-finish-requires
+finish-requires c κs =
+    let e = c .before .before .before .before .before .before in
+    call-reaches (e .args .site) (now (e .args .log)) (Call.Add (e .args .id) (updatesHeld (c .before .before .before .before .asked-inc .result))) (c .before .before .add .result) (now (e .args .log)) (e .pre)
+    (c .before .before .add .ensures) .valid
+
+-- src/rounds.rt:33:1
+same-length : tie.Need-same-length
+same-length c = search needs
+
+-- src/rounds.rt:33:1
+returns : tie.Need-returns
+returns c =
+    let e = c .before .before .before .before .before .before .before .before .before .before in
+    let asked = c .before .before .before .before .before .before .before .before .asked-inc in
+    let add = c .before .before .before .before .before .before .add in
+    two-reach (e .args .site) (now (e .args .log)) _ (add .result) (now (e .args .log)) (Call.Finish (e .args .id)) (c .before .before .before .finish .result) _ (e .pre)
+    (adds (e .args .site) (now (e .args .log)) (e .args .id) (updatesHeld (asked .result)) _ (add .result) (asked .ensures) (add .ensures)) (c .before .before .before .finish .ensures)
+
+pub one-operation-spec : {M : Type 1} → statement M
+one-operation-spec =
+    tie.close
+    (tie.spec add-asked-inc asked-inc-requires add-requires finish-requires same-length returns)

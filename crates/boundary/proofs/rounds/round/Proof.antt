@@ -1,0 +1,55 @@
+use Prim.Native.Nat.{_%_}
+use borrow.Author.Tests.{eq-eqb, ne-eqb}
+use denote.Ref.{now}
+use Rattle.boundary.specs.RoundsLaws.{marked-reach, unmarked-reach}
+use borrow.Author.Needs.{needs}
+use Rattle.boundary.proofs.rounds.round.Statement.{statement}
+use Rattle.boundary.proofs.rounds.round.Tie as tie
+use Rattle.boundary.proofs.rounds.round.Reads as reads
+use Rattle.boundary.proofs.rounds.round.Lts as lts
+use Rattle.boundary.proofs.rounds.one_operation.Reads as one-operation-reads
+use Rattle.boundary.proofs.rounds.mark.Reads as mark-reads
+
+-- src/rounds.rt:61:9
+one-operation-requires : tie.Need-one-operation-requires
+one-operation-requires c κs = search needs
+
+-- src/rounds.rt:63:34
+add-mark : tie.Need-add-mark
+add-mark c = search needs
+
+-- src/rounds.rt:63:9
+mark-requires : tie.Need-mark-requires
+mark-requires c κs = search needs
+
+-- src/rounds.rt:63:9
+same-length : tie.Need-same-length
+same-length c = search needs
+
+-- src/rounds.rt:63:9
+returns : tie.Need-returns
+returns c =
+    let e = c .before .before .before .before .before .before .before .before in
+    marked-reach (e .args .site) (now (e .args .log)) (e .args .id) (c .before .before .before .before .before .one-operation .result) _ (c .mark .result) _ (eq-eqb (e .args .id % 32) 31 (c .before .before .if1 .taken)) (c .before .before .before .before .before .one-operation .ensures) (c .mark .ensures)
+
+-- src/rounds.rt:56:1
+same-length-2 : tie.Need-same-length-2
+same-length-2 c = search needs
+
+-- src/rounds.rt:56:1
+returns-2 : tie.Need-returns-2
+returns-2 c =
+    let e = c .before .before .before .before .before .before in
+    unmarked-reach (e .args .site) (now (e .args .log)) (e .args .id) (c .before .before .before .one-operation .result) _ _ (ne-eqb (e .args .id % 32) 31 (c .if1 .left)) (c .before .before .before .one-operation .ensures)
+
+pub round-spec : {M : Type 1} → statement M
+round-spec =
+    tie.close
+    (tie.spec
+    one-operation-requires
+    add-mark
+    mark-requires
+    same-length
+    returns
+    same-length-2
+    returns-2)

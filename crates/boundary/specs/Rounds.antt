@@ -1,0 +1,49 @@
+-- Calls of a site one after the other, without text.
+use Prim.Native.Nat.{ℕ, zero, suc, _+_, _%_, _/_}
+use mathlib.Core.Path.{_≡_}
+use mathlib.Core.Bool.{Bool, true, false}
+use mathlib.Core.List.{List, [], _∷_, _++_}
+use lib.Dec.{eqb}
+use lib.ListN.{length, take, drop}
+use Rattle.forms.specs.Forms.{Update}
+use Rattle.forms.specs.declared.Rule.the-variants.{Inc}
+use Rattle.rules.specs.State.{State, Reply, refused, ok, logBytes}
+use Rattle.rules.specs.Calls.{Call}
+use Rattle.rules.specs.Run.{run}
+use Rattle.site.specs.declared.Site.{Site}
+use Rattle.site.specs.Model.{view, Valid}
+
+-- The calls cs take the site s, whose log buffer was `old`, to r, whose log buffer is `new`.
+pub record Reaches (s : Site) (old : List ℕ) (cs : List Call) (r : Site) (new : List ℕ) : Type 0 where
+  pub valid : Valid r new
+  pub state : view r new ≡ run cs (view s old)
+
+-- the update that an operation asks for: part 0 of a profile becomes 7
+abbrev pub incOf : ℕ → ℕ → Update
+incOf h v = record { rule = Inc; history = h; version = v; operand = 7 }
+
+-- An operation is added and finished.
+abbrev pub workCalls : ℕ → List Call
+workCalls i = Call.Add i (incOf (i % 4) (i / 4 + 1) ∷ []) ∷ Call.Finish i ∷ []
+
+-- All that is done is made persistent and stable.
+abbrev pub markCalls : ℕ → List Call
+markCalls n = Call.Persistent n ∷ Call.Stable n ∷ []
+
+abbrev pub markedIf : Bool → ℕ → List Call
+markedIf true i = markCalls (i + 1)
+markedIf false i = []
+
+-- The operation with the id i, and after every 32nd the marks.
+abbrev pub roundCalls : ℕ → List Call
+roundCalls i = workCalls i ++ markedIf (eqb (i % 32) 31) i
+
+-- The operations with the ids below n.
+unfoldable pub roundsCalls : ℕ → List Call
+roundsCalls zero = []
+roundsCalls (suc n) = roundsCalls n ++ roundCalls n
+
+-- What stands in a buffer after the rounds: the log of the state that the calls reach, and how many bytes it has. If the site is not opened: nothing, and 0.
+abbrev pub Rounds : Reply → ℕ → List ℕ → ℕ → List ℕ → Type 0
+Rounds (refused q) n old r new = (r ≡ 0) × (new ≡ old)
+Rounds (ok st a) n old r new = take r new ≡ logBytes (run (roundsCalls n) st)

@@ -1,0 +1,124 @@
+-- Calls of a site one after the other reach what the rule book's list of calls reaches.
+use Prim.Native.Nat.{ℕ, suc, _+_, _%_, _/_}
+use mathlib.Core.Path.{_≡_, refl, sym, ap, subst, _∙_}
+use mathlib.Core.Bool.{Bool, true, false}
+use mathlib.Core.List.{List, [], _∷_, _++_}
+use lib.Dec.{eqb}
+use lib.ListN.{length, take}
+use native.Mathlib.Omega.{arith}
+use Rattle.forms.specs.Forms.{Update}
+use Rattle.forms.specs.Held.{asAsked}
+use Rattle.forms.specs.declared.Asked.{Asked}
+use Rattle.rules.specs.State.{State, Reply, refused, ok, settle, logBytes}
+use Rattle.rules.specs.Calls.{Call, step}
+use Rattle.rules.specs.LogLaws.{histories-least}
+use Rattle.rules.specs.Run.{run}
+use Rattle.site.specs.declared.Site.{Site}
+use Rattle.site.specs.declared.Called.{Called}
+use Rattle.site.specs.Model.{view, Valid, Holds, Does}
+use Rattle.site.specs.OpenLaws.{blankSite}
+use Rattle.site.specs.Trim.{padded, updatesHeld}
+use Rattle.boundary.specs.Rounds.{Reaches, incOf, roundCalls, roundsCalls, markedIf, workCalls, Rounds}
+
+-- One call.
+pub call-reaches : (s : Site) (old : List ℕ) (c : Call) (r : Called) (new : List ℕ) → Valid s old → Does s old (step c (view s old)) r new →
+    Reaches s old (c ∷ []) (r .site) new
+unfolding run settle
+call-reaches s old c r new v d = go (step c (view s old)) refl d
+  where
+    go : (x : Reply) → step c (view s old) ≡ x → Does s old x r new → Reaches s old (c ∷ []) (r .site) new
+    go (refused q) e h =
+        record {
+          valid = subst (λ (b : List ℕ). Valid (r .site) b) (sym (h .bytes)) (subst (λ (x : Site). Valid x old) (sym (h .site)) v);
+          state = ap (λ (b : List ℕ). view (r .site) b) (h .bytes) ∙ ap (λ (x : Site). view x old) (h .site) ∙ sym (ap (λ (x : Reply). settle x (view s old)) e);
+        }
+    go (ok st a) e h = record { valid = h .valid; state = h .state ∙ sym (ap (λ (x : Reply). settle x (view s old)) e) }
+
+run-append : (cs ds : List Call) (st : State) → run (cs ++ ds) st ≡ run ds (run cs st)
+unfolding run
+run-append [] ds st = refl
+run-append (c ∷ cs) ds st = run-append cs ds (settle (step c st) st)
+
+-- Calls, and then others.
+pub reaches-then : (s : Site) (old : List ℕ) (cs : List Call) (r : Site) (mid : List ℕ) (ds : List Call) (t : Site) (new : List ℕ) →
+    Reaches s old cs r mid → Reaches r mid ds t new → Reaches s old (cs ++ ds) t new
+reaches-then s old cs r mid ds t new a b =
+    record {
+      valid = b .valid;
+      state = b .state ∙ ap (λ (st : State). run ds st) (a .state) ∙ sym (run-append cs ds (view s old));
+    }
+
+-- No call.
+pub reaches-none : (s : Site) (old : List ℕ) → Valid s old → Reaches s old [] s old
+unfolding run
+reaches-none s old v = record { valid = v; state = refl }
+
+-- A call, and then another.
+pub two-reach : (s : Site) (old : List ℕ) (c : Call) (r : Called) (mid : List ℕ) (d : Call) (t : Called) (new : List ℕ) → Valid s old →
+    Does s old (step c (view s old)) r mid → Does (r .site) mid (step d (view (r .site) mid)) t new → Reaches s old (c ∷ d ∷ []) (t .site) new
+two-reach s old c r mid d t new v a b =
+    let first = call-reaches s old c r mid v a in
+    reaches-then s old (c ∷ []) (r .site) mid (d ∷ []) (t .site) new first (call-reaches (r .site) mid d t new (first .valid) b)
+
+-- An add of these updates.
+pub adds : (s : Site) (old : List ℕ) (id : ℕ) (us vs : List Update) (r : Called) → us ≡ vs → Does s old (step (Call.Add id us) (view s old)) r old →
+    Does s old (step (Call.Add id vs) (view s old)) r old
+adds s old id us vs r e d = subst (λ (x : List Update). Does s old (step (Call.Add id x) (view s old)) r old) e d
+
+-- The marks after every 32nd operation.
+pub marked-reach : (s : Site) (old : List ℕ) (id : ℕ) (r : Site) (mid : List ℕ) (t : Site) (b : Bool) → b ≡ true →
+    Reaches s old (workCalls id) r mid → Reaches r mid (markedIf true id) t mid → Reaches s old (workCalls id ++ markedIf b id) t mid
+marked-reach s old id r mid t b e x y =
+    subst (λ (z : Bool). Reaches s old (workCalls id ++ markedIf z id) t mid) (sym e) (reaches-then s old (workCalls id) r mid (markedIf true id) t mid x y)
+
+pub unmarked-reach : (s : Site) (old : List ℕ) (id : ℕ) (r : Site) (mid : List ℕ) (b : Bool) → b ≡ false →
+    Reaches s old (workCalls id) r mid → Reaches s old (workCalls id ++ markedIf b id) r mid
+unmarked-reach s old id r mid b e x = subst (λ (z : Bool). Reaches s old (workCalls id ++ markedIf z id) r mid) (sym e) x
+
+-- One round more.
+pub round-more : (s : Site) (old : List ℕ) (n m : ℕ) (r : Site) (mid : List ℕ) (t : Site) (new : List ℕ) → m ≡ suc n →
+    Reaches s old (roundsCalls n) r mid → Reaches r mid (roundCalls n) t new → Reaches s old (roundsCalls m) t new
+unfolding roundsCalls
+round-more s old n m r mid t new e a b =
+    subst (λ (k : ℕ). Reaches s old (roundsCalls k) t new) (sym e) (reaches-then s old (roundsCalls n) r mid (roundCalls n) t new a b)
+
+-- No round yet.
+pub no-round : (s : Site) (old : List ℕ) → Valid s old → Reaches s old (roundsCalls 0) s old
+unfolding roundsCalls
+no-round s old v = reaches-none s old v
+
+-- ### Opened or not
+
+-- A valid site has histories.
+no-histories : (s : Site) (bytes : List ℕ) → Valid s bytes → s .count ≡ 0 → ⊥
+unfolding Valid
+no-histories s bytes v e = let least = histories-least (s .count) (v .good .histories) in omega arith
+
+-- Where no site was opened.
+pub not-opened : (reply : Reply) (n : ℕ) (old : List ℕ) (c : Called) (new : List ℕ) → Does blankSite old reply c new → c .site .count ≡ 0 → Rounds reply n old 0 new
+not-opened (refused q) n old c new d e = (refl, d .bytes)
+not-opened (ok st a) n old c new d e = absurd (no-histories (c .site) new (d .valid) e)
+
+-- An opened site is valid.
+pub opened-valid : (reply : Reply) (old : List ℕ) (c : Called) (new : List ℕ) → Does blankSite old reply c new → (c .site .count ≡ 0 → ⊥) → Valid (c .site) new
+opened-valid (refused q) old c new d e = absurd (e (ap (λ (s : Site). s .count) (d .site)))
+opened-valid (ok st a) old c new d e = d .valid
+
+-- What stands in the buffer after the rounds.
+pub rounds-stand : (reply : Reply) (n id : ℕ) (old : List ℕ) (c : Called) (mid : List ℕ) (t : Site) (new : List ℕ) → Does blankSite old reply c mid →
+    (c .site .count ≡ 0 → ⊥) → id ≡ n → Reaches (c .site) mid (roundsCalls id) t new → Rounds reply n old (t .used) new
+unfolding Valid
+rounds-stand (refused q) n id old c mid t new d e same r = absurd (e (ap (λ (s : Site). s .count) (d .site)))
+rounds-stand (ok st a) n id old c mid t new d e same r = stands
+  where
+    stands : take (t .used) new ≡ logBytes (run (roundsCalls n) st)
+    stands =
+        r .valid .carries .text ∙ ap (λ (x : State). logBytes x) (r .state ∙ ap (λ (x : State). run (roundsCalls id) x) (d .state))
+        ∙ ap (λ (i : ℕ). logBytes (run (roundsCalls i) st)) same
+
+-- ### What is asked
+
+-- One update is held of one that is counted.
+pub held-one : (h v : ℕ) → (xs : List Asked) → updatesHeld (record { count = 1; first = asAsked (incOf h v) ∷ xs }) ≡ incOf h v ∷ []
+unfolding padded
+held-one h v xs = refl

@@ -1,0 +1,84 @@
+// Calls of a site without text, one round after the other: for measuring what a call costs.
+ghost use mathlib.Core.Path.{_≡_};
+ghost use mathlib.Core.List.{[], _∷_};
+ghost use Prim.Native.Nat.{_<_};
+ghost use lib.ListN.{length};
+ghost use Rattle.rules.specs.Calls.{openSite};
+ghost use Rattle.site.specs.Model.{Valid};
+ghost use Rattle.site.specs.Trim.{updatesHeld};
+ghost use Rattle.boundary.specs.Rounds.{Reaches, incOf, workCalls, markCalls, roundCalls, Rounds};
+use forms::Asked;
+use forms::AskedHeld;
+use forms::Rule;
+use forms::Version;
+use site::Site;
+
+// One update: part 0 of a history's profile becomes 7.
+fn asked_inc(history: u64, version: u64) -> AskedHeld
+    ensures { λ r. ⌜ updatesHeld r ≡ (incOf history version ∷ []) ⌝ }
+{
+    let a = Asked {
+        rule: Rule::Inc,
+        history,
+        version: Version(version),
+        operand: 7,
+    };
+    AskedHeld {
+        count: 1,
+        first: [a; 4],
+    }
+}
+
+// An operation is added and finished.
+fn one_operation(site: Site, log: &mut [u8], id: u64) -> Site
+    requires { ⌜ Valid site (now log) ⌝ }
+    ensures { λ r. ⌜ Reaches site (now (log .entry)) (workCalls id) r (now (log .exit)) ⌝ }
+{
+    let asked = asked_inc(id % 4, id / 4 + 1);
+    let a = site.add(log, id, asked);
+    let added = a.site;
+    let f = added.finish(log, id);
+    f.site
+}
+
+// The first n operations become persistent and stable.
+fn mark(site: Site, log: &[u8], n: u64) -> Site
+    requires { ⌜ Valid site (now log) ⌝ }
+    ensures { λ r. ⌜ Reaches site (now (log .entry)) (markCalls n) r (now (log .entry)) ⌝ }
+{
+    let p = site.persistent(log, n);
+    let kept = p.site;
+    let s = kept.stable(log, n);
+    s.site
+}
+
+// The operation with this id, and after every 32nd the marks.
+fn round(site: Site, log: &mut [u8], id: u64) -> Site
+    requires { ⌜ Valid site (now log) ⌝ }
+    requires { ⌜ id < 18446744073709551615 ⌝ }
+    ensures { λ r. ⌜ Reaches site (now (log .entry)) (roundCalls id) r (now (log .exit)) ⌝ }
+{
+    let worked = one_operation(site, log, id);
+    if id % 32 == 31 {
+        return mark(worked, log, id + 1);
+    }
+    worked
+}
+
+// Opens a site of four histories, adds and finishes the operations with the ids below n, and gives the bytes of the log then in use.
+#[no_mangle]
+pub extern "C" fn site_add_and_finish(log: &mut [u8], n: u64) -> usize
+    ensures { λ r. ⌜ Rounds (openSite 4 (length (now (log .entry)))) n (now (log .entry)) r (now (log .exit)) ⌝ }
+{
+    let c = Site::open(log, 4);
+    let mut site = c.site;
+    if site.count == 0 {
+        return 0;
+    }
+    let mut id: u64 = 0;
+    while id < n {
+        site = round(site, log, id);
+        id += 1;
+    }
+    site.used
+}
