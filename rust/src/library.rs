@@ -49,7 +49,6 @@ mod linked {
             out_length: usize,
         ) -> u64;
 
-        #[cfg(feature = "site-calls")]
         pub fn site_add_and_finish(log: *mut u8, log_length: usize, operations: u64) -> usize;
     }
 }
@@ -87,7 +86,6 @@ impl Library {
 
     /// Opens a site of 4 histories and adds and finishes this many operations, without text.
     /// Gives the bytes of the log in use.
-    #[cfg(feature = "site-calls")]
     pub fn add_and_finish(&self, log: &mut [u8], operations: u64) -> usize {
         // SAFETY: see above.
         unsafe { linked::site_add_and_finish(log.as_mut_ptr(), log.len(), operations) }

@@ -186,7 +186,7 @@ fn site_calls() -> Figure {
     let mut log = vec![0; Site::LONGEST_LOG];
     let runs: Vec<Run> = vec![
         Box::new(move || finish_in_place(&mut log)),
-        #[cfg(feature = "site-calls")]
+        #[cfg(feature = "library")]
         {
             let mut log = vec![0; Site::LONGEST_LOG];
             Box::new(move || {
