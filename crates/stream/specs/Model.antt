@@ -6,21 +6,13 @@ use mathlib.Core.List.{List, [], _∷_, _++_}
 use mathlib.Core.Option.{none}
 use lib.ListN.{length, take, drop}
 use Rattle.rules.specs.Log.{linesFrom, linesOf}
-use Rattle.rules.specs.LineSplitLaws.{NoEnd}
 use Rattle.rules.specs.Session.{sessionIn}
-use Rattle.journal.specs.Model.{EndAt}
 use Rattle.session.specs.Model.{sessionView, ValidSession}
 use Rattle.session.specs.Feeding.{Progress, atStart, fed, UsableBegun, Begins}
 use Rattle.stream.specs.Logging.{logged}
-use Rattle.stream.specs.declared.End.{End}
 use Rattle.stream.specs.declared.Stream.{Stream}
 use Rattle.stream.specs.declared.Fed.{Fed}
 use Rattle.stream.specs.declared.Ran.{Ran}
-
--- where the next line ends
-abbrev pub Ends : List ℕ → ℕ → End → Type 0
-Ends s at (End.At e) = EndAt s at e
-Ends s at End.Nothing = NoEnd (drop at s)
 
 -- ### The stream
 

@@ -12,7 +12,7 @@ use Rattle.stream.proofs.Stream.feed.Tie as tie
 use Rattle.stream.proofs.Stream.feed.Reads as reads
 use Rattle.stream.proofs.Stream.feed.Lts as lts
 use Rattle.session.proofs.no_line.Reads as no-line-reads
-use Rattle.stream.proofs.find_end.Reads as find-end-reads
+use Rattle.journal.proofs.find_end.Reads as find-end-reads
 use Rattle.stream.proofs.put_reply.Reads as put-reply-reads
 use Rattle.stream.proofs.take_line.Reads as take-line-reads
 use Rattle.stream.proofs.with_bytes.Reads as with-bytes-reads
