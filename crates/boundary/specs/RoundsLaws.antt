@@ -13,6 +13,7 @@ use Rattle.rules.specs.State.{State, Reply, refused, ok, settle, logBytes}
 use Rattle.rules.specs.Calls.{Call, step}
 use Rattle.rules.specs.LogLaws.{histories-least}
 use Rattle.rules.specs.Run.{run}
+use Rattle.recovery.specs.Recovery.{run-append}
 use Rattle.site.specs.declared.Site.{Site}
 use Rattle.site.specs.declared.Called.{Called}
 use Rattle.site.specs.Model.{view, Valid, Holds, Does}
@@ -33,11 +34,6 @@ call-reaches s old c r new v d = go (step c (view s old)) refl d
           state = ap (λ (b : List ℕ). view (r .site) b) (h .bytes) ∙ ap (λ (x : Site). view x old) (h .site) ∙ sym (ap (λ (x : Reply). settle x (view s old)) e);
         }
     go (ok st a) e h = record { valid = h .valid; state = h .state ∙ sym (ap (λ (x : Reply). settle x (view s old)) e) }
-
-run-append : (cs ds : List Call) (st : State) → run (cs ++ ds) st ≡ run ds (run cs st)
-unfolding run
-run-append [] ds st = refl
-run-append (c ∷ cs) ds st = run-append cs ds (settle (step c st) st)
 
 -- Calls, and then others.
 pub reaches-then : (s : Site) (old : List ℕ) (cs : List Call) (r : Site) (mid : List ℕ) (ds : List Call) (t : Site) (new : List ℕ) →
