@@ -1,10 +1,9 @@
 -- Calls of a site one after the other reach what the rule book's list of calls reaches.
-use Prim.Native.Nat.{ℕ, suc, _+_, _%_, _/_}
+use Prim.Native.Nat.{ℕ, suc, _+_}
 use mathlib.Core.Path.{_≡_, refl, sym, ap, ap₂, subst, _∙_}
 use mathlib.Core.Bool.{Bool, true, false}
 use mathlib.Core.List.{List, [], _∷_, _++_}
 use mathlib.Core.Option.{some}
-use lib.Dec.{eqb}
 use lib.ListN.{length, drop}
 use lib.Seq.{length-take-le}
 use native.Mathlib.Omega.{arith}
@@ -18,7 +17,7 @@ use Rattle.rules.specs.Run.{run}
 use Rattle.recovery.specs.Recovery.{run-append}
 use Rattle.site.specs.declared.Site.{Site}
 use Rattle.site.specs.declared.Called.{Called}
-use Rattle.site.specs.Model.{view, Valid, Holds, Does}
+use Rattle.site.specs.Model.{view, Valid, Does}
 use Rattle.site.specs.OpenLaws.{blankSite}
 use Rattle.site.specs.Trim.{padded, updatesHeld}
 use Rattle.stream.specs.Logging.{overlaid}
