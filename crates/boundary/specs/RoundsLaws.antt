@@ -25,7 +25,8 @@ use Rattle.stream.specs.LoggingLaws.{over-site}
 use Rattle.boundary.specs.Rounds.{written, Reaches, incOf, roundCalls, roundsCalls, markedIf, workCalls, Rounds}
 
 -- A site whose state is st, over a buffer that is as `old` was behind the log.
-stands-over : (r : Site) (old new : List ℕ) (st : State) → Valid r new → view r new ≡ st → drop (r .used) new ≡ drop (r .used) old → new ≡ overlaid (some st) old
+stands-over : (r : Site) (old new : List ℕ) (st : State) → Valid r new → view r new ≡ st → drop (r .used) new ≡ drop (r .used) old
+    → new ≡ overlaid (some st) old
 unfolding overlaid
 stands-over r old new st v e past = over-site r new old v past ∙ ap (λ (x : State). overlaid (some x) old) e
 
@@ -38,8 +39,8 @@ call-reaches s old c r new v d = go (step c (view s old)) refl d
     settled : (x : Reply) → step c (view s old) ≡ x → settle x (view s old) ≡ settle (step c (view s old)) (view s old)
     settled x e = sym (ap (λ (y : Reply). settle y (view s old)) e)
 
-    reached : (st : State) → st ≡ settle (step c (view s old)) (view s old) → Valid (r .site) new → view (r .site) new ≡ st → drop (r .site .used) new ≡ drop (r .site .used) old
-        → Reaches s old (c ∷ []) (r .site) new
+    reached : (st : State) → st ≡ settle (step c (view s old)) (view s old) → Valid (r .site) new → view (r .site) new ≡ st
+        → drop (r .site .used) new ≡ drop (r .site .used) old → Reaches s old (c ∷ []) (r .site) new
     reached st e w same past = record { valid = w; state = same ∙ e; bytes = stands-over (r .site) old new _ w (same ∙ e) past }
 
     go : (x : Reply) → step c (view s old) ≡ x → Does s old x r new → Reaches s old (c ∷ []) (r .site) new
