@@ -1,6 +1,6 @@
 -- The reply of a restart, written.
 use Prim.Native.Nat.{ℕ}
-use mathlib.Core.Path.{_≡_, refl, ap, subst}
+use mathlib.Core.Path.{_≡_, subst}
 use mathlib.Core.List.{List}
 use mathlib.Core.Option.{none}
 use Rattle.forms.specs.Forms.{Outcome, outcomeText}

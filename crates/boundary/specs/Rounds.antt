@@ -3,20 +3,28 @@ use Prim.Native.Nat.{ℕ, zero, suc, _+_, _%_, _/_}
 use mathlib.Core.Path.{_≡_}
 use mathlib.Core.Bool.{Bool, true, false}
 use mathlib.Core.List.{List, [], _∷_, _++_}
+use mathlib.Core.Option.{some}
 use lib.Dec.{eqb}
-use lib.ListN.{length, take, drop}
+use lib.ListN.{length}
 use Rattle.forms.specs.Forms.{Update}
 use Rattle.forms.specs.declared.Rule.the-variants.{Inc}
-use Rattle.rules.specs.State.{State, Reply, refused, ok, logBytes}
-use Rattle.rules.specs.Calls.{Call}
+use Rattle.rules.specs.State.{State, Reply, refused, ok, settle, logBytes}
+use Rattle.rules.specs.Calls.{Call, step}
 use Rattle.rules.specs.Run.{run}
 use Rattle.site.specs.declared.Site.{Site}
 use Rattle.site.specs.Model.{view, Valid}
+use Rattle.stream.specs.Logging.{overlaid}
+
+-- The log buffer after some calls: after each, the log's text at the front, and behind it the bytes that stood there.
+unfoldable pub written : List Call → State → List ℕ → List ℕ
+written [] st bytes = bytes
+written (c ∷ cs) st bytes = written cs (settle (step c st) st) (overlaid (some (settle (step c st) st)) bytes)
 
 -- The calls cs take the site s, whose log buffer was `old`, to r, whose log buffer is `new`.
 pub record Reaches (s : Site) (old : List ℕ) (cs : List Call) (r : Site) (new : List ℕ) : Type 0 where
   pub valid : Valid r new
   pub state : view r new ≡ run cs (view s old)
+  pub bytes : new ≡ written cs (view s old) old
 
 -- the update that an operation asks for: part 0 of a profile becomes 7
 abbrev pub incOf : ℕ → ℕ → Update
@@ -43,7 +51,12 @@ unfoldable pub roundsCalls : ℕ → List Call
 roundsCalls zero = []
 roundsCalls (suc n) = roundsCalls n ++ roundCalls n
 
--- What stands in a buffer after the rounds: the log of the state that the calls reach, and how many bytes it has. If the site is not opened: nothing, and 0.
+-- What n rounds from the state st leave: how many bytes the log of the state that they reach has, and every byte of the buffer that was `old`.
+pub record RoundsFrom (st : State) (n : ℕ) (old : List ℕ) (r : ℕ) (new : List ℕ) : Type 0 where
+  pub used : r ≡ length (logBytes (run (roundsCalls n) st))
+  pub bytes : new ≡ written (roundsCalls n) st (overlaid (some st) old)
+
+-- The rounds over a buffer, from the reply to opening. If the site is not opened: nothing is written, and 0 bytes are in use.
 abbrev pub Rounds : Reply → ℕ → List ℕ → ℕ → List ℕ → Type 0
 Rounds (refused q) n old r new = (r ≡ 0) × (new ≡ old)
-Rounds (ok st a) n old r new = take r new ≡ logBytes (run (roundsCalls n) st)
+Rounds (ok st a) n old r new = RoundsFrom st n old r new

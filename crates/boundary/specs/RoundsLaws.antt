@@ -1,10 +1,11 @@
 -- Calls of a site one after the other reach what the rule book's list of calls reaches.
-use Prim.Native.Nat.{ℕ, suc, _+_, _%_, _/_}
-use mathlib.Core.Path.{_≡_, refl, sym, ap, subst, _∙_}
+use Prim.Native.Nat.{ℕ, suc, _+_}
+use mathlib.Core.Path.{_≡_, refl, sym, ap, ap₂, subst, _∙_}
 use mathlib.Core.Bool.{Bool, true, false}
 use mathlib.Core.List.{List, [], _∷_, _++_}
-use lib.Dec.{eqb}
-use lib.ListN.{length, take}
+use mathlib.Core.Option.{some}
+use lib.ListN.{length, drop}
+use lib.Seq.{length-take-le}
 use native.Mathlib.Omega.{arith}
 use Rattle.forms.specs.Forms.{Update}
 use Rattle.forms.specs.Held.{asAsked}
@@ -13,31 +14,47 @@ use Rattle.rules.specs.State.{State, Reply, refused, ok, settle, logBytes}
 use Rattle.rules.specs.Calls.{Call, step}
 use Rattle.rules.specs.LogLaws.{histories-least}
 use Rattle.rules.specs.Run.{run}
+use Rattle.recovery.specs.Recovery.{run-append}
 use Rattle.site.specs.declared.Site.{Site}
 use Rattle.site.specs.declared.Called.{Called}
-use Rattle.site.specs.Model.{view, Valid, Holds, Does}
+use Rattle.site.specs.Model.{view, Valid, Does}
 use Rattle.site.specs.OpenLaws.{blankSite}
 use Rattle.site.specs.Trim.{padded, updatesHeld}
-use Rattle.boundary.specs.Rounds.{Reaches, incOf, roundCalls, roundsCalls, markedIf, workCalls, Rounds}
+use Rattle.stream.specs.Logging.{overlaid}
+use Rattle.stream.specs.LoggingLaws.{over-site}
+use Rattle.boundary.specs.Rounds.{written, Reaches, incOf, roundCalls, roundsCalls, markedIf, workCalls, Rounds}
+
+-- A site whose state is st, over a buffer that is as `old` was behind the log.
+stands-over : (r : Site) (old new : List ℕ) (st : State) → Valid r new → view r new ≡ st → drop (r .used) new ≡ drop (r .used) old
+    → new ≡ overlaid (some st) old
+unfolding overlaid
+stands-over r old new st v e past = over-site r new old v past ∙ ap (λ (x : State). overlaid (some x) old) e
 
 -- One call.
 pub call-reaches : (s : Site) (old : List ℕ) (c : Call) (r : Called) (new : List ℕ) → Valid s old → Does s old (step c (view s old)) r new →
     Reaches s old (c ∷ []) (r .site) new
-unfolding run settle
+unfolding run settle written
 call-reaches s old c r new v d = go (step c (view s old)) refl d
   where
+    settled : (x : Reply) → step c (view s old) ≡ x → settle x (view s old) ≡ settle (step c (view s old)) (view s old)
+    settled x e = sym (ap (λ (y : Reply). settle y (view s old)) e)
+
+    reached : (st : State) → st ≡ settle (step c (view s old)) (view s old) → Valid (r .site) new → view (r .site) new ≡ st
+        → drop (r .site .used) new ≡ drop (r .site .used) old → Reaches s old (c ∷ []) (r .site) new
+    reached st e w same past = record { valid = w; state = same ∙ e; bytes = stands-over (r .site) old new _ w (same ∙ e) past }
+
     go : (x : Reply) → step c (view s old) ≡ x → Does s old x r new → Reaches s old (c ∷ []) (r .site) new
     go (refused q) e h =
-        record {
-          valid = subst (λ (b : List ℕ). Valid (r .site) b) (sym (h .bytes)) (subst (λ (x : Site). Valid x old) (sym (h .site)) v);
-          state = ap (λ (b : List ℕ). view (r .site) b) (h .bytes) ∙ ap (λ (x : Site). view x old) (h .site) ∙ sym (ap (λ (x : Reply). settle x (view s old)) e);
-        }
-    go (ok st a) e h = record { valid = h .valid; state = h .state ∙ sym (ap (λ (x : Reply). settle x (view s old)) e) }
+        reached (view s old) (settled (refused q) e)
+        (subst (λ (b : List ℕ). Valid (r .site) b) (sym (h .bytes)) (subst (λ (x : Site). Valid x old) (sym (h .site)) v))
+        (ap₂ (λ (x : Site) (b : List ℕ). view x b) (h .site) (h .bytes)) (ap (λ (b : List ℕ). drop (r .site .used) b) (h .bytes))
+    go (ok st a) e h = reached st (settled (ok st a) e) (h .valid) (h .state) (h .past)
 
-run-append : (cs ds : List Call) (st : State) → run (cs ++ ds) st ≡ run ds (run cs st)
-unfolding run
-run-append [] ds st = refl
-run-append (c ∷ cs) ds st = run-append cs ds (settle (step c st) st)
+-- The buffer after calls, and then others.
+written-append : (cs ds : List Call) (st : State) (bytes : List ℕ) → written (cs ++ ds) st bytes ≡ written ds (run cs st) (written cs st bytes)
+unfolding run written
+written-append [] ds st bytes = refl
+written-append (c ∷ cs) ds st bytes = written-append cs ds (settle (step c st) st) (overlaid (some (settle (step c st) st)) bytes)
 
 -- Calls, and then others.
 pub reaches-then : (s : Site) (old : List ℕ) (cs : List Call) (r : Site) (mid : List ℕ) (ds : List Call) (t : Site) (new : List ℕ) →
@@ -46,12 +63,13 @@ reaches-then s old cs r mid ds t new a b =
     record {
       valid = b .valid;
       state = b .state ∙ ap (λ (st : State). run ds st) (a .state) ∙ sym (run-append cs ds (view s old));
+      bytes = b .bytes ∙ ap₂ (λ (st : State) (l : List ℕ). written ds st l) (a .state) (a .bytes) ∙ sym (written-append cs ds (view s old) old);
     }
 
 -- No call.
 pub reaches-none : (s : Site) (old : List ℕ) → Valid s old → Reaches s old [] s old
-unfolding run
-reaches-none s old v = record { valid = v; state = refl }
+unfolding run written
+reaches-none s old v = record { valid = v; state = refl; bytes = refl }
 
 -- A call, and then another.
 pub two-reach : (s : Site) (old : List ℕ) (c : Call) (r : Called) (mid : List ℕ) (d : Call) (t : Called) (new : List ℕ) → Valid s old →
@@ -109,12 +127,19 @@ pub rounds-stand : (reply : Reply) (n id : ℕ) (old : List ℕ) (c : Called) (m
     (c .site .count ≡ 0 → ⊥) → id ≡ n → Reaches (c .site) mid (roundsCalls id) t new → Rounds reply n old (t .used) new
 unfolding Valid
 rounds-stand (refused q) n id old c mid t new d e same r = absurd (e (ap (λ (s : Site). s .count) (d .site)))
-rounds-stand (ok st a) n id old c mid t new d e same r = stands
+rounds-stand (ok st a) n id old c mid t new d e same r =
+    record {
+      used = size ∙ ap (λ (x : State). length (logBytes x)) reached;
+      bytes = r .bytes
+          ∙ ap₂ (λ (x : State) (l : List ℕ). written (roundsCalls id) x l) (d .state) (stands-over (c .site) old mid st (d .valid) (d .state) (d .past))
+          ∙ ap (λ (i : ℕ). written (roundsCalls i) st (overlaid (some st) old)) same;
+    }
   where
-    stands : take (t .used) new ≡ logBytes (run (roundsCalls n) st)
-    stands =
-        r .valid .carries .text ∙ ap (λ (x : State). logBytes x) (r .state ∙ ap (λ (x : State). run (roundsCalls id) x) (d .state))
-        ∙ ap (λ (i : ℕ). logBytes (run (roundsCalls i) st)) same
+    size : t .used ≡ length (logBytes (view t new))
+    size = sym (length-take-le (t .used) new (r .valid .carries .within)) ∙ ap length (r .valid .carries .text)
+
+    reached : view t new ≡ run (roundsCalls n) st
+    reached = r .state ∙ ap₂ (λ (x : State) (i : ℕ). run (roundsCalls i) x) (d .state) same
 
 -- ### What is asked
 

@@ -1,6 +1,5 @@
 // Restart from any bytes, with its reply as text.
 ghost use mathlib.Core.Path.{_≡_};
-ghost use Rattle.forms.specs.Forms.{outcomeText};
 ghost use Rattle.rules.specs.Calls.{restart};
 ghost use Rattle.boundary.specs.Codes.{codeOf, PutsText, replyText};
 use site::Site;

@@ -18,7 +18,8 @@ use Rattle.session.specs.Model.{viewIf, sessionView, ValidSession, usedIf, Keep
 use Rattle.stream.specs.Logging.{overlaid, logged}
 
 -- A valid site's log stands at the front, and behind it are the bytes of a buffer that is the same from there on.
-over-site : (s : Site) (bytes other : List ℕ) → Valid s bytes → drop (s .used) bytes ≡ drop (s .used) other → bytes ≡ logBytes (view s bytes) ++ drop (length (logBytes (view s bytes))) other
+pub over-site : (s : Site) (bytes other : List ℕ) → Valid s bytes → drop (s .used) bytes ≡ drop (s .used) other
+    → bytes ≡ logBytes (view s bytes) ++ drop (length (logBytes (view s bytes))) other
 unfolding Valid
 over-site s bytes other v e =
     sym (take-append-drop (s .used) bytes)

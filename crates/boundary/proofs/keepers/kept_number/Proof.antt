@@ -1,11 +1,11 @@
-use mathlib.Core.Path.{_≡_, ap, sym, _∙_}
+use mathlib.Core.Path.{ap, sym, _∙_}
 use Rattle.history.specs.declared.Verdict.{Verdict}
 use Rattle.boundary.specs.KeeperCalls.{verdictNumber}
 use borrow.Author.Needs.{needs}
-use Rattle.boundary.proofs.kept_number.Statement.{statement}
-use Rattle.boundary.proofs.kept_number.Tie as tie
-use Rattle.boundary.proofs.kept_number.Reads as reads
-use Rattle.boundary.proofs.kept_number.Lts as lts
+use Rattle.boundary.proofs.keepers.kept_number.Statement.{statement}
+use Rattle.boundary.proofs.keepers.kept_number.Tie as tie
+use Rattle.boundary.proofs.keepers.kept_number.Reads as reads
+use Rattle.boundary.proofs.keepers.kept_number.Lts as lts
 use Rattle.writer.proofs.refusal_number.Reads as refusal-number-reads
 
 enum-told : tie.Need-enum-told

@@ -1,20 +1,18 @@
-use Prim.Native.Nat.{ℕ, _+_, _≤_}
-use mathlib.Core.Path.{_≡_, sym, subst, _∙_}
+use Prim.Native.Nat.{ℕ}
+use mathlib.Core.Path.{subst}
 use mathlib.Core.List.{List}
 use native.Mathlib.Omega.{arith}
-use lib.ListN.{length}
 use denote.Ref.{now}
 use borrow.Author.Needs.{needs}
-use Rattle.keeper.specs.declared.Keeper.{Keeper}
 use Rattle.keeper.specs.Model.{view, HandsOut}
 use Rattle.keeper.specs.CallLaws.{handed-within}
 use Rattle.boundary.specs.KeeperCallLaws.{TakenUp, taken-up, not-taken-up, hands-none, hands-not-sixteen, hands-over}
-use Rattle.boundary.proofs.keeper_hand_out.Statement.{statement}
-use Rattle.boundary.proofs.keeper_hand_out.Tie as tie
-use Rattle.boundary.proofs.keeper_hand_out.Reads as reads
-use Rattle.boundary.proofs.keeper_hand_out.Lts as lts
-use Rattle.boundary.proofs.handed_number.Reads as handed-number-reads
-use Rattle.boundary.proofs.sixteen.Reads as sixteen-reads
+use Rattle.boundary.proofs.keepers.keeper_hand_out.Statement.{statement}
+use Rattle.boundary.proofs.keepers.keeper_hand_out.Tie as tie
+use Rattle.boundary.proofs.keepers.keeper_hand_out.Reads as reads
+use Rattle.boundary.proofs.keepers.keeper_hand_out.Lts as lts
+use Rattle.boundary.proofs.keepers.handed_number.Reads as handed-number-reads
+use Rattle.boundary.proofs.keepers.sixteen.Reads as sixteen-reads
 use Rattle.keeper.proofs.Keeper.hand_out.Reads as hand-out-reads
 use Rattle.keeper.proofs.Keeper.resume.Reads as resume-reads
 

@@ -1,12 +1,11 @@
-use Prim.Native.Nat.{ℕ, _≤_}
-use mathlib.Core.Path.{_≡_, ap, sym, _∙_}
+use mathlib.Core.Path.{ap, sym, _∙_}
 use native.Mathlib.Omega.{arith}
 use Rattle.boundary.specs.KeeperCalls.{handOutNumber}
 use borrow.Author.Needs.{needs}
-use Rattle.boundary.proofs.handed_number.Statement.{statement}
-use Rattle.boundary.proofs.handed_number.Tie as tie
-use Rattle.boundary.proofs.handed_number.Reads as reads
-use Rattle.boundary.proofs.handed_number.Lts as lts
+use Rattle.boundary.proofs.keepers.handed_number.Statement.{statement}
+use Rattle.boundary.proofs.keepers.handed_number.Tie as tie
+use Rattle.boundary.proofs.keepers.handed_number.Reads as reads
+use Rattle.boundary.proofs.keepers.handed_number.Lts as lts
 use Rattle.writer.proofs.refusal_number.Reads as refusal-number-reads
 
 enum-known-r : tie.Need-enum-known-r

@@ -1,15 +1,13 @@
-use Prim.Native.Nat.{ℕ, _+_, _≤_}
-use mathlib.Core.Path.{_≡_, sym, _∙_}
 use native.Mathlib.Omega.{arith}
 use denote.Ref.{now}
 use Rattle.rules.specs.Keeper.{dropLines}
 use Rattle.boundary.specs.KeeperCallLaws.{TakenUp, taken-up, not-taken-up, replies-none, replies-does, does-within}
 use borrow.Author.Needs.{needs}
-use Rattle.boundary.proofs.keeper_drop.Statement.{statement}
-use Rattle.boundary.proofs.keeper_drop.Tie as tie
-use Rattle.boundary.proofs.keeper_drop.Reads as reads
-use Rattle.boundary.proofs.keeper_drop.Lts as lts
-use Rattle.boundary.proofs.kept_number.Reads as kept-number-reads
+use Rattle.boundary.proofs.keepers.keeper_drop.Statement.{statement}
+use Rattle.boundary.proofs.keepers.keeper_drop.Tie as tie
+use Rattle.boundary.proofs.keepers.keeper_drop.Reads as reads
+use Rattle.boundary.proofs.keepers.keeper_drop.Lts as lts
+use Rattle.boundary.proofs.keepers.kept_number.Reads as kept-number-reads
 use Rattle.keeper.proofs.Keeper.forget.Reads as forget-reads
 use Rattle.keeper.proofs.Keeper.resume.Reads as resume-reads
 

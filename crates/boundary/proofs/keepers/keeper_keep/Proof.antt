@@ -1,15 +1,13 @@
-use Prim.Native.Nat.{ℕ, _+_, _≤_}
-use mathlib.Core.Path.{_≡_, sym, _∙_}
 use native.Mathlib.Omega.{arith}
 use denote.Ref.{now}
 use Rattle.rules.specs.Keeper.{keepLine}
 use Rattle.boundary.specs.KeeperCallLaws.{TakenUp, taken-up, not-taken-up, replies-none, replies-does, does-within}
 use borrow.Author.Needs.{needs}
-use Rattle.boundary.proofs.keeper_keep.Statement.{statement}
-use Rattle.boundary.proofs.keeper_keep.Tie as tie
-use Rattle.boundary.proofs.keeper_keep.Reads as reads
-use Rattle.boundary.proofs.keeper_keep.Lts as lts
-use Rattle.boundary.proofs.kept_number.Reads as kept-number-reads
+use Rattle.boundary.proofs.keepers.keeper_keep.Statement.{statement}
+use Rattle.boundary.proofs.keepers.keeper_keep.Tie as tie
+use Rattle.boundary.proofs.keepers.keeper_keep.Reads as reads
+use Rattle.boundary.proofs.keepers.keeper_keep.Lts as lts
+use Rattle.boundary.proofs.keepers.kept_number.Reads as kept-number-reads
 use Rattle.keeper.proofs.Keeper.keep.Reads as keep-reads
 use Rattle.keeper.proofs.Keeper.resume.Reads as resume-reads
 

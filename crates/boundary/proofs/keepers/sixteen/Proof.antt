@@ -1,14 +1,14 @@
-use Prim.Native.Nat.{ℕ, suc, _≤_, _<_, _-_, _+_}
-use mathlib.Core.Path.{_≡_, refl, ap, sym, _∙_}
+use Prim.Native.Nat.{_≤_, _-_}
+use mathlib.Core.Path.{_≡_, refl, sym, _∙_}
 use native.Mathlib.Omega.{arith}
 use lib.ListN.{length, take, length-set}
 use lib.Seq.{take-all}
 use denote.Ref.{now}
 use Rattle.boundary.specs.ArrayLaws.{copied-next}
-use Rattle.boundary.proofs.sixteen.Statement.{statement}
-use Rattle.boundary.proofs.sixteen.Tie as tie
-use Rattle.boundary.proofs.sixteen.Reads as reads
-use Rattle.boundary.proofs.sixteen.Lts as lts
+use Rattle.boundary.proofs.keepers.sixteen.Statement.{statement}
+use Rattle.boundary.proofs.keepers.sixteen.Tie as tie
+use Rattle.boundary.proofs.keepers.sixteen.Reads as reads
+use Rattle.boundary.proofs.keepers.sixteen.Lts as lts
 
 abbrev Inv-loop : tie.InvT-loop
 Inv-loop s a₀ i₀ a i = (i ≤ 16) × (length a ≡ 16) × (take i a ≡ take i s)
