@@ -47,8 +47,10 @@ is-twice-requires c κs = search needs
 returns-5 : tie.Need-returns-5
 returns-5 c = λ us e.
     let p = c .before .before .before .before .before .before .before in
-    refused-twice (p .args .n) (p .args .held) us e (c .before .before .before .before .before .before .if1 .left) (c .before .before .before .before .before .if2 .left)
-    (c .before .before .before .some-asked .result) (c .before .before .before .some-asked .ensures) (c .before .before .if4 .left)
+    let absent = c .before .before .before .some-asked in
+    refused-twice (p .args .n) (p .args .held) us e (c .before .before .before .before .before .before .if1 .left)
+    (c .before .before .before .before .before .if2 .left)
+    (absent .result) (absent .ensures) (c .before .before .if4 .left)
     (c .before .is-twice .result) (c .before .is-twice .ensures) (c .if5 .taken)
 
 some-asked-requires-2 : tie.Need-some-asked-requires-2
@@ -57,17 +59,23 @@ some-asked-requires-2 c κs = search needs
 returns-6 : tie.Need-returns-6
 returns-6 c = λ us e.
     let p = c .before .before .before .before .before .before .before .before .before in
-    refused-misfits (p .args .n) (p .args .held) us e (c .before .before .before .before .before .before .before .before .if1 .left) (c .before .before .before .before .before .before .before .if2 .left)
-    (c .before .before .before .before .before .some-asked .result) (c .before .before .before .before .before .some-asked .ensures) (c .before .before .before .before .if4 .left)
-    (c .before .before .before .is-twice .result) (c .before .before .before .is-twice .ensures) (c .before .before .if5 .left)
+    let absent = c .before .before .before .before .before .some-asked in
+    let twice = c .before .before .before .is-twice in
+    refused-misfits (p .args .n) (p .args .held) us e (c .before .before .before .before .before .before .before .before .if1 .left)
+    (c .before .before .before .before .before .before .before .if2 .left)
+    (absent .result) (absent .ensures) (c .before .before .before .before .if4 .left)
+    (twice .result) (twice .ensures) (c .before .before .if5 .left)
     (c .before .some-asked2 .result) (c .before .some-asked2 .ensures) (c .if6 .taken)
 
 returns-7 : tie.Need-returns-7
 returns-7 c = λ us e.
     let p = c .before .before .before .before .before .before .before .before .before in
-    passes-all (p .args .n) (p .args .held) us e (c .before .before .before .before .before .before .before .before .if1 .left) (c .before .before .before .before .before .before .before .if2 .left)
-    (c .before .before .before .before .before .some-asked .result) (c .before .before .before .before .before .some-asked .ensures) (c .before .before .before .before .if4 .left)
-    (c .before .before .before .is-twice .result) (c .before .before .before .is-twice .ensures) (c .before .before .if5 .left)
+    let absent = c .before .before .before .before .before .some-asked in
+    let twice = c .before .before .before .is-twice in
+    passes-all (p .args .n) (p .args .held) us e (c .before .before .before .before .before .before .before .before .if1 .left)
+    (c .before .before .before .before .before .before .before .if2 .left)
+    (absent .result) (absent .ensures) (c .before .before .before .before .if4 .left)
+    (twice .result) (twice .ensures) (c .before .before .if5 .left)
     (c .before .some-asked2 .result) (c .before .some-asked2 .ensures) (c .if6 .left)
 
 pub asked-refusal-spec : {M : Type 1} → statement M

@@ -19,12 +19,14 @@ asked-test-requires-2 c κs = search needs
 returns-2 : tie.Need-returns-2
 returns-2 c =
     let p = c .before .before .before .before .args in
-    one-misfits (p .n) (p .a) (sym (c .before .before .before .asked-test .ensures) ∙ c .before .before .if1 .left) (sym (c .before .asked-test2 .ensures) ∙ c .if2 .taken)
+    let known = sym (c .before .before .before .asked-test .ensures) ∙ c .before .before .if1 .left in
+    one-misfits (p .n) (p .a) known (sym (c .before .asked-test2 .ensures) ∙ c .if2 .taken)
 
 returns-3 : tie.Need-returns-3
 returns-3 c =
     let p = c .before .before .before .before .args in
-    one-passes (p .n) (p .a) (sym (c .before .before .before .asked-test .ensures) ∙ c .before .before .if1 .left) (sym (c .before .asked-test2 .ensures) ∙ c .if2 .left)
+    let known = sym (c .before .before .before .asked-test .ensures) ∙ c .before .before .if1 .left in
+    one-passes (p .n) (p .a) known (sym (c .before .asked-test2 .ensures) ∙ c .if2 .left)
 
 pub one-refusal-spec : {M : Type 1} → statement M
 one-refusal-spec = tie.close (tie.spec asked-test-requires returns asked-test-requires-2 returns-2 returns-3)
