@@ -167,6 +167,26 @@ module _ (n : ℕ) (held : AskedHeld) (us : List Update) (e : held ≡ heldUpdat
           unfolding verdictOf check
           passes-all f = sym (verdict false false false false count-fits (absent-is ∙ present) (twice-is ∙ once) (misfits-is ∙ f))
 
+-- ### 2 to 5 of one update
+
+module _ (n : ℕ) (a : Asked) where
+  one-verdict : (p m : Bool) → asked (Absent n) a ≡ p → asked Misfits a ≡ m
+      → verdictOf (updatesRefusal n (asUpdate a ∷ [])) ≡ verdictOf (check (p || false) NoSuchHistory (check (m || false) OperandRange none))
+  unfolding updatesRefusal formRefusal check wrongCount noSuchHistory historyTwice askedTest
+  one-verdict p m e f = λ i. verdictOf (check (e i || false) NoSuchHistory (check (f i || false) OperandRange none))
+
+  pub one-absent : asked (Absent n) a ≡ true → Refused NoSuchHistory ≡ verdictOf (updatesRefusal n (asUpdate a ∷ []))
+  unfolding verdictOf check
+  one-absent e = sym (one-verdict true (asked Misfits a) e refl)
+
+  pub one-misfits : asked (Absent n) a ≡ false → asked Misfits a ≡ true → Refused OperandRange ≡ verdictOf (updatesRefusal n (asUpdate a ∷ []))
+  unfolding verdictOf check
+  one-misfits e f = sym (one-verdict false true e f)
+
+  pub one-passes : asked (Absent n) a ≡ false → asked Misfits a ≡ false → Passes ≡ verdictOf (updatesRefusal n (asUpdate a ∷ []))
+  unfolding verdictOf check
+  one-passes e f = sym (one-verdict false false e f)
+
 -- ### Did lines are checked as the updates that they report
 
 form-map : {A B : Type 0} (f : A → B) (history : B → ℕ) (misfits : B → Bool) (n : ℕ) (xs : List A)
@@ -280,6 +300,17 @@ pub updates-held : (us : List Update) → length us ≤ 4 → updatesOf (heldUpd
 unfolding updatesOf heldUpdates
 updates-held us h =
     ap (map asUpdate) (four-held asAsked noUpdate us h) ∙ map-map asAsked asUpdate us ∙ map-same (λ (u : Update). asUpdate (asAsked u)) us (λ u. refl)
+
+-- the only update that is held
+pub only-update : (held : AskedHeld) (us : List Update) → held ≡ heldUpdates us → held .count ≡ 1 → asUpdate (getD (held .first) 0 noAsked) ∷ [] ≡ us
+unfolding updatesOf
+only-update held us e one =
+    let long = held-long held us e in
+    let few : length us ≤ 4 = omega (arith, one, count-is 0 held us e) in
+    sym (ap (map asUpdate) (take-suc (held .first) 0 noAsked (omega arith)))
+    ∙ sym (ap (λ (k : ℕ). map asUpdate (take k (held .first))) one)
+    ∙ ap updatesOf e
+    ∙ updates-held us few
 
 -- ### Held updates and did lines as entries
 
