@@ -12,7 +12,7 @@ use Rattle.rules.specs.State.{State, Reply, refused, ok, settle, logBytes}
 use Rattle.rules.specs.Calls.{Call, step}
 use Rattle.rules.specs.Run.{run}
 use Rattle.site.specs.declared.Site.{Site}
-use Rattle.site.specs.Model.{view, Valid}
+use Rattle.site.specs.Model.{Lent, view, Valid}
 use Rattle.stream.specs.Logging.{overlaid}
 
 -- The log buffer after some calls: after each, the log's text at the front, and behind it the bytes that stood there.
@@ -20,11 +20,11 @@ unfoldable pub written : List Call → State → List ℕ → List ℕ
 written [] st bytes = bytes
 written (c ∷ cs) st bytes = written cs (settle (step c st) st) (overlaid (some (settle (step c st) st)) bytes)
 
--- The calls cs take the site s, whose log buffer was `old`, to r, whose log buffer is `new`.
-pub record Reaches (s : Site) (old : List ℕ) (cs : List Call) (r : Site) (new : List ℕ) : Type 0 where
+-- The calls cs take the site s, to which `old` was lent, to r, to which `new` is lent.
+pub record Reaches (s : Site) (old : Lent) (cs : List Call) (r : Site) (new : Lent) : Type 0 where
   pub valid : Valid r new
   pub state : view r new ≡ run cs (view s old)
-  pub bytes : new ≡ written cs (view s old) old
+  pub bytes : new .log ≡ written cs (view s old) (old .log)
 
 -- the update that an operation asks for: part 0 of a profile becomes 7
 abbrev pub incOf : ℕ → ℕ → Update

@@ -4,7 +4,7 @@ ghost use mathlib.Core.List.{[], _∷_};
 ghost use Prim.Native.Nat.{_<_};
 ghost use lib.ListN.{length};
 ghost use Rattle.rules.specs.Calls.{openSite};
-ghost use Rattle.site.specs.Model.{Valid};
+ghost use Rattle.site.specs.Model.{lent, Valid};
 ghost use Rattle.site.specs.Trim.{updatesHeld};
 ghost use Rattle.boundary.specs.Rounds.{Reaches, incOf, workCalls, markCalls, roundCalls, Rounds};
 use forms::Asked;
@@ -12,6 +12,8 @@ use forms::AskedHeld;
 use forms::Rule;
 use forms::Version;
 use site::Site;
+use table::slots::DoneWords;
+use table::slots::QueueWords;
 
 // One update: part 0 of a history's profile becomes 7.
 fn asked_inc(history: u64, version: u64) -> AskedHeld
@@ -30,37 +32,46 @@ fn asked_inc(history: u64, version: u64) -> AskedHeld
 }
 
 // An operation is added and finished.
-fn one_operation(site: Site, log: &mut [u8], id: u64) -> Site
-    requires { ⌜ Valid site (now log) ⌝ }
-    ensures { λ r. ⌜ Reaches site (now (log .entry)) (workCalls id) r (now (log .exit)) ⌝ }
+fn one_operation(
+    site: Site,
+    log: &mut [u8],
+    queued: &mut QueueWords,
+    done: &mut DoneWords,
+    id: u64,
+) -> Site
+    requires { ⌜ Valid site (lent (now log) (now queued) (now done)) ⌝ }
+    ensures { λ r. ⌜ Reaches site (lent (now (log .entry)) (now (queued .entry)) (now (done .entry))) (workCalls id) r
+        (lent (now (log .exit)) (now (queued .exit)) (now (done .exit))) ⌝ }
 {
     let asked = asked_inc(id % 4, id / 4 + 1);
-    let a = site.add(log, id, asked);
+    let a = site.add(log, queued, done, id, asked);
     let added = a.site;
-    let f = added.finish(log, id);
+    let f = added.finish(log, queued, done, id);
     f.site
 }
 
 // The first n operations become persistent and stable.
-fn mark(site: Site, log: &[u8], n: u64) -> Site
-    requires { ⌜ Valid site (now log) ⌝ }
-    ensures { λ r. ⌜ Reaches site (now (log .entry)) (markCalls n) r (now (log .entry)) ⌝ }
+fn mark(site: Site, log: &[u8], queued: &mut QueueWords, done: &mut DoneWords, n: u64) -> Site
+    requires { ⌜ Valid site (lent (now log) (now queued) (now done)) ⌝ }
+    ensures { λ r. ⌜ Reaches site (lent (now (log .entry)) (now (queued .entry)) (now (done .entry))) (markCalls n) r
+        (lent (now (log .entry)) (now (queued .exit)) (now (done .exit))) ⌝ }
 {
-    let p = site.persistent(log, n);
+    let p = site.persistent(log, queued, done, n);
     let kept = p.site;
-    let s = kept.stable(log, n);
+    let s = kept.stable(log, queued, done, n);
     s.site
 }
 
 // The operation with this id, and after every 32nd the marks.
-fn round(site: Site, log: &mut [u8], id: u64) -> Site
-    requires { ⌜ Valid site (now log) ⌝ }
+fn round(site: Site, log: &mut [u8], queued: &mut QueueWords, done: &mut DoneWords, id: u64) -> Site
+    requires { ⌜ Valid site (lent (now log) (now queued) (now done)) ⌝ }
     requires { ⌜ id < 18446744073709551615 ⌝ }
-    ensures { λ r. ⌜ Reaches site (now (log .entry)) (roundCalls id) r (now (log .exit)) ⌝ }
+    ensures { λ r. ⌜ Reaches site (lent (now (log .entry)) (now (queued .entry)) (now (done .entry))) (roundCalls id) r
+        (lent (now (log .exit)) (now (queued .exit)) (now (done .exit))) ⌝ }
 {
-    let worked = one_operation(site, log, id);
+    let worked = one_operation(site, log, queued, done, id);
     if id % 32 == 31 {
-        return mark(worked, log, id + 1);
+        return mark(worked, log, queued, done, id + 1);
     }
     worked
 }
@@ -75,9 +86,11 @@ pub extern "C" fn site_add_and_finish(log: &mut [u8], n: u64) -> usize
     if site.count == 0 {
         return 0;
     }
+    let mut queued = [0u64; 1472];
+    let mut done = [0u64; 640];
     let mut id: u64 = 0;
     while id < n {
-        site = round(site, log, id);
+        site = round(site, log, &mut queued, &mut done, id);
         id += 1;
     }
     site.used

@@ -2,10 +2,13 @@
 ghost use Prim.Native.Nat.{_≤_};
 ghost use lib.ListN.{length};
 ghost use Rattle.session.specs.Feeding.{UsableBegun};
+ghost use Rattle.site.specs.Model.{lent};
 ghost use Rattle.stream.specs.Model.{ValidStream};
 use libc::STDIN_FILENO;
 use libc::STDOUT_FILENO;
 use stream::Stream;
+use table::slots::DoneWords;
+use table::slots::QueueWords;
 use writer::Written;
 
 // The stream after some input, and whether to go on.
@@ -15,15 +18,22 @@ struct Going {
 }
 
 // Feeds all bytes of a chunk, and writes the replies; it stops where a write fails.
-fn answer(start: Stream, log: &mut [u8], chunk: &[u8], out: &mut [u8]) -> Going
-    requires { ⌜ ValidStream start (now log) ⌝ }
+fn answer(
+    start: Stream,
+    log: &mut [u8],
+    queued: &mut QueueWords,
+    done: &mut DoneWords,
+    chunk: &[u8],
+    out: &mut [u8],
+) -> Going
+    requires { ⌜ ValidStream start (lent (now log) (now queued) (now done)) ⌝ }
     requires { ⌜ 2730 ≤ length (now out) ⌝ }
-    ensures { λ r. ⌜ ValidStream (r .stream) (now (log .exit)) ⌝ }
+    ensures { λ r. ⌜ ValidStream (r .stream) (lent (now (log .exit)) (now (queued .exit)) (now (done .exit))) ⌝ }
 {
     let mut stream = start;
     let mut at: usize = 0;
     while at < chunk.len() {
-        let f = stream.feed(log, &chunk[at..], out);
+        let f = stream.feed(log, queued, done, &chunk[at..], out);
         let n = f.written;
         at += f.used;
         stream = f.stream;
@@ -44,10 +54,17 @@ fn close(stream: Stream, out: &mut [u8])
 }
 
 // Reads what has come, and answers it; at the end of the input, the unended rest.
-fn step(stream: Stream, log: &mut [u8], chunk: &mut [u8], out: &mut [u8]) -> Going
-    requires { ⌜ ValidStream stream (now log) ⌝ }
+fn step(
+    stream: Stream,
+    log: &mut [u8],
+    queued: &mut QueueWords,
+    done: &mut DoneWords,
+    chunk: &mut [u8],
+    out: &mut [u8],
+) -> Going
+    requires { ⌜ ValidStream stream (lent (now log) (now queued) (now done)) ⌝ }
     requires { ⌜ 2730 ≤ length (now out) ⌝ }
-    ensures { λ r. ⌜ ValidStream (r .stream) (now (log .exit)) ⌝ }
+    ensures { λ r. ⌜ ValidStream (r .stream) (lent (now (log .exit)) (now (queued .exit)) (now (done .exit))) ⌝ }
 {
     let got = libc::read(STDIN_FILENO, chunk);
     if got < 0 {
@@ -58,17 +75,23 @@ fn step(stream: Stream, log: &mut [u8], chunk: &mut [u8], out: &mut [u8]) -> Goi
         return Going { stream, on: false };
     }
     let n = io::count(got, chunk);
-    answer(stream, log, &chunk[..n], out)
+    answer(stream, log, queued, done, &chunk[..n], out)
 }
 
 // A proved loop has to end, and nothing says that the input does: it counts its turns down, from a number that no run uses up.
-fn serve(log: &mut [u8], chunk: &mut [u8], out: &mut [u8])
+fn serve(
+    log: &mut [u8],
+    queued: &mut QueueWords,
+    done: &mut DoneWords,
+    chunk: &mut [u8],
+    out: &mut [u8],
+)
     requires { ⌜ 2730 ≤ length (now out) ⌝ }
 {
     let mut stream = Stream::start();
     let mut turns = u64::MAX;
     while turns > 0 {
-        let s = step(stream, log, chunk, out);
+        let s = step(stream, log, queued, done, chunk, out);
         let on = s.on;
         stream = s.stream;
         if on {
@@ -81,7 +104,9 @@ fn serve(log: &mut [u8], chunk: &mut [u8], out: &mut [u8])
 
 fn main() {
     let mut log = io::large_buffer();
+    let mut queued = [0u64; 1472];
+    let mut done = [0u64; 640];
     let mut chunk = io::large_buffer();
     let mut out = io::large_buffer();
-    serve(&mut log, &mut chunk, &mut out);
+    serve(&mut log, &mut queued, &mut done, &mut chunk, &mut out);
 }

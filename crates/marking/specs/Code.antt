@@ -9,6 +9,7 @@ use Rattle.rules.specs.Book.{Cell}
 use Rattle.rules.specs.State.{State}
 use Rattle.rules.specs.Session.{replies, restReply}
 use Rattle.session.specs.Feeding.{joined}
+use Rattle.site.specs.Model.{Lent}
 use Rattle.stream.specs.declared.Ran.{Ran}
 use Rattle.stream.specs.declared.Stream.{Stream}
 use Rattle.stream.specs.Model.{StartsStream, RunsIf, RunsWhole, Runs}
@@ -25,9 +26,9 @@ run-page input old r new out page f e lines h c site p t =
 
 -- What calls of `feed` from the start have written, one behind the other, and the reply to the unended rest: the replies to the lines, then the marking
 -- sheet, in whatever chunks the input came.
-pub fed-page : (cs : List Call) (s : Stream) (bytes : List ℕ) → StartsStream s bytes → FedBy s bytes cs →
-    (lines : List (List ℕ)) (h : ℕ) (c : Cell) (site : State) → Prints (length bytes) lines h c site → Text (joined (usedIn cs)) (asking lines h) →
-    (w : Whole (length bytes) s cs) × (writtenIn cs ++ restReply (w .rest) ≡ replies (length bytes) lines none ++ sheet h c site)
+pub fed-page : (cs : List Call) (s : Stream) (bytes : Lent) → StartsStream s bytes → FedBy s bytes cs →
+    (lines : List (List ℕ)) (h : ℕ) (c : Cell) (site : State) → Prints (length (bytes .log)) lines h c site → Text (joined (usedIn cs)) (asking lines h) →
+    (w : Whole (length (bytes .log)) s cs) × (writtenIn cs ++ restReply (w .rest) ≡ replies (length (bytes .log)) lines none ++ sheet h c site)
 fed-page cs s bytes start f lines h c site p t =
     let w = calls-whole cs s bytes start f in
     (w, w .text ∙ p (joined (usedIn cs)) t)

@@ -8,7 +8,7 @@ use Rattle.forms.specs.Forms.{Outcome, outcomeText}
 use Rattle.forms.specs.Held.{outcomeOf}
 use Rattle.forms.specs.declared.ReplyLine.{ReplyLine}
 use Rattle.rules.specs.Session.{Turn}
-use Rattle.site.specs.Model.{Says}
+use Rattle.site.specs.Model.{Lent, Says}
 use Rattle.writer.specs.declared.Written.{Written}
 use Rattle.writer.specs.Write.{Writes, withEnd, ReplyInRange}
 use Rattle.session.specs.declared.Session.{Session}
@@ -18,7 +18,7 @@ use Rattle.session.specs.Model.{viewIf, sessionView, ValidSession, Turns
 use Rattle.session.specs.TurnLaws.{in-range}
 
 -- A session that is not open is "before site".
-pub starts : (s : Session) → s .opened ≡ false → (bytes : List ℕ) → Starts s bytes
+pub starts : (s : Session) → s .opened ≡ false → (bytes : Lent) → Starts s bytes
 starts s e bytes =
     record {
       view = ap (λ (b : Bool). viewIf b (s .site) bytes) e;
@@ -26,11 +26,11 @@ starts s e bytes =
     }
 
 -- The reply of a turn can be written.
-pub turn-prints : (s : Session) (old : List ℕ) (t : Turn) (r : Turned) (new : List ℕ) → Turns s old t r new → ReplyInRange (r .reply)
+pub turn-prints : (s : Session) (old : Lent) (t : Turn) (r : Turned) (new : Lent) → Turns s old t r new → ReplyInRange (r .reply)
 turn-prints s old t r new h = in-range (r .reply) (h .answer .printable)
 
 -- What is written of a turn's reply is the rule book's reply.
-pub answers : (s : Session) (old : List ℕ) (t : Turn) (r : Turned) (new : List ℕ) (n : Written) (out written : List ℕ) → Turns s old t r new →
+pub answers : (s : Session) (old : Lent) (t : Turn) (r : Turned) (new : Lent) (n : Written) (out written : List ℕ) → Turns s old t r new →
     Writes out 0 (withEnd (outcomeText (outcomeOf (r .reply)))) n written → Answers s old t (record { session = r .session; next = n }) new out written
 answers s old t r new n out written h w =
     record {

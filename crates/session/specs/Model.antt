@@ -10,11 +10,11 @@ use Rattle.forms.specs.declared.Refusal.{Refusal}
 use Rattle.forms.specs.declared.Refusal.the-variants.{Unreadable}
 use Rattle.rules.specs.State.{State, refused}
 use Rattle.rules.specs.Calls.{Call}
-use Rattle.rules.specs.Session.{Turn, turnOf, opening, calling}
+use Rattle.rules.specs.Session.{Turn, turnOf, opening, calling, turn}
 use Rattle.reader.specs.declared.CommandForm.{CommandForm}
 use Rattle.site.specs.declared.Site.{Site}
 use Rattle.site.specs.declared.Called.{Called}
-use Rattle.site.specs.Model.{view, Valid, Says}
+use Rattle.site.specs.Model.{Lent, view, Valid, Says}
 use Rattle.writer.specs.Write.{Writes, withEnd}
 use Rattle.session.specs.declared.Session.{Session}
 use Rattle.session.specs.declared.Turned.{Turned}
@@ -22,16 +22,16 @@ use Rattle.session.specs.declared.Answered.{Answered}
 
 -- ### The session as a state
 
-abbrev pub viewIf : Bool → Site → List ℕ → Option State
+abbrev pub viewIf : Bool → Site → Lent → Option State
 viewIf true s bytes = some (view s bytes)
 viewIf false s bytes = none
 
--- The rule book's session that a session and its log buffer are: none "before site".
-abbrev pub sessionView : Session → List ℕ → Option State
+-- The rule book's session that a session and what is lent to it are: none "before site".
+abbrev pub sessionView : Session → Lent → Option State
 sessionView s bytes = viewIf (s .opened) (s .site) bytes
 
 -- The invariant: a site that is open is valid.
-pub record ValidSession (s : Session) (bytes : List ℕ) : Type 0 where
+pub record ValidSession (s : Session) (bytes : Lent) : Type 0 where
   pub site : s .opened ≡ true → Valid (s .site) bytes
 
 -- how many bytes of the log buffer are in use
@@ -42,24 +42,31 @@ usedIf false s = 0
 -- ### What a line does
 
 -- "A refusal returns its number only": nothing else has changed.
-pub record Unchanged (s : Session) (old : List ℕ) (r : Turned) (new : List ℕ) : Type 0 where
+pub record Unchanged (s : Session) (old : Lent) (r : Turned) (new : Lent) : Type 0 where
   pub session : r .session ≡ s
-  pub bytes : new ≡ old
+  pub kept : new ≡ old
 
 -- "An accepted call alters no byte of a lent buffer past those in use".
-pub record PastKept (old : List ℕ) (r : Turned) (new : List ℕ) : Type 0 where
-  pub past : drop (usedIf (r .session .opened) (r .session .site)) new ≡ drop (usedIf (r .session .opened) (r .session .site)) old
+pub record PastKept (old : Lent) (r : Turned) (new : Lent) : Type 0 where
+  pub past : drop (usedIf (r .session .opened) (r .session .site)) (new .log) ≡ drop (usedIf (r .session .opened) (r .session .site)) (old .log)
 
-abbrev pub Keeps : Outcome → Session → List ℕ → Turned → List ℕ → Type 0
+abbrev pub Keeps : Outcome → Session → Lent → Turned → Lent → Type 0
 Keeps (Refused q) s old r new = Unchanged s old r new
 Keeps (Accepted a) s old r new = PastKept old r new
 
--- The session s, whose log buffer was `old` and is `new` after it, takes the turn t of the rule book.
-pub record Turns (s : Session) (old : List ℕ) (t : Turn) (r : Turned) (new : List ℕ) : Type 0 where
+-- The session s, to which `old` was lent and is `new` after it, takes the turn t of the rule book.
+pub record Turns (s : Session) (old : Lent) (t : Turn) (r : Turned) (new : Lent) : Type 0 where
   pub answer : Says (r .reply) (t .reply)
   pub after : sessionView (r .session) new ≡ t .after
   pub valid : ValidSession (r .session) new
   pub keeps : Keeps (t .reply) s old r new
+
+-- .. the turn of a call of the site, and of a line of the input
+abbrev pub TurnsCall : Session → Lent → Call → Turned → Lent → Type 0
+TurnsCall s old c r new = Turns s old (calling c (sessionView s old)) r new
+
+abbrev pub TurnsLine : Session → Lent → List ℕ → Turned → Lent → Type 0
+TurnsLine s old line r new = Turns s old (turn (length (old .log)) line (sessionView s old)) r new
 
 -- The line is refused with q, and the session is as it was.
 pub record Refuses (s : Session) (q : Refusal) (r : Turned) : Type 0 where
@@ -71,12 +78,12 @@ abbrev pub turnedOf : Called → Turned
 turnedOf c = record { session = record { opened = true; site = c .site }; reply = c .reply }
 
 -- A session that has no site yet.
-pub record Starts (s : Session) (bytes : List ℕ) : Type 0 where
+pub record Starts (s : Session) (bytes : Lent) : Type 0 where
   pub view : sessionView s bytes ≡ none
   pub valid : ValidSession s bytes
 
 -- The turn t is taken, and its reply with its end stands at the front of the buffer that was `out` and is `written`, if it fits there.
-pub record Answers (s : Session) (old : List ℕ) (t : Turn) (r : Answered) (new out written : List ℕ) : Type 0 where
+pub record Answers (s : Session) (old : Lent) (t : Turn) (r : Answered) (new : Lent) (out written : List ℕ) : Type 0 where
   pub turned : Turned
   pub session : r .session ≡ turned .session
   pub turns : Turns s old t turned new

@@ -26,7 +26,7 @@ use Rattle.reader.specs.declared.CommandForm.{CommandForm}
 use Rattle.reader.specs.declared.CommandRead.{CommandRead}
 use Rattle.reader.specs.Read.{updatesIn, didIn, noDid, commandAnswer}
 use Rattle.site.specs.declared.Called.{Called}
-use Rattle.site.specs.Model.{view, Does}
+use Rattle.site.specs.Model.{Lent, view, Does}
 use Rattle.site.specs.ModelLaws.{step-performs}
 use Rattle.site.specs.Trim.{updatesHeld, didHeld, redoOf}
 use Rattle.site.specs.TrimLaws.{updates-writable, add-held, redo-held}
@@ -42,7 +42,7 @@ unfolding writable perform redo redoRead
 redo-step did st e = step-performs (Call.Redo (didText did)) st refl ∙ ap (λ (z : Step Did). redoRead z st) e
 
 -- A did line that is read back from its text, told to an open session's site, is the turn of that redo.
-pub redoes : (s : Session) (old : List ℕ) (d : DidLine) (did : Did) (r : Called) (new : List ℕ) (t : Turned) → s .opened ≡ true → ValidSession s old →
+pub redoes : (s : Session) (old : Lent) (d : DidLine) (did : Did) (r : Called) (new : Lent) (t : Turned) → s .opened ≡ true → ValidSession s old →
     d ≡ heldDid did → readDid (didText did) ≡ got did [] →
     Does (s .site) old (redoOf (didHeld d) (view (s .site) old)) r new → t ≡ turnedOf r →
     Turns s old (calling (Call.Redo (didText did)) (sessionView s old)) t new
@@ -53,7 +53,7 @@ redoes s old d did r new t o v h e x same =
     ∙ redo-held did (view (s .site) old) ∙ sym (redo-step did (view (s .site) old) e)) x) same
 
 -- Updates that are held of a list, asked of an open session's site, are the turn of that add.
-pub adds : (s : Session) (old : List ℕ) (i : ℕ) → i ≤ top → (a : AskedHeld) (us : List Update) (r : Called) (new : List ℕ) (t : Turned) → s .opened ≡ true →
+pub adds : (s : Session) (old : Lent) (i : ℕ) → i ≤ top → (a : AskedHeld) (us : List Update) (r : Called) (new : Lent) (t : Turned) → s .opened ≡ true →
     ValidSession s old → a ≡ heldUpdates us → T (all writableUpdate us) → Does (s .site) old (step (Call.Add i (updatesHeld a)) (view (s .site) old)) r new →
     t ≡ turnedOf r → Turns s old (calling (Call.Add i us) (sessionView s old)) t new
 adds s old i le a us r new t o v h w x same =
@@ -135,14 +135,14 @@ module _ (line : List ℕ) where
     turn-by room s =
         ap (λ (y : CommandRead). obeyed room (y .form) (updatesRead (readCommand line)) (didRead (readCommand line)) s) e ∙ sym (turn-is room line s)
 
-    pub turns-by : (s : Session) (old : List ℕ) (r : Turned) (new : List ℕ) →
+    pub turns-by : (s : Session) (old : Lent) (r : Turned) (new : Lent) →
         ((us : List Update) (did : Did) → x .asked ≡ heldUpdates us → T (all writableUpdate us) → x .did ≡ heldDid did → readDid (didText did) ≡ got did [] →
-        Turns s old (obeyed (length old) (x .form) us did (sessionView s old)) r new) → Turns s old (turn (length old) line (sessionView s old)) r new
+        Turns s old (obeyed (length (old .log)) (x .form) us did (sessionView s old)) r new) → Turns s old (turn (length (old .log)) line (sessionView s old)) r new
     turns-by s old r new h =
-        subst (λ (t : Turn). Turns s old t r new) (turn-by (length old) (sessionView s old))
+        subst (λ (t : Turn). Turns s old t r new) (turn-by (length (old .log)) (sessionView s old))
         (h (updatesRead (readCommand line)) (didRead (readCommand line)) asked-is updates-read did-is did-back)
 
 -- What is done for a form is done for the form that is the same.
-pub formed : (s : Session) (old : List ℕ) (f g : CommandForm) (us : List Update) (did : Did) (r : Turned) (new : List ℕ) → f ≡ g →
-    Turns s old (obeyed (length old) g us did (sessionView s old)) r new → Turns s old (obeyed (length old) f us did (sessionView s old)) r new
-formed s old f g us did r new e h = subst (λ (x : CommandForm). Turns s old (obeyed (length old) x us did (sessionView s old)) r new) (sym e) h
+pub formed : (s : Session) (old : Lent) (f g : CommandForm) (us : List Update) (did : Did) (r : Turned) (new : Lent) → f ≡ g →
+    Turns s old (obeyed (length (old .log)) g us did (sessionView s old)) r new → Turns s old (obeyed (length (old .log)) f us did (sessionView s old)) r new
+formed s old f g us did r new e h = subst (λ (x : CommandForm). Turns s old (obeyed (length (old .log)) x us did (sessionView s old)) r new) (sym e) h

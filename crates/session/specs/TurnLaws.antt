@@ -20,7 +20,7 @@ use Rattle.rules.specs.Calls.{Call, step}
 use Rattle.rules.specs.Session.{Turn, turnOf, opening, calling, obey, onCommand, turn}
 use Rattle.reader.specs.Read.{updatesIn, didIn, noDid, commandAnswer}
 use Rattle.site.specs.declared.Called.{Called}
-use Rattle.site.specs.Model.{view, Valid, Says, Does, Printable, Few}
+use Rattle.site.specs.Model.{Lent, view, Valid, Says, Does, Printable, Few}
 use Rattle.writer.specs.Write.{ReplyInRange}
 use Rattle.session.specs.declared.Session.{Session}
 use Rattle.session.specs.declared.Turned.{Turned}
@@ -37,7 +37,7 @@ in-range r p =
 -- ### A refused line
 
 -- The turn is a refusal, the reply says so, and nothing has changed.
-pub turn-refused : (s : Session) (old : List ℕ) (t : Turn) (q : Refusal) (r : Turned) → ValidSession s old → t ≡ turnOf (refused q) (sessionView s old) →
+pub turn-refused : (s : Session) (old : Lent) (t : Turn) (q : Refusal) (r : Turned) → ValidSession s old → t ≡ turnOf (refused q) (sessionView s old) →
     Refuses s q r → Turns s old t r old
 unfolding turnOf
 turn-refused s old t q r v e h =
@@ -46,11 +46,11 @@ turn-refused s old t q r v e h =
       answer = h .answer;
       after = ap (λ (x : Session). sessionView x old) (h .session);
       valid = subst (λ (x : Session). ValidSession x old) (sym (h .session)) v;
-      keeps = record { session = h .session; bytes = refl };
+      keeps = record { session = h .session; kept = refl };
     })
 
 -- 14: "before site"
-pub calls-closed : (s : Session) (old : List ℕ) (c : Call) (t : Turned) → s .opened ≡ false → ValidSession s old → Refuses s OutOfTurn t →
+pub calls-closed : (s : Session) (old : Lent) (c : Call) (t : Turned) → s .opened ≡ false → ValidSession s old → Refuses s OutOfTurn t →
     Turns s old (calling c (sessionView s old)) t old
 unfolding calling
 calls-closed s old c t e v h = turn-refused s old (calling c (sessionView s old)) OutOfTurn t v closed h
@@ -60,15 +60,15 @@ calls-closed s old c t e v h = turn-refused s old (calling c (sessionView s old)
 
 -- ### A call of the site
 
-call-turns : (s : Session) (old : List ℕ) (reply : Reply) (r : Called) (new : List ℕ) → s .opened ≡ true → ValidSession s old → Does (s .site) old reply r new →
+call-turns : (s : Session) (old : Lent) (reply : Reply) (r : Called) (new : Lent) → s .opened ≡ true → ValidSession s old → Does (s .site) old reply r new →
     Turns s old (turnOf reply (some (view (s .site) old))) (turnedOf r) new
 unfolding turnOf
 call-turns s old (refused q) r new e v d =
     record {
       answer = d .answer;
-      after = λ i. some (view (d .site i) (d .bytes i));
-      valid = record { site = λ o. subst (λ (x : List ℕ). Valid (r .site) x) (sym (d .bytes)) (subst (λ x. Valid x old) (sym (d .site)) (v .site e)) };
-      keeps = record { session = λ i. record { opened = sym e i; site = d .site i }; bytes = d .bytes };
+      after = λ i. some (view (d .site i) (d .kept i));
+      valid = record { site = λ o. subst (λ (x : Lent). Valid (r .site) x) (sym (d .kept)) (subst (λ x. Valid x old) (sym (d .site)) (v .site e)) };
+      keeps = record { session = λ i. record { opened = sym e i; site = d .site i }; kept = d .kept };
     }
 call-turns s old (ok st a) r new e v d =
     record {
@@ -79,7 +79,7 @@ call-turns s old (ok st a) r new e v d =
     }
 
 -- What a call of an open session's site does is the turn of that call.
-pub calls : (s : Session) (old : List ℕ) (c : Call) (r : Called) (new : List ℕ) (t : Turned) → s .opened ≡ true → ValidSession s old →
+pub calls : (s : Session) (old : Lent) (c : Call) (r : Called) (new : Lent) (t : Turned) → s .opened ≡ true → ValidSession s old →
     Does (s .site) old (step c (view (s .site) old)) r new → t ≡ turnedOf r → Turns s old (calling c (sessionView s old)) t new
 unfolding calling
 calls s old c r new t e v d same =

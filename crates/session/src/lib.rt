@@ -11,7 +11,8 @@ ghost use Rattle.forms.specs.Reading.{readDid};
 ghost use Rattle.forms.specs.Held.{heldUpdates, heldDid};
 ghost use Rattle.rules.specs.Calls.{Call, writableUpdate};
 ghost use Rattle.rules.specs.Session.{calling, opening, turn};
-ghost use Rattle.session.specs.Model.{sessionView, ValidSession, turnedOf, Refuses, Turns, obeyed, Starts, Answers};
+ghost use Rattle.site.specs.Model.{Lent, lent};
+ghost use Rattle.session.specs.Model.{sessionView, ValidSession, turnedOf, Refuses, Turns, TurnsCall, TurnsLine, obeyed, Starts, Answers};
 ghost use Rattle.session.specs.Feeding.{Begins};
 use forms::AskedHeld;
 use forms::DidLine;
@@ -23,6 +24,8 @@ use reader::read_command;
 use site::Called;
 use site::Site;
 use site::refusal;
+use table::slots::DoneWords;
+use table::slots::QueueWords;
 use writer::Written;
 use writer::write_reply;
 
@@ -86,128 +89,156 @@ impl Session {
     }
 
     // `(show H)`
-    pub fn show(self, log: &[u8], h: u64) -> Turned
-        requires { ⌜ ValidSession self (now log) ⌝ }
-        ensures { λ r. ⌜ Turns self (now (log .entry)) (calling (Call.Show h) (sessionView self (now (log .entry)))) r (now (log .entry)) ⌝ }
+    pub fn show(self, log: &[u8], queued: &QueueWords, done: &DoneWords, h: u64) -> Turned
+        requires { ⌜ ValidSession self (lent (now log) (now queued) (now done)) ⌝ }
+        ensures { λ r. ⌜ TurnsCall self (lent (now (log .entry)) (now (queued .entry)) (now (done .entry))) (Call.Show h) r
+            (lent (now (log .entry)) (now (queued .entry)) (now (done .entry))) ⌝ }
     {
         if self.opened {
             let site = self.site;
-            called(site.show(log, h))
+            called(site.show(log, queued, done, h))
         } else {
             self.refuse(Refusal::OutOfTurn)
         }
     }
 
     // `(end)`
-    pub fn end(self, log: &[u8]) -> Turned
-        requires { ⌜ ValidSession self (now log) ⌝ }
-        ensures { λ r. ⌜ Turns self (now (log .entry)) (calling Call.End (sessionView self (now (log .entry)))) r (now (log .entry)) ⌝ }
+    pub fn end(self, log: &[u8], queued: &QueueWords, done: &DoneWords) -> Turned
+        requires { ⌜ ValidSession self (lent (now log) (now queued) (now done)) ⌝ }
+        ensures { λ r. ⌜ TurnsCall self (lent (now (log .entry)) (now (queued .entry)) (now (done .entry))) Call.End r
+            (lent (now (log .entry)) (now (queued .entry)) (now (done .entry))) ⌝ }
     {
         if self.opened {
             let site = self.site;
-            called(site.end(log))
+            called(site.end(log, queued, done))
         } else {
             self.refuse(Refusal::OutOfTurn)
         }
     }
 
     // `(persistent N)`
-    pub fn persistent(self, log: &[u8], n: u64) -> Turned
-        requires { ⌜ ValidSession self (now log) ⌝ }
-        ensures { λ r. ⌜ Turns self (now (log .entry)) (calling (Call.Persistent n) (sessionView self (now (log .entry)))) r (now (log .entry)) ⌝ }
+    pub fn persistent(self, log: &[u8], queued: &QueueWords, done: &DoneWords, n: u64) -> Turned
+        requires { ⌜ ValidSession self (lent (now log) (now queued) (now done)) ⌝ }
+        ensures { λ r. ⌜ TurnsCall self (lent (now (log .entry)) (now (queued .entry)) (now (done .entry))) (Call.Persistent n) r
+            (lent (now (log .entry)) (now (queued .entry)) (now (done .entry))) ⌝ }
     {
         if self.opened {
             let site = self.site;
-            called(site.persistent(log, n))
+            called(site.persistent(log, queued, done, n))
         } else {
             self.refuse(Refusal::OutOfTurn)
         }
     }
 
     // `(stable N)`
-    pub fn stable(self, log: &[u8], n: u64) -> Turned
-        requires { ⌜ ValidSession self (now log) ⌝ }
-        ensures { λ r. ⌜ Turns self (now (log .entry)) (calling (Call.Stable n) (sessionView self (now (log .entry)))) r (now (log .entry)) ⌝ }
+    pub fn stable(self, log: &[u8], queued: &QueueWords, done: &mut DoneWords, n: u64) -> Turned
+        requires { ⌜ ValidSession self (lent (now log) (now queued) (now done)) ⌝ }
+        ensures { λ r. ⌜ TurnsCall self (lent (now (log .entry)) (now (queued .entry)) (now (done .entry))) (Call.Stable n) r
+            (lent (now (log .entry)) (now (queued .entry)) (now (done .exit))) ⌝ }
     {
         if self.opened {
             let site = self.site;
-            called(site.stable(log, n))
+            called(site.stable(log, queued, done, n))
         } else {
             self.refuse(Refusal::OutOfTurn)
         }
     }
 
     // `(withdraw ID)`
-    pub fn withdraw(self, log: &[u8], id: u64) -> Turned
-        requires { ⌜ ValidSession self (now log) ⌝ }
-        ensures { λ r. ⌜ Turns self (now (log .entry)) (calling (Call.Withdraw id) (sessionView self (now (log .entry)))) r (now (log .entry)) ⌝ }
+    pub fn withdraw(self, log: &[u8], queued: &mut QueueWords, done: &DoneWords, id: u64) -> Turned
+        requires { ⌜ ValidSession self (lent (now log) (now queued) (now done)) ⌝ }
+        ensures { λ r. ⌜ TurnsCall self (lent (now (log .entry)) (now (queued .entry)) (now (done .entry))) (Call.Withdraw id) r
+            (lent (now (log .entry)) (now (queued .exit)) (now (done .entry))) ⌝ }
     {
         if self.opened {
             let site = self.site;
-            called(site.withdraw(log, id))
+            called(site.withdraw(log, queued, done, id))
         } else {
             self.refuse(Refusal::OutOfTurn)
         }
     }
 
     // `(cut K)`
-    pub fn cut(self, log: &[u8], k: u64) -> Turned
-        requires { ⌜ ValidSession self (now log) ⌝ }
-        ensures { λ r. ⌜ Turns self (now (log .entry)) (calling (Call.Cut k (length (now (log .entry)))) (sessionView self (now (log .entry)))) r (now (log .entry)) ⌝ }
+    pub fn cut(self, log: &[u8], queued: &QueueWords, done: &DoneWords, k: u64) -> Turned
+        requires { ⌜ ValidSession self (lent (now log) (now queued) (now done)) ⌝ }
+        ensures { λ r. ⌜ TurnsCall self (lent (now (log .entry)) (now (queued .entry)) (now (done .entry))) (Call.Cut k (length (now (log .entry)))) r
+            (lent (now (log .entry)) (now (queued .entry)) (now (done .entry))) ⌝ }
     {
         if self.opened {
             let site = self.site;
-            called(site.cut(log, k))
+            called(site.cut(log, queued, done, k))
         } else {
             self.refuse(Refusal::OutOfTurn)
         }
     }
 
     // `(add ID (RULE H U O)...)`
-    pub fn add(self, log: &[u8], id: u64, asked: AskedHeld) -> Turned
-        requires { ⌜ ValidSession self (now log) ⌝ }
+    pub fn add(
+        self,
+        log: &[u8],
+        queued: &mut QueueWords,
+        done: &DoneWords,
+        id: u64,
+        asked: AskedHeld,
+    ) -> Turned
+        requires { ⌜ ValidSession self (lent (now log) (now queued) (now done)) ⌝ }
         ensures { λ r. ⌜ ((us : List Update) → asked ≡ heldUpdates us → T (all writableUpdate us) →
-            Turns self (now (log .entry)) (calling (Call.Add id us) (sessionView self (now (log .entry)))) r (now (log .entry))) ⌝ }
+            TurnsCall self (lent (now (log .entry)) (now (queued .entry)) (now (done .entry))) (Call.Add id us) r
+            (lent (now (log .entry)) (now (queued .exit)) (now (done .entry)))) ⌝ }
     {
         if self.opened {
             let site = self.site;
-            called(site.add(log, id, asked))
+            called(site.add(log, queued, done, id, asked))
         } else {
             self.refuse(Refusal::OutOfTurn)
         }
     }
 
     // `(finish ID)`
-    pub fn finish(self, log: &mut [u8], id: u64) -> Turned
-        requires { ⌜ ValidSession self (now log) ⌝ }
-        ensures { λ r. ⌜ Turns self (now (log .entry)) (calling (Call.Finish id) (sessionView self (now (log .entry)))) r (now (log .exit)) ⌝ }
+    pub fn finish(
+        self,
+        log: &mut [u8],
+        queued: &mut QueueWords,
+        done: &mut DoneWords,
+        id: u64,
+    ) -> Turned
+        requires { ⌜ ValidSession self (lent (now log) (now queued) (now done)) ⌝ }
+        ensures { λ r. ⌜ TurnsCall self (lent (now (log .entry)) (now (queued .entry)) (now (done .entry))) (Call.Finish id) r
+            (lent (now (log .exit)) (now (queued .exit)) (now (done .exit))) ⌝ }
     {
         if self.opened {
             let site = self.site;
-            called(site.finish(log, id))
+            called(site.finish(log, queued, done, id))
         } else {
             self.refuse(Refusal::OutOfTurn)
         }
     }
 
     // `(redo (did ID (RULE H U P O)...))`
-    pub fn redo(self, log: &mut [u8], d: DidLine) -> Turned
-        requires { ⌜ ValidSession self (now log) ⌝ }
+    pub fn redo(
+        self,
+        log: &mut [u8],
+        queued: &mut QueueWords,
+        done: &mut DoneWords,
+        d: DidLine,
+    ) -> Turned
+        requires { ⌜ ValidSession self (lent (now log) (now queued) (now done)) ⌝ }
         ensures { λ r. ⌜ ((did : Did) → d ≡ heldDid did → readDid (didText did) ≡ got did [] →
-            Turns self (now (log .entry)) (calling (Call.Redo (didText did)) (sessionView self (now (log .entry)))) r (now (log .exit))) ⌝ }
+            TurnsCall self (lent (now (log .entry)) (now (queued .entry)) (now (done .entry))) (Call.Redo (didText did)) r
+            (lent (now (log .exit)) (now (queued .exit)) (now (done .exit)))) ⌝ }
     {
         if self.opened {
             let site = self.site;
-            called(site.redo_did(log, d))
+            called(site.redo_did(log, queued, done, d))
         } else {
             self.refuse(Refusal::OutOfTurn)
         }
     }
 
     // `(site N)`: a refused opening hands back a site without histories.
-    pub fn open_site(self, log: &mut [u8], n: u64) -> Turned
-        requires { ⌜ ValidSession self (now log) ⌝ }
-        ensures { λ r. ⌜ Turns self (now (log .entry)) (opening (length (now (log .entry))) n (sessionView self (now (log .entry)))) r (now (log .exit)) ⌝ }
+    pub fn open_site(self, log: &mut [u8], queued: &QueueWords, done: &DoneWords, n: u64) -> Turned
+        requires { ⌜ ValidSession self (lent (now log) (now queued) (now done)) ⌝ }
+        ensures { λ r. ⌜ Turns self (lent (now (log .entry)) (now (queued .entry)) (now (done .entry))) (opening (length (now (log .entry))) n (sessionView self (lent (now (log .entry)) (now (queued .entry)) (now (done .entry))))) r (lent (now (log .exit)) (now (queued .entry)) (now (done .entry))) ⌝ }
     {
         if self.opened {
             return self.refuse(Refusal::OutOfTurn);
@@ -226,41 +257,54 @@ impl Session {
     }
 
     // What a form asks for.
-    pub fn obey(self, log: &mut [u8], c: CommandRead) -> Turned
-        requires { ⌜ ValidSession self (now log) ⌝ }
+    pub fn obey(
+        self,
+        log: &mut [u8],
+        queued: &mut QueueWords,
+        done: &mut DoneWords,
+        c: CommandRead,
+    ) -> Turned
+        requires { ⌜ ValidSession self (lent (now log) (now queued) (now done)) ⌝ }
         ensures { λ r. ⌜ ((us : List Update) (did : Did) → c .asked ≡ heldUpdates us → T (all writableUpdate us) → c .did ≡ heldDid did → readDid (didText did) ≡ got did [] →
-            Turns self (now (log .entry)) (obeyed (length (now (log .entry))) (c .form) us did (sessionView self (now (log .entry)))) r (now (log .exit))) ⌝ }
+            Turns self (lent (now (log .entry)) (now (queued .entry)) (now (done .entry))) (obeyed (length (now (log .entry))) (c .form) us did (sessionView self (lent (now (log .entry)) (now (queued .entry)) (now (done .entry))))) r (lent (now (log .exit)) (now (queued .exit)) (now (done .exit)))) ⌝ }
     {
         let form = c.form;
         let asked = c.asked;
         let did = c.did;
         match form {
             CommandForm::Bad => self.refuse(Refusal::Unreadable),
-            CommandForm::SiteOf(n) => self.open_site(log, n),
-            CommandForm::Add(i) => self.add(log, i, asked),
-            CommandForm::Finish(i) => self.finish(log, i),
-            CommandForm::Withdraw(i) => self.withdraw(log, i),
-            CommandForm::Persistent(n) => self.persistent(log, n),
-            CommandForm::Stable(n) => self.stable(log, n),
-            CommandForm::Show(h) => self.show(log, h),
-            CommandForm::Cut(k) => self.cut(log, k),
-            CommandForm::Redo => self.redo(log, did),
-            CommandForm::End => self.end(log),
+            CommandForm::SiteOf(n) => self.open_site(log, queued, done, n),
+            CommandForm::Add(i) => self.add(log, queued, done, i, asked),
+            CommandForm::Finish(i) => self.finish(log, queued, done, i),
+            CommandForm::Withdraw(i) => self.withdraw(log, queued, done, i),
+            CommandForm::Persistent(n) => self.persistent(log, queued, done, n),
+            CommandForm::Stable(n) => self.stable(log, queued, done, n),
+            CommandForm::Show(h) => self.show(log, queued, done, h),
+            CommandForm::Cut(k) => self.cut(log, queued, done, k),
+            CommandForm::Redo => self.redo(log, queued, done, did),
+            CommandForm::End => self.end(log, queued, done),
         }
     }
 
     // A line of the input, without its end.
-    pub fn turn(self, log: &mut [u8], line: &[u8]) -> Turned
-        requires { ⌜ ValidSession self (now log) ⌝ }
-        ensures { λ r. ⌜ Turns self (now (log .entry)) (turn (length (now (log .entry))) (now (line .entry)) (sessionView self (now (log .entry)))) r (now (log .exit)) ⌝ }
+    pub fn turn(
+        self,
+        log: &mut [u8],
+        queued: &mut QueueWords,
+        done: &mut DoneWords,
+        line: &[u8],
+    ) -> Turned
+        requires { ⌜ ValidSession self (lent (now log) (now queued) (now done)) ⌝ }
+        ensures { λ r. ⌜ TurnsLine self (lent (now (log .entry)) (now (queued .entry)) (now (done .entry))) (now (line .entry)) r
+            (lent (now (log .exit)) (now (queued .exit)) (now (done .exit))) ⌝ }
     {
         let c = read_command(line);
-        self.obey(log, c)
+        self.obey(log, queued, done, c)
     }
 
     // A session "before site".
     pub fn start() -> Session
-        ensures { λ r. ⌜ ((bytes : List ℕ) → Starts r bytes) ⌝ }
+        ensures { λ r. ⌜ ((m : Lent) → Starts r m) ⌝ }
     {
         Session {
             opened: false,
@@ -269,12 +313,19 @@ impl Session {
     }
 
     // A line of the input, without its end, and its reply, with its end, at the front of `out`.
-    pub fn answer(self, log: &mut [u8], line: &[u8], out: &mut [u8]) -> Answered
-        requires { ⌜ ValidSession self (now log) ⌝ }
-        ensures { λ r. ⌜ Answers self (now (log .entry)) (turn (length (now (log .entry))) (now (line .entry)) (sessionView self (now (log .entry))))
-            r (now (log .exit)) (now (out .entry)) (now (out .exit)) ⌝ }
+    pub fn answer(
+        self,
+        log: &mut [u8],
+        queued: &mut QueueWords,
+        done: &mut DoneWords,
+        line: &[u8],
+        out: &mut [u8],
+    ) -> Answered
+        requires { ⌜ ValidSession self (lent (now log) (now queued) (now done)) ⌝ }
+        ensures { λ r. ⌜ Answers self (lent (now (log .entry)) (now (queued .entry)) (now (done .entry))) (turn (length (now (log .entry))) (now (line .entry)) (sessionView self (lent (now (log .entry)) (now (queued .entry)) (now (done .entry)))))
+            r (lent (now (log .exit)) (now (queued .exit)) (now (done .exit))) (now (out .entry)) (now (out .exit)) ⌝ }
     {
-        let t = self.turn(log, line);
+        let t = self.turn(log, queued, done, line);
         let session = t.session;
         let reply = t.reply;
         let next = write_reply(out, 0, reply);

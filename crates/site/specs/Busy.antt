@@ -6,15 +6,13 @@ use lib.ListN.{drop}
 use Rattle.forms.specs.Lists.{any}
 use Rattle.rules.specs.State.{Operation, asks}
 use Rattle.history.specs.Entries.{operationOf}
-use Rattle.table.specs.declared.Queue.{Queue}
-use Rattle.table.specs.declared.DoneList.{DoneList}
-use Rattle.table.specs.Queues.{queueOf}
-use Rattle.table.specs.Dones.{doneOf, doneTouches}
+use Rattle.table.specs.Queues.{Queued, queueOf}
+use Rattle.table.specs.Dones.{Finished, doneOf, doneTouches}
 
 -- the operations in the queue, which has waiting lines while restoring
-abbrev pub operationsIn : Bool → Queue → List Operation
+abbrev pub operationsIn : Bool → Queued → List Operation
 operationsIn true q = []
 operationsIn false q = map operationOf (queueOf q)
 
-unfoldable pub busyIn : Bool → Queue → DoneList → ℕ → ℕ → Bool
+unfoldable pub busyIn : Bool → Queued → Finished → ℕ → ℕ → Bool
 busyIn restoring q l from h = any (asks h) (operationsIn restoring q) || any (doneTouches h) (drop from (doneOf l))

@@ -18,11 +18,9 @@ use Rattle.rules.specs.CheckLaws.{formed-changes}
 use Rattle.rules.specs.Good.{FormedDid}
 use Rattle.history.specs.declared.DoneEntry.{DoneEntry}
 use Rattle.history.specs.Entries.{doneEntryOf}
-use Rattle.table.specs.declared.Queue.{Queue}
-use Rattle.table.specs.declared.DoneList.{DoneList}
-use Rattle.table.specs.Queues.{queueOf}
+use Rattle.table.specs.Queues.{Queued, queueOf}
 use Rattle.table.specs.Tries.{operationsOf}
-use Rattle.table.specs.Dones.{doneOf, doneTouches}
+use Rattle.table.specs.Dones.{Finished, doneOf, doneTouches}
 use Rattle.table.specs.BookLaws.{touched-is, wet-is}
 use Rattle.site.specs.Busy.{operationsIn, busyIn}
 use Rattle.table.specs.Arrays.{Says}
@@ -56,12 +54,12 @@ joined-all r a b n le s = says-like false r (joinedTo n a b) _ s (λ h l. ap (λ
 
 -- ### Busy histories
 
-pub busy-restoring : (r : List Bool) (q : Queue) (l : DoneList) (from : ℕ) (restoring : Bool) → restoring ≡ true →
+pub busy-restoring : (r : List Bool) (q : Queued) (l : Finished) (from : ℕ) (restoring : Bool) → restoring ≡ true →
     Says false r (λ (h : ℕ). any (doneTouches h) (drop from (doneOf l))) → Says false r (busyIn restoring q l from)
 unfolding busyIn
 busy-restoring r q l from restoring e s = says-like false r _ (busyIn restoring q l from) s (λ h k. rw e refl)
 
-pub busy-working : (r pending volatile : List Bool) (q : Queue) (l : DoneList) (from : ℕ) (restoring : Bool) → restoring ≡ false →
+pub busy-working : (r pending volatile : List Bool) (q : Queued) (l : Finished) (from : ℕ) (restoring : Bool) → restoring ≡ false →
     Says false pending (λ (h : ℕ). any (asks h) (operationsOf (queueOf q))) → Says false volatile (λ (h : ℕ). any (doneTouches h) (drop from (doneOf l))) →
     Says false r (λ (h : ℕ). getD pending h false || getD volatile h false) → Says false r (busyIn restoring q l from)
 unfolding busyIn
@@ -69,7 +67,7 @@ busy-working r pending volatile q l from restoring e p v s =
     says-like false r _ (busyIn restoring q l from) s (λ h k. rw e (ap₂ _||_ (p .each h k) (v .each h k)))
 
 -- Busy is the opposite of dry, where the entries of the done operations are those of the log.
-pub busy-wet : (r : List Bool) (q : Queue) (l : DoneList) (from n : ℕ) (st : State) → operationsIn (st .restoring) q ≡ st .pending →
+pub busy-wet : (r : List Bool) (q : Queued) (l : Finished) (from n : ℕ) (st : State) → operationsIn (st .restoring) q ≡ st .pending →
     ((d : Did) → Mem d (st .log) → FormedDid n d) → doneOf l ≡ map doneEntryOf (liveDone st) → st .persistentTo ≡ st .stableTo + from →
     Says false r (busyIn (st .restoring) q l from) → Says false r (λ (h : ℕ). not (dry st h))
 unfolding busyIn liveDone

@@ -15,17 +15,15 @@ use Rattle.rules.specs.State.{State, Reply, refused, ok, withRestoring, withWai
 use Rattle.rules.specs.Calls.{Call, unless, writable, perform, step, end}
 use Rattle.history.specs.declared.Entry.{Entry}
 use Rattle.history.specs.Entries.{didOfEntry, operationOf}
-use Rattle.table.specs.declared.Queue.{Queue}
 use Rattle.table.specs.Lists.{IsNumbers}
-use Rattle.table.specs.Queues.{queueOf, IsQueue, idOf}
-use Rattle.site.specs.declared.Site.{Site}
-use Rattle.site.specs.Model.{view, waitingIn, Carries, Valid, Does}
-use Rattle.site.specs.ModelLaws.{step-performs, accepts-step, says-lists}
+use Rattle.table.specs.Queues.{Queued, queueOf, IsQueue, idOf}
+use Rattle.site.specs.Whole.{Whole, stateOf, waitingIn, Carries, Sound}
+use Rattle.site.specs.ModelLaws.{Accepts, step-performs, accepts-step, says-lists}
 use Rattle.site.specs.QueueLaws.{withQueue, withOpen, carries-queue}
 
-pub end-refused : (s : Site) (bytes : List ℕ) → s .restoring ≡ false → step Call.End (view s bytes) ≡ refused OutOfTurn
+pub end-refused : (s : Whole) (bytes : List ℕ) → s .restoring ≡ false → step Call.End (stateOf s bytes) ≡ refused OutOfTurn
 unfolding writable perform end check unless
-end-refused s bytes e = step-performs Call.End (view s bytes) refl ∙ rw e refl
+end-refused s bytes e = step-performs Call.End (stateOf s bytes) refl ∙ rw e refl
 
 -- the ids of the lines that wait
 dids-ids : (es : List Entry) → map (λ (d : Did). d .id) (map didOfEntry es) ≡ map idOf es
@@ -33,19 +31,19 @@ unfolding didOfEntry
 dids-ids [] = refl
 dids-ids (e ∷ es) = ap (λ (l : List ℕ). e .id ∷ l) (dids-ids es)
 
-pub end-accepted : (s : Site) (bytes : List ℕ) → s .restoring ≡ true →
-    step Call.End (view s bytes) ≡ ok (withOpen [] [] false (view s bytes)) (Ended (map idOf (queueOf (s .queue))))
+pub end-accepted : (s : Whole) (bytes : List ℕ) → s .restoring ≡ true →
+    step Call.End (stateOf s bytes) ≡ ok (withOpen [] [] false (stateOf s bytes)) (Ended (map idOf (queueOf (s .queue))))
 unfolding writable perform end check unless
 end-accepted s bytes e =
-    step-performs Call.End (view s bytes) refl
-    ∙ rw e (ap (λ (l : List ℕ). ok (withOpen [] [] false (view s bytes)) (Ended l)) (dids-ids (queueOf (s .queue))))
+    step-performs Call.End (stateOf s bytes) refl
+    ∙ rw e (ap (λ (l : List ℕ). ok (withOpen [] [] false (stateOf s bytes)) (Ended l)) (dids-ids (queueOf (s .queue))))
 
-pub end-does : (s : Site) (bytes : List ℕ) → Valid s bytes → s .restoring ≡ true → (q : Queue) → IsQueue q [] → (a b : Numbers) →
+pub end-does : (s : Whole) (bytes : List ℕ) → Sound s bytes → s .restoring ≡ true → (q : Queued) → IsQueue q [] → (a b : Numbers) →
     IsNumbers a (map idOf (queueOf (s .queue))) → IsNumbers b [] →
-    Does s bytes (step Call.End (view s bytes)) (record { site = withQueue q false 0 s; reply = record { form = ReplyForm.Ended; first = a; second = b } }) bytes
-unfolding Valid outcomeWith
+    Accepts bytes (step Call.End (stateOf s bytes)) (record { site = withQueue q false 0 s; reply = record { form = ReplyForm.Ended; first = a; second = b } }) bytes
+unfolding Sound outcomeWith
 end-does s bytes v e q empty a b ids none =
-    accepts-step s bytes Call.End (withOpen [] [] false (view s bytes)) (Ended (map idOf (queueOf (s .queue)))) _ bytes v (end-accepted s bytes e)
+    accepts-step s bytes Call.End (withOpen [] [] false (stateOf s bytes)) (Ended (map idOf (queueOf (s .queue)))) _ bytes v (end-accepted s bytes e)
     (says-lists _ (map idOf (queueOf (s .queue))) [] ids none)
-    (carries-queue s bytes (view s bytes) (v .carries) q false 0 [] [] (empty .usable) (ap (map operationOf) (empty .list)) refl refl)
+    (carries-queue s bytes (stateOf s bytes) (v .carries) q false 0 [] [] (empty .usable) (ap (map operationOf) (empty .list)) refl refl)
     refl

@@ -1,3 +1,4 @@
+pub mod Whole
 pub mod Model
 pub mod ModelLaws
 pub mod QueueLaws
@@ -11,10 +12,12 @@ pub mod ShowLaws
 pub mod EndLaws
 pub mod LineLaws
 pub mod Trim
+pub mod Seen
+pub mod SeenLaws
 pub mod AddLaws
 pub mod FinishLaws
 pub mod OpenLaws
 pub mod RestartLaws
 pub mod DrainLaws
-pub mod RedoLaws
 pub mod TrimLaws
+pub mod RedoLaws

@@ -1,87 +1,56 @@
--- The site and the bytes of its log as a state of the rule book, the invariant of the two, and what a call promises.
-use Prim.Native.Nat.{ℕ, _+_, _≤_, _<_}
+-- The site and what is lent to it as a state of the rule book, the invariant of the two, and what a call promises.
+use Prim.Native.Nat.{ℕ, _≤_}
 use mathlib.Core.Path.{_≡_}
-use mathlib.Core.Bool.{Bool, true, false, cond}
-use mathlib.Core.List.{List, [], _∷_, _++_, map}
-use lib.ListN.{length, take, drop, getD, replicate}
-use Rattle.forms.specs.Lists.{sum}
-use Rattle.forms.specs.Forms.{Did, Outcome, Refused, Accepted, Answer}
+use mathlib.Core.List.{List}
+use lib.ListN.{length, drop}
+use Rattle.forms.specs.Forms.{Outcome, Refused, Accepted, Answer}
 use Rattle.forms.specs.Held.{outcomeOf}
 use Rattle.forms.specs.declared.Refusal.{Refusal}
 use Rattle.forms.specs.declared.ReplyLine.{ReplyLine}
 use Rattle.forms.specs.declared.Numbers.{Numbers}
-use Rattle.rules.specs.Book.{cell}
-use Rattle.rules.specs.Log.{Journal, journal, noJournal, readLog}
-use Rattle.rules.specs.State.{Operation, State, Reply, refused, ok, logBytes, versionAt, liveDone, lineBytes}
-use Rattle.rules.specs.Good.{Good}
-use Rattle.history.specs.Entries.{cellsOf, operationOf, didOfEntry, doneEntryOf, noHistory}
-use Rattle.table.specs.Queues.{queueOf, UsableQueue}
-use Rattle.table.specs.Dones.{IsDone}
+use Rattle.rules.specs.State.{State, Reply, refused, ok}
+use Rattle.rules.specs.Calls.{Call, step}
+use Rattle.table.specs.Slots.{stored, storedDone}
 use Rattle.site.specs.declared.Site.{Site}
 use Rattle.site.specs.declared.Called.{Called}
+use Rattle.site.specs.Whole.{Whole, stateOf, Sound}
 
--- ### The site as a state
+-- ### What is lent
 
--- what stands in the queue: operations that are not done, or lines that wait
-abbrev pub pendingIn : Bool → Site → List Operation
-pendingIn true s = []
-pendingIn false s = map operationOf (queueOf (s .queue))
+-- What is lent to a call of a site: the buffer of its log, and the words of its queue and of its done operations.
+pub record Lent : Type 0 where
+  pub log : List ℕ
+  pub queue : List ℕ
+  pub done : List ℕ
 
-abbrev pub waitingIn : Bool → Site → List Did
-waitingIn true s = map didOfEntry (queueOf (s .queue))
-waitingIn false s = []
+abbrev pub lent : List ℕ → List ℕ → List ℕ → Lent
+lent log queue done = record { log = log; queue = queue; done = done }
 
-abbrev pub didsIn : Journal → List Did
-didsIn (journal n log) = log
-didsIn noJournal = []
-
--- The state that a site and the bytes of its log buffer are: the log is read off the bytes in use.
-abbrev pub view : Site → List ℕ → State
-view s bytes =
+-- The site with the entries that stand in what is lent.
+abbrev pub whole : Site → Lent → Whole
+whole s m =
     record {
-      histories = s .count;
-      room = length bytes;
-      log = didsIn (readLog (take (s .used) bytes));
-      pending = pendingIn (s .restoring) s;
-      waiting = waitingIn (s .restoring) s;
-      persistentTo = s .persistent .0;
-      stableTo = s .stable .0;
+      count = s .count;
+      used = s .used;
+      done = s .done;
+      persistent = s .persistent;
+      stable = s .stable;
       restoring = s .restoring;
+      reserved = s .reserved;
+      histories = s .histories;
+      persisted = s .persisted;
+      stabilised = s .stabilised;
+      queue = stored (s .queue) (m .queue);
+      finished = storedDone (s .finished) (m .done);
     }
 
--- ### The invariant
+-- The state that a site and what is lent to it are.
+abbrev pub view : Site → Lent → State
+view s m = stateOf (whole s m) (m .log)
 
--- The site carries the parts of the state st, whose log stands in the first bytes of the buffer.
-pub record Carries (s : Site) (bytes : List ℕ) (st : State) : Type 0 where
-  pub within : s .used ≤ length bytes
-  pub text : take (s .used) bytes ≡ logBytes st
-  pub count : s .count ≡ st .histories
-  pub room : length bytes ≡ st .room
-  pub done : s .done .0 ≡ length (st .log)
-  pub persistent : s .persistent .0 ≡ st .persistentTo
-  pub stable : s .stable .0 ≡ st .stableTo
-  pub restoring : s .restoring ≡ st .restoring
-  pub pending : pendingIn (s .restoring) s ≡ st .pending
-  pub waiting : waitingIn (s .restoring) s ≡ st .waiting
-  pub reserved : s .reserved ≡ sum lineBytes (st .waiting)
-  pub historiesLong : length (s .histories) ≡ 16
-  pub book : (h : ℕ) → h < 16 → cellsOf (s .histories) h ≡ cell h (st .log)
-  pub persistedLong : length (s .persisted) ≡ 16
-  pub persisted : (h : ℕ) → h < 16 → getD (s .persisted) h 0 ≡ versionAt (st .persistentTo) h st
-  pub stabilisedLong : length (s .stabilised) ≡ 16
-  pub stabilised : (h : ℕ) → h < 16 → getD (s .stabilised) h 0 ≡ versionAt (st .stableTo) h st
-  pub usable : UsableQueue (s .queue)
-  -- done operations that are not yet stable, in log order
-  pub finished : IsDone (s .finished) (map doneEntryOf (liveDone st))
-
--- The site holds the state st: it carries its parts, and st is one that calls reach.
-pub record Holds (s : Site) (bytes : List ℕ) (st : State) : Type 0 where
-  pub carries : Carries s bytes st
-  pub good : Good st
-
--- The invariant of a site and its log buffer: opening and restart establish it, and every call keeps it.
-unfoldable pub Valid : Site → List ℕ → Type 0
-Valid s bytes = Holds s bytes (view s bytes)
+-- The invariant of a site and what is lent to it: opening and restart establish it, and every call keeps it.
+abbrev pub Valid : Site → Lent → Type 0
+Valid s m = Sound (whole s m) (m .log)
 
 -- ### What a call promises
 
@@ -99,20 +68,24 @@ pub record Says (r : ReplyLine) (o : Outcome) : Type 0 where
   pub outcome : outcomeOf r ≡ o
   pub printable : Printable r
 
--- "A refusal returns its number only; site, log .. do not change."
-pub record RefusedAs (s : Site) (old : List ℕ) (q : Refusal) (r : Called) (new : List ℕ) : Type 0 where
+-- "A refusal returns its number only; site, log .. and all other lent buffers do not change."
+pub record RefusedAs (s : Site) (old : Lent) (q : Refusal) (r : Called) (new : Lent) : Type 0 where
   pub answer : Says (r .reply) (Refused q)
   pub site : r .site ≡ s
-  pub bytes : new ≡ old
+  pub kept : new ≡ old
 
 -- "An accepted call alters no byte of a lent buffer past those in use".
-pub record AcceptedAs (old : List ℕ) (st : State) (a : Answer) (r : Called) (new : List ℕ) : Type 0 where
+pub record AcceptedAs (old : Lent) (st : State) (a : Answer) (r : Called) (new : Lent) : Type 0 where
   pub answer : Says (r .reply) (Accepted a)
   pub valid : Valid (r .site) new
   pub state : view (r .site) new ≡ st
-  pub past : drop (r .site .used) new ≡ drop (r .site .used) old
+  pub past : drop (r .site .used) (new .log) ≡ drop (r .site .used) (old .log)
 
--- A call of the site s, whose log buffer was `old` and is `new` after it, does what the rule book replies.
-abbrev pub Does : Site → List ℕ → Reply → Called → List ℕ → Type 0
+-- A call of the site s, to which `old` was lent and is `new` after it, does what the rule book replies.
+abbrev pub Does : Site → Lent → Reply → Called → Lent → Type 0
 Does s old (refused q) r new = RefusedAs s old q r new
 Does s old (ok st a) r new = AcceptedAs old st a r new
+
+-- .. of this call
+abbrev pub Steps : Site → Lent → Call → Called → Lent → Type 0
+Steps s old c r new = Does s old (step c (view s old)) r new

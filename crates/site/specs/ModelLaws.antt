@@ -18,7 +18,8 @@ use Rattle.rules.specs.Good.{Good}
 use Rattle.table.specs.Lists.{IsNumbers}
 use Rattle.site.specs.declared.Site.{Site}
 use Rattle.site.specs.declared.Called.{Called}
-use Rattle.site.specs.Model.{view, didsIn, pendingIn, waitingIn, Carries, Holds, Valid, Few, Printable, Says, AcceptedAs, RefusedAs, Does}
+use Rattle.site.specs.Whole.{Whole, stateOf, didsIn, Carries, Holds, Sound}
+use Rattle.site.specs.Model.{Lent, lent, whole, Says, Does}
 
 -- ### Replies
 
@@ -34,14 +35,14 @@ says-lists r xs ys a b =
 -- ### What a site holds
 
 -- The log that the bytes in use say.
-pub log-is : (s : Site) (bytes : List ℕ) (st : State) → Holds s bytes st → didsIn (readLog (take (s .used) bytes)) ≡ st .log
+pub log-is : (s : Whole) (bytes : List ℕ) (st : State) → Holds s bytes st → didsIn (readLog (take (s .used) bytes)) ≡ st .log
 unfolding logBytes
 log-is s bytes st h =
     ap (λ (b : List ℕ). didsIn (readLog b)) (h .carries .text)
     ∙ ap didsIn (read-printed (st .histories) (st .log) (h .good .histories) (h .good .formed) (h .good .ran))
 
 -- What a site holds is its view.
-pub view-is : (s : Site) (bytes : List ℕ) (st : State) → Holds s bytes st → view s bytes ≡ st
+pub view-is : (s : Whole) (bytes : List ℕ) (st : State) → Holds s bytes st → stateOf s bytes ≡ st
 view-is s bytes st h =
     λ i. record {
       histories = c .count i;
@@ -58,28 +59,57 @@ view-is s bytes st h =
     c = h .carries
 
 -- A site that holds a state is valid.
-pub valid-is : (s : Site) (bytes : List ℕ) (st : State) → Holds s bytes st → Valid s bytes
-unfolding Valid
+pub valid-is : (s : Whole) (bytes : List ℕ) (st : State) → Holds s bytes st → Sound s bytes
+unfolding Sound
 valid-is s bytes st h = subst (Holds s bytes) (sym (view-is s bytes st h)) h
-
--- An accepted call: the site after it holds the rule book's next state.
-pub accepted-as : (old : List ℕ) (st : State) (a : Answer) (r : Called) (new : List ℕ) →
-    Says (r .reply) (Accepted a) → Holds (r .site) new st → drop (r .site .used) new ≡ drop (r .site .used) old →
-    AcceptedAs old st a r new
-accepted-as old st a r new answer h past =
-    record { answer = answer; valid = valid-is (r .site) new st h; state = view-is (r .site) new st h; past = past }
 
 -- ### What a call does
 
--- A call that the rule book refuses: site and log are the very ones that came in.
-pub refuses : (s : Site) (old : List ℕ) (reply : Reply) (q : Refusal) (r : Called) → reply ≡ refused q → Says (r .reply) (Refused q) → r .site ≡ s →
+-- A site with its tables after a call, and the reply.
+pub record Taken : Type 0 where
+  pub site : Whole
+  pub reply : ReplyLine
+
+-- A call that the rule book accepts: the site after it is sound and has the next state, and the bytes past those in use are as before.
+pub record Accepts (old : List ℕ) (x : Reply) (r : Taken) (new : List ℕ) : Type 0 where
+  pub next : State
+  pub answer : Answer
+  pub accepted : x ≡ ok next answer
+  pub says : Says (r .reply) (Accepted answer)
+  pub sound : Sound (r .site) new
+  pub state : stateOf (r .site) new ≡ next
+  pub past : drop (r .site .used) new ≡ drop (r .site .used) old
+
+-- .. and so it does what the rule book replies.
+pub does : (s : Site) (old : Lent) (x : Reply) (r : Called) (new : Lent) → Accepts (old .log) x (record { site = whole (r .site) new; reply = r .reply }) (new .log) →
+    Does s old x r new
+does s old x r new a =
+    subst (λ (y : Reply). Does s old y r new) (sym (a .accepted)) (record { answer = a .says; valid = a .sound; state = a .state; past = a .past })
+
+-- A call that the rule book refuses: site and all that is lent are the very ones that came in.
+pub refuses : (s : Site) (old : Lent) (reply : Reply) (q : Refusal) (r : Called) → reply ≡ refused q → Says (r .reply) (Refused q) → r .site ≡ s →
     Does s old reply r old
-refuses s old reply q r e says same = subst (λ (x : Reply). Does s old x r old) (sym e) (record { answer = says; site = same; bytes = refl })
+refuses s old reply q r e says same = subst (λ (x : Reply). Does s old x r old) (sym e) (record { answer = says; site = same; kept = refl })
+
+-- .. the log too, where the writer found no room
+pub refuses-full : (s : Site) (old : Lent) (new : List ℕ) (reply : Reply) (q : Refusal) (r : Called) → reply ≡ refused q → new ≡ old .log →
+    Says (r .reply) (Refused q) → r .site ≡ s → Does s old reply r (lent new (old .queue) (old .done))
+refuses-full s old new reply q r e f says same =
+    subst (λ (b : List ℕ). Does s old reply r (lent b (old .queue) (old .done))) (sym f) (refuses s old reply q r e says same)
 
 -- A call that the rule book accepts: the site after it holds the next state.
-pub accepts : (s : Site) (old : List ℕ) (reply : Reply) (st : State) (a : Answer) (r : Called) (new : List ℕ) → reply ≡ ok st a →
-    Says (r .reply) (Accepted a) → Holds (r .site) new st → drop (r .site .used) new ≡ drop (r .site .used) old → Does s old reply r new
-accepts s old reply st a r new e says h past = subst (λ (x : Reply). Does s old x r new) (sym e) (accepted-as old st a r new says h past)
+pub accepts : (old : List ℕ) (reply : Reply) (st : State) (a : Answer) (r : Taken) (new : List ℕ) → reply ≡ ok st a →
+    Says (r .reply) (Accepted a) → Holds (r .site) new st → drop (r .site .used) new ≡ drop (r .site .used) old → Accepts old reply r new
+accepts old reply st a r new e says h past =
+    record {
+      next = st;
+      answer = a;
+      accepted = e;
+      says = says;
+      sound = valid-is (r .site) new st h;
+      state = view-is (r .site) new st h;
+      past = past;
+    }
 
 -- A call whose numbers can be written is performed.
 pub step-performs : (c : Call) (st : State) → writable c ≡ true → step c st ≡ perform c st
@@ -87,11 +117,11 @@ unfolding step check unless
 step-performs c st e = rw e refl
 
 -- A call that is accepted: the site after it carries the next state, which the rule book's laws make good.
-pub accepts-step : (s : Site) (old : List ℕ) (c : Call) (st : State) (a : Answer) (r : Called) (new : List ℕ) → Valid s old → step c (view s old) ≡ ok st a →
-    Says (r .reply) (Accepted a) → Carries (r .site) new st → drop (r .site .used) new ≡ drop (r .site .used) old → Does s old (step c (view s old)) r new
-unfolding Valid settle
+pub accepts-step : (s : Whole) (old : List ℕ) (c : Call) (st : State) (a : Answer) (r : Taken) (new : List ℕ) → Sound s old → step c (stateOf s old) ≡ ok st a →
+    Says (r .reply) (Accepted a) → Carries (r .site) new st → drop (r .site .used) new ≡ drop (r .site .used) old → Accepts old (step c (stateOf s old)) r new
+unfolding Sound settle
 accepts-step s old c st a r new v e says carries past =
-    accepts s old (step c (view s old)) st a r new e says (record { carries = carries; good = good }) past
+    accepts old (step c (stateOf s old)) st a r new e says (record { carries = carries; good = good }) past
   where
     good : Good st
-    good = subst (λ (x : Reply). Good (settle x (view s old))) e (good-step c (view s old) (v .good))
+    good = subst (λ (x : Reply). Good (settle x (stateOf s old))) e (good-step c (stateOf s old) (v .good))

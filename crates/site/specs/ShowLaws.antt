@@ -21,51 +21,50 @@ use Rattle.rules.specs.LogLaws.{histories-most}
 use Rattle.rules.specs.Calls.{Call, unless, writable, perform, step, show}
 use Rattle.table.specs.Lists.{IsNumbers}
 use Rattle.history.specs.Entries.{cellsOf, noHistory}
-use Rattle.site.specs.declared.Site.{Site}
-use Rattle.site.specs.Model.{view, Carries, Holds, Valid, Does}
+use Rattle.site.specs.Whole.{Whole, stateOf, Carries, Holds, Sound}
 use Rattle.site.specs.declared.Called.{Called}
-use Rattle.site.specs.ModelLaws.{step-performs, accepts, says-lists}
+use Rattle.site.specs.ModelLaws.{Accepts, step-performs, accepts, says-lists}
 
 -- There are at most sixteen histories.
-pub count-most : (s : Site) (bytes : List ℕ) → Valid s bytes → s .count ≤ 16
-unfolding Valid
+pub count-most : (s : Whole) (bytes : List ℕ) → Sound s bytes → s .count ≤ 16
+unfolding Sound
 count-most s bytes v = histories-most (s .count) (v .good .histories)
 
 pub show-performs : (h : ℕ) (st : State) → h ≤ top → step (Call.Show h) st ≡ show h st
 unfolding writable perform
 show-performs h st le = step-performs (Call.Show h) st (le-leb h top le)
 
-pub show-refused : (s : Site) (bytes : List ℕ) (h : ℕ) → h ≤ top → s .count ≤ h → step (Call.Show h) (view s bytes) ≡ refused NoSuchHistory
+pub show-refused : (s : Whole) (bytes : List ℕ) (h : ℕ) → h ≤ top → s .count ≤ h → step (Call.Show h) (stateOf s bytes) ≡ refused NoSuchHistory
 unfolding show check unless
-show-refused s bytes h le past = show-performs h (view s bytes) le ∙ rw (le-leb (s .count) h past) refl
+show-refused s bytes h le past = show-performs h (stateOf s bytes) le ∙ rw (le-leb (s .count) h past) refl
 
 -- What the site holds of history h is what the rule book shows of it.
-pub show-accepted : (s : Site) (bytes : List ℕ) (h : ℕ) → Valid s bytes → h ≤ top → h < s .count →
-    step (Call.Show h) (view s bytes)
-    ≡ ok (view s bytes)
+pub show-accepted : (s : Whole) (bytes : List ℕ) (h : ℕ) → Sound s bytes → h ≤ top → h < s .count →
+    step (Call.Show h) (stateOf s bytes)
+    ≡ ok (stateOf s bytes)
     (Shown h (cellsOf (s .histories) h .version) (getD (s .persisted) h 0) (getD (s .stabilised) h 0) (cellsOf (s .histories) h .place) (cellsOf (s .histories) h .profile))
-unfolding show check unless Valid
+unfolding show check unless Sound
 show-accepted s bytes h v le below =
-    show-performs h (view s bytes) le
-    ∙ rw (lt-leb (s .count) h below) (λ i. ok (view s bytes) (Shown h (now-h i .version) (persisted i) (stabilised i) (now-h i .place) (now-h i .profile)))
+    show-performs h (stateOf s bytes) le
+    ∙ rw (lt-leb (s .count) h below) (λ i. ok (stateOf s bytes) (Shown h (now-h i .version) (persisted i) (stabilised i) (now-h i .place) (now-h i .profile)))
   where
-    c : Carries s bytes (view s bytes)
+    c : Carries s bytes (stateOf s bytes)
     c = v .carries
 
     few : h < 16
     few = let m = histories-most (s .count) (v .good .histories) in omega arith
 
-    now-h : cell h (view s bytes .log) ≡ cellsOf (s .histories) h
+    now-h : cell h (stateOf s bytes .log) ≡ cellsOf (s .histories) h
     now-h = sym (c .book h few)
 
-    persisted : versionAt (s .persistent .0) h (view s bytes) ≡ getD (s .persisted) h 0
+    persisted : versionAt (s .persistent .0) h (stateOf s bytes) ≡ getD (s .persisted) h 0
     persisted = sym (c .persisted h few)
 
-    stabilised : versionAt (s .stable .0) h (view s bytes) ≡ getD (s .stabilised) h 0
+    stabilised : versionAt (s .stable .0) h (stateOf s bytes) ≡ getD (s .stabilised) h 0
     stabilised = sym (c .stabilised h few)
 
 -- the reply that shows history h of a site
-abbrev pub shownOf : Site → ℕ → Numbers → Numbers → ReplyLine
+abbrev pub shownOf : Whole → ℕ → Numbers → Numbers → ReplyLine
 shownOf s h a b =
     record {
       form = ReplyForm.Shows (record {
@@ -80,11 +79,11 @@ shownOf s h a b =
       second = b;
     }
 
-pub show-does : (s : Site) (bytes : List ℕ) (h : ℕ) → Valid s bytes → h ≤ top → h < s .count → (a b : Numbers) → IsNumbers a [] → IsNumbers b [] →
-    Does s bytes (step (Call.Show h) (view s bytes)) (record { site = s; reply = shownOf s h a b }) bytes
-unfolding outcomeWith Valid
+pub show-does : (s : Whole) (bytes : List ℕ) (h : ℕ) → Sound s bytes → h ≤ top → h < s .count → (a b : Numbers) → IsNumbers a [] → IsNumbers b [] →
+    Accepts bytes (step (Call.Show h) (stateOf s bytes)) (record { site = s; reply = shownOf s h a b }) bytes
+unfolding outcomeWith Sound
 show-does s bytes h v le below a b none-a none-b =
-    accepts s bytes (step (Call.Show h) (view s bytes)) (view s bytes)
+    accepts bytes (step (Call.Show h) (stateOf s bytes)) (stateOf s bytes)
     (Shown h (cellsOf (s .histories) h .version) (getD (s .persisted) h 0) (getD (s .stabilised) h 0) (cellsOf (s .histories) h .place) (cellsOf (s .histories) h .profile))
     (record { site = s; reply = shownOf s h a b }) bytes (show-accepted s bytes h v le below)
     (says-lists (shownOf s h a b) [] [] none-a none-b) v refl

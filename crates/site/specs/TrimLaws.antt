@@ -27,7 +27,7 @@ use Rattle.rules.specs.Checks.{check, andThen, wrongCount, noSuchHistory, histo
 use Rattle.rules.specs.State.{State, Reply, refused}
 use Rattle.rules.specs.Calls.{Call, writableUpdate, unless, step, add, addRefusal, redoRefusal, delivered}
 use Rattle.site.specs.Trim.{padded, updatesHeld, changesHeld, didHeld, redoOf, Stands}
-use Rattle.site.specs.AddLaws.{Asks, add-performs}
+use Rattle.site.specs.AddLaws.{add-performs}
 
 -- ### What stands in the places
 
@@ -166,10 +166,6 @@ update-writable u w =
 
 pub updates-writable : (us : List Update) → Each WritableUpdate us → T (all writableUpdate us)
 updates-writable us w = all-of writableUpdate us (λ u m. update-writable u (w u m))
-
--- What was trimmed is held of some list.
-pub trimmed-asks : (us : List Update) (a : AskedHeld) → Stands heldUpdates (Each WritableUpdate) us a → Asks a
-trimmed-asks us a s = record { updates = us; held = s .is; writable = updates-writable us (s .writable) }
 
 -- ### What is held of a list is as good as the list
 

@@ -18,18 +18,16 @@ use Rattle.rules.specs.Checks.{check}
 use Rattle.rules.specs.State.{State, refused, ok, liveDone, dry, becameDry, withPending}
 use Rattle.rules.specs.Calls.{Call, unless, writable, perform, step, without, withdrawRefusal, withdraw}
 use Rattle.rules.specs.Good.{operationIds, didIds}
-use Rattle.table.specs.declared.Queue.{Queue}
 use Rattle.table.specs.declared.Found.the-variants.{At, Nothing}
 use Rattle.table.specs.Lists.{IsNumbers, firstAt}
 use Rattle.table.specs.Arrays.{Says, ceases}
-use Rattle.table.specs.Queues.{queueOf, UsableQueue, IsQueue, isEntry, pastEntry}
+use Rattle.table.specs.Queues.{Queued, queueOf, UsableQueue, IsQueue, isEntry, pastEntry}
 use Rattle.table.specs.QueueLaws.{queue-length}
 use Rattle.table.specs.Tries.{operationsOf}
 use Rattle.table.specs.FindLaws.{first-found, any-future, no-future, without-is}
 use Rattle.table.specs.BookLaws.{became-dry-is}
-use Rattle.site.specs.declared.Site.{Site}
-use Rattle.site.specs.Model.{view, pendingIn, waitingIn, Valid, Does}
-use Rattle.site.specs.ModelLaws.{step-performs, accepts-step, says-lists}
+use Rattle.site.specs.Whole.{Whole, stateOf, pendingIn, waitingIn, Sound}
+use Rattle.site.specs.ModelLaws.{Accepts, step-performs, accepts-step, says-lists}
 use Rattle.site.specs.QueueLaws.{withQueue, carries-queue}
 use Rattle.site.specs.Busy.{busyIn}
 use Rattle.site.specs.BusyLaws.{busy-wet}
@@ -39,45 +37,45 @@ withdraw-performs : (i : ℕ) (st : State) → i ≤ top → step (Call.Withdraw
 unfolding writable perform
 withdraw-performs i st le = step-performs (Call.Withdraw i) st (le-leb i top le)
 
-pub withdraw-refused-turn : (s : Site) (bytes : List ℕ) (i : ℕ) → i ≤ top → s .restoring ≡ true → step (Call.Withdraw i) (view s bytes) ≡ refused OutOfTurn
+pub withdraw-refused-turn : (s : Whole) (bytes : List ℕ) (i : ℕ) → i ≤ top → s .restoring ≡ true → step (Call.Withdraw i) (stateOf s bytes) ≡ refused OutOfTurn
 unfolding withdraw withdrawRefusal check unless
-withdraw-refused-turn s bytes i le e = withdraw-performs i (view s bytes) le ∙ rw e refl
+withdraw-refused-turn s bytes i le e = withdraw-performs i (stateOf s bytes) le ∙ rw e refl
 
-pub withdraw-refused-state : (s : Site) (bytes : List ℕ) (i : ℕ) → i ≤ top → s .restoring ≡ false → firstAt (isEntry i false) (queueOf (s .queue)) ≡ Nothing →
-    step (Call.Withdraw i) (view s bytes) ≡ refused WrongState
+pub withdraw-refused-state : (s : Whole) (bytes : List ℕ) (i : ℕ) → i ≤ top → s .restoring ≡ false → firstAt (isEntry i false) (queueOf (s .queue)) ≡ Nothing →
+    step (Call.Withdraw i) (stateOf s bytes) ≡ refused WrongState
 unfolding withdraw withdrawRefusal check unless
-withdraw-refused-state s bytes i le e nothing = withdraw-performs i (view s bytes) le ∙ rw (e, no-future i (queueOf (s .queue)) nothing) refl
+withdraw-refused-state s bytes i le e nothing = withdraw-performs i (stateOf s bytes) le ∙ rw (e, no-future i (queueOf (s .queue)) nothing) refl
 
 -- the state after it
-abbrev pub withdrawnFrom : ℕ → Site → List ℕ → State
-withdrawnFrom i s bytes = withPending (without i (pendingIn (s .restoring) s)) (view s bytes)
+abbrev pub withdrawnFrom : ℕ → Whole → List ℕ → State
+withdrawnFrom i s bytes = withPending (without i (pendingIn (s .restoring) s)) (stateOf s bytes)
 
-withdraw-accepted : (s : Site) (bytes : List ℕ) (i k : ℕ) → i ≤ top → s .restoring ≡ false → firstAt (isEntry i false) (queueOf (s .queue)) ≡ At k →
-    step (Call.Withdraw i) (view s bytes) ≡ ok (withdrawnFrom i s bytes) (Withdrawn (becameDry (view s bytes) (withdrawnFrom i s bytes)))
+withdraw-accepted : (s : Whole) (bytes : List ℕ) (i k : ℕ) → i ≤ top → s .restoring ≡ false → firstAt (isEntry i false) (queueOf (s .queue)) ≡ At k →
+    step (Call.Withdraw i) (stateOf s bytes) ≡ ok (withdrawnFrom i s bytes) (Withdrawn (becameDry (stateOf s bytes) (withdrawnFrom i s bytes)))
 unfolding withdraw withdrawRefusal check unless
-withdraw-accepted s bytes i k le e found = withdraw-performs i (view s bytes) le ∙ rw (e, any-future i (queueOf (s .queue)) k found) refl
+withdraw-accepted s bytes i k le e found = withdraw-performs i (stateOf s bytes) le ∙ rw (e, any-future i (queueOf (s .queue)) k found) refl
 
 -- An entry that was found stands in the queue.
-pub found-below : (q : Queue) → UsableQueue q → (i : ℕ) (running : Bool) (k : ℕ) → firstAt (isEntry i running) (queueOf q) ≡ At k → k < q .count
+pub found-below : (q : Queued) → UsableQueue q → (i : ℕ) (running : Bool) (k : ℕ) → firstAt (isEntry i running) (queueOf q) ≡ At k → k < q .count
 found-below q u i running k found = omega (arith, queue-length q u, first-found (isEntry i running) pastEntry (queueOf q) k found .lt)
 
 -- The volatile operations are some of those that are done and not yet stable.
-pub volatile-few : (s : Site) (bytes : List ℕ) → Valid s bytes → s .persistent .0 - s .stable .0 ≤ s .finished .count
+pub volatile-few : (s : Whole) (bytes : List ℕ) → Sound s bytes → s .persistent .0 - s .stable .0 ≤ s .finished .count
 volatile-few s bytes v = let m = marked s bytes v in omega (arith, m .stable, m .persistent, m .finished)
 
-module _ (s : Site) (bytes : List ℕ) (i k : ℕ) (v : Valid s bytes) (le : i ≤ top) (e : s .restoring ≡ false)
+module _ (s : Whole) (bytes : List ℕ) (i k : ℕ) (v : Sound s bytes) (le : i ≤ top) (e : s .restoring ≡ false)
     (found : firstAt (isEntry i false) (queueOf (s .queue)) ≡ At k)
-    (left : Queue) (before after : List Bool) (a b : Numbers)
+    (left : Queued) (before after : List Bool) (a b : Numbers)
     (removed : IsQueue left (take k (queueOf (s .queue)) ++ drop (k + 1) (queueOf (s .queue))))
     (was : Says false before (busyIn (s .restoring) (s .queue) (s .finished) (s .persistent .0 - s .stable .0)))
     (is : Says false after (busyIn (s .restoring) left (s .finished) (s .persistent .0 - s .stable .0)))
     (dried : IsNumbers a (keep (ceases before after) (below (s .count)))) (none : IsNumbers b []) where
   -- the ids of the operations are distinct
   once : Nodup (operationIds (operationsOf (queueOf (s .queue))))
-  unfolding Valid
+  unfolding Sound
   once =
       subst (λ (r : Bool). Nodup (operationIds (pendingIn r s))) e
-      (nodup-right (didIds (view s bytes .waiting)) _ (nodup-right (didIds (liveDone (view s bytes))) _ (v .good .ids)))
+      (nodup-right (didIds (stateOf s bytes .waiting)) _ (nodup-right (didIds (liveDone (stateOf s bytes))) _ (v .good .ids)))
 
   -- the queue that is left has the operations without that one
   left-is : operationsOf (queueOf left) ≡ without i (operationsOf (queueOf (s .queue)))
@@ -86,31 +84,31 @@ module _ (s : Site) (bytes : List ℕ) (i k : ℕ) (v : Valid s bytes) (le : i �
   from-is : s .persistent .0 ≡ s .stable .0 + (s .persistent .0 - s .stable .0)
   from-is = let m = marked s bytes v in omega (arith, m .stable)
 
-  wet-before : Says false before (λ (h : ℕ). not (dry (view s bytes) h))
-  unfolding Valid
+  wet-before : Says false before (λ (h : ℕ). not (dry (stateOf s bytes) h))
+  unfolding Sound
   wet-before =
-      busy-wet before (s .queue) (s .finished) _ (s .count) (view s bytes) (rw e refl) (v .good .formed) (v .carries .finished .list) from-is was
+      busy-wet before (s .queue) (s .finished) _ (s .count) (stateOf s bytes) (rw e refl) (v .good .formed) (v .carries .finished .list) from-is was
 
   wet-after : Says false after (λ (h : ℕ). not (dry (withdrawnFrom i s bytes) h))
-  unfolding Valid liveDone
+  unfolding Sound liveDone
   wet-after =
       busy-wet after left (s .finished) _ (s .count) (withdrawnFrom i s bytes) (rw e left-is) (v .good .formed) (v .carries .finished .list) from-is is
 
-  pub withdraw-does : Does s bytes (step (Call.Withdraw i) (view s bytes))
+  pub withdraw-does : Accepts bytes (step (Call.Withdraw i) (stateOf s bytes))
       (record {
         site = withQueue left (s .restoring) (s .reserved) s;
         reply = record { form = ReplyForm.Withdrawn; first = a; second = b };
       }) bytes
-  unfolding Valid outcomeWith
+  unfolding Sound outcomeWith
   withdraw-does =
-      accepts-step s bytes (Call.Withdraw i) (withdrawnFrom i s bytes) (Withdrawn (becameDry (view s bytes) (withdrawnFrom i s bytes))) _ bytes v
+      accepts-step s bytes (Call.Withdraw i) (withdrawnFrom i s bytes) (Withdrawn (becameDry (stateOf s bytes) (withdrawnFrom i s bytes))) _ bytes v
       (withdraw-accepted s bytes i k le e found)
-      (says-lists _ (becameDry (view s bytes) (withdrawnFrom i s bytes)) []
+      (says-lists _ (becameDry (stateOf s bytes) (withdrawnFrom i s bytes)) []
       (record {
         few = dried .few;
         long = dried .long;
-        list = dried .list ∙ became-dry-is before after (view s bytes) (withdrawnFrom i s bytes) (marked s bytes v .few) wet-before wet-after;
+        list = dried .list ∙ became-dry-is before after (stateOf s bytes) (withdrawnFrom i s bytes) (marked s bytes v .few) wet-before wet-after;
       }) none)
-      (carries-queue s bytes (view s bytes) (v .carries) left (s .restoring) (s .reserved) (without i (pendingIn (s .restoring) s)) (waitingIn (s .restoring) s)
+      (carries-queue s bytes (stateOf s bytes) (v .carries) left (s .restoring) (s .reserved) (without i (pendingIn (s .restoring) s)) (waitingIn (s .restoring) s)
       (removed .usable) (rw e left-is) (rw e refl) (v .carries .reserved))
       refl

@@ -1,6 +1,6 @@
 // End: restoring is over.
-ghost use Rattle.rules.specs.Calls.{Call, step};
-ghost use Rattle.site.specs.Model.{view, Valid, Does};
+ghost use Rattle.rules.specs.Calls.{Call};
+ghost use Rattle.site.specs.Model.{lent, Valid, Steps};
 use super::Called;
 use super::Site;
 use super::no_numbers;
@@ -8,17 +8,20 @@ use forms::Refusal;
 use forms::ReplyForm;
 use forms::ReplyLine;
 use table::Queue;
+use table::slots::DoneWords;
+use table::slots::QueueWords;
 
 impl Site {
     // "Ending restoring drops and names those still waiting, in order of delivery."
-    pub fn end(self, log: &[u8]) -> Called
-        requires { ⌜ Valid self (now log) ⌝ }
-        ensures { λ r. ⌜ Does self (now (log .entry)) (step Call.End (view self (now (log .entry)))) r (now (log .entry)) ⌝ }
+    pub fn end(self, log: &[u8], queued: &QueueWords, done: &DoneWords) -> Called
+        requires { ⌜ Valid self (lent (now log) (now queued) (now done)) ⌝ }
+        ensures { λ r. ⌜ Steps self (lent (now (log .entry)) (now (queued .entry)) (now (done .entry))) Call.End r
+            (lent (now (log .entry)) (now (queued .entry)) (now (done .entry))) ⌝ }
     {
         let restoring = self.restoring;
         if restoring {
             let queue = self.queue;
-            let ids = queue.ids();
+            let ids = queue.ids(queued);
             let mut site = self;
             site.queue = Queue::empty();
             site.restoring = false;

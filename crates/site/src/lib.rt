@@ -1,8 +1,9 @@
-// One site: its histories, its table of live operations, and its log in a lent buffer.
+// One site: its histories, and, in what is lent to it, its table of live operations and its log.
 ghost use mathlib.Core.Path.{_≡_};
 ghost use mathlib.Core.List.{[]};
 ghost use Prim.Native.Nat.{max};
 ghost use Rattle.forms.specs.Forms.{Refused};
+ghost use Rattle.forms.specs.Held.{outcomeWith};
 ghost use Rattle.table.specs.Lists.{IsNumbers};
 ghost use Rattle.site.specs.Model.{Says};
 use forms::LogNumber;
@@ -22,11 +23,13 @@ pub mod open;
 pub mod persistent;
 pub mod redo;
 pub mod restart;
+mod seen;
 pub mod show;
 pub mod stable;
 pub mod withdraw;
 
-// A site by value. Its log stands in the first `used` bytes of a buffer that the caller lends to each call.
+// A site by value. What the caller lends to each call: a buffer whose first `used` bytes are its log, and two arrays of numbers with the entries of its
+// table.
 pub struct Site {
     // how many histories there are
     pub count: usize,
@@ -78,15 +81,22 @@ fn no_numbers() -> Numbers
     }
 }
 
+// A reply without numbers behind those of its form.
+fn bare(form: ReplyForm) -> ReplyLine
+    ensures { λ r. ⌜ Says r (outcomeWith form [] []) ⌝ }
+{
+    ReplyLine {
+        form,
+        first: no_numbers(),
+        second: no_numbers(),
+    }
+}
+
 // The reply of a refusal.
 pub fn refusal(q: Refusal) -> ReplyLine
     ensures { λ r. ⌜ Says r (Refused q) ⌝ }
 {
-    ReplyLine {
-        form: ReplyForm::Refused(q),
-        first: no_numbers(),
-        second: no_numbers(),
-    }
+    bare(ReplyForm::Refused(q))
 }
 
 // The greater of two numbers.

@@ -1,6 +1,6 @@
 // Show: what a history is now.
-ghost use Rattle.rules.specs.Calls.{Call, step};
-ghost use Rattle.site.specs.Model.{view, Valid, Does};
+ghost use Rattle.rules.specs.Calls.{Call};
+ghost use Rattle.site.specs.Model.{lent, Valid, Steps};
 use super::Called;
 use super::Site;
 use super::no_numbers;
@@ -9,12 +9,15 @@ use forms::ReplyForm;
 use forms::ReplyLine;
 use forms::Shown;
 use forms::Version;
+use table::slots::DoneWords;
+use table::slots::QueueWords;
 
 impl Site {
     // "Show: history, version, persistent, stable, place, profile."
-    pub fn show(self, log: &[u8], h: u64) -> Called
-        requires { ⌜ Valid self (now log) ⌝ }
-        ensures { λ r. ⌜ Does self (now (log .entry)) (step (Call.Show h) (view self (now (log .entry)))) r (now (log .entry)) ⌝ }
+    pub fn show(self, log: &[u8], queued: &QueueWords, done: &DoneWords, h: u64) -> Called
+        requires { ⌜ Valid self (lent (now log) (now queued) (now done)) ⌝ }
+        ensures { λ r. ⌜ Steps self (lent (now (log .entry)) (now (queued .entry)) (now (done .entry))) (Call.Show h) r
+            (lent (now (log .entry)) (now (queued .entry)) (now (done .entry))) ⌝ }
     {
         let n = self.count;
         if n as u64 <= h {

@@ -6,6 +6,7 @@ use mathlib.Core.List.{List, [], _∷_, _++_}
 use lib.ListN.{length, take, drop, length-drop}
 use lib.Seq.{take-at, length-take-le}
 use Rattle.rules.specs.Session.{restReply, sessionIn}
+use Rattle.site.specs.Model.{Lent}
 use Rattle.session.specs.Model.{sessionView}
 use Rattle.session.specs.Feeding.{Progress, atStart, fed, fedAll, joined, Begins}
 use Rattle.session.specs.FeedingLaws.{chunks, whole-input, fed-none}
@@ -16,18 +17,18 @@ use Rattle.stream.specs.LineLaws.{some-line}
 
 -- ### Calls of feed
 
--- One call: the chunk, what it gave, the log buffer after it, and the buffer of replies before and after it.
+-- One call: the chunk, what it gave, what is lent after it, and the buffer of replies before and after it.
 pub record Call : Type 0 where
   pub chunk : List ℕ
   pub result : Fed
-  pub log : List ℕ
+  pub lent : Lent
   pub out : List ℕ
   pub page : List ℕ
 
--- Calls one after the other: each takes the stream and its log buffer as the one before left them.
-abbrev pub FedBy : Stream → List ℕ → List Call → Type 0
+-- Calls one after the other: each takes the stream and what is lent to it as the one before left them.
+abbrev pub FedBy : Stream → Lent → List Call → Type 0
 FedBy s bytes [] = Unit {0}
-FedBy s bytes (c ∷ cs) = Feeds s bytes (c .chunk) (c .result) (c .log) (c .out) (c .page) × FedBy (c .result .stream) (c .log) cs
+FedBy s bytes (c ∷ cs) = Feeds s bytes (c .chunk) (c .result) (c .lent) (c .out) (c .page) × FedBy (c .result .stream) (c .lent) cs
 
 -- the bytes that each call has used
 unfoldable pub usedIn : List Call → List (List ℕ)
@@ -60,7 +61,7 @@ unfolding fed
 begun-same room cs g = ap (λ (x : Progress). x .begun) (chunks room cs g) ∙ sym (ap (λ (x : Progress). x .begun) (chunks room cs (quiet g)))
 
 -- What a stream that has come to g's session and unended line is.
-comes-quiet : (g : Progress) (s : Stream) (bytes : List ℕ) → sessionView (s .session) bytes ≡ g .session → quiet g ≡ standing s (g .begun) bytes
+comes-quiet : (g : Progress) (s : Stream) (bytes : Lent) → sessionView (s .session) bytes ≡ g .session → quiet g ≡ standing s (g .begun) bytes
 comes-quiet g s bytes e = λ i. record { begun = g .begun; session = sym e i; replied = [] }
 
 front-is : (text out page : List ℕ) (n : ℕ) → Fronts text out page n → take n page ≡ text
@@ -71,37 +72,37 @@ pub record Replied (room : ℕ) (s : Stream) (g : Progress) (cs : List Call) : T
   pub text : writtenIn cs ≡ fedAll room (usedIn cs) g .replied
   pub begun : Begins (streamAfter s cs .begun) (fedAll room (usedIn cs) g .begun)
 
-module _ (c : Call) (cs : List Call) (s : Stream) (line bytes : List ℕ) (f : Feeds s bytes (c .chunk) (c .result) (c .log) (c .out) (c .page))
+module _ (c : Call) (cs : List Call) (s : Stream) (line : List ℕ) (bytes : Lent) (f : Feeds s bytes (c .chunk) (c .result) (c .lent) (c .out) (c .page))
     (h : Begins (s .begun) line) where
   -- after the first call
   abbrev next : Progress
-  next = fed (length bytes) (take (c .result .used) (c .chunk)) (standing s line bytes)
+  next = fed (length (bytes .log)) (take (c .result .used) (c .chunk)) (standing s line bytes)
 
   abbrev soFar : Progress
-  soFar = standing (c .result .stream) (next .begun) (c .log)
+  soFar = standing (c .result .stream) (next .begun) (c .lent)
 
-  same : fedAll (length (c .log)) (usedIn cs) soFar ≡ fedAll (length bytes) (usedIn cs) (quiet next)
-  same = ap₂ (λ (k : ℕ) (p : Progress). fedAll k (usedIn cs) p) (f .room) (sym (comes-quiet next (c .result .stream) (c .log) (f .does line h .session)))
+  same : fedAll (length (c .lent .log)) (usedIn cs) soFar ≡ fedAll (length (bytes .log)) (usedIn cs) (quiet next)
+  same = ap₂ (λ (k : ℕ) (p : Progress). fedAll k (usedIn cs) p) (f .room) (sym (comes-quiet next (c .result .stream) (c .lent) (f .does line h .session)))
 
-  replied-more : Replied (length (c .log)) (c .result .stream) soFar cs → Replied (length bytes) s (standing s line bytes) (c ∷ cs)
+  replied-more : Replied (length (c .lent .log)) (c .result .stream) soFar cs → Replied (length (bytes .log)) s (standing s line bytes) (c ∷ cs)
   unfolding fedAll usedIn writtenIn streamAfter
   replied-more later =
       record {
         text =
             ap₂ (λ (a b : List ℕ). a ++ b) (front-is (next .replied) (c .out) (c .page) (c .result .written) (f .does line h .replies))
             (later .text ∙ ap (λ (p : Progress). p .replied) same)
-            ∙ sym (replied-behind (length bytes) (usedIn cs) next);
+            ∙ sym (replied-behind (length (bytes .log)) (usedIn cs) next);
         begun =
             subst (λ (l : List ℕ). Begins (streamAfter (c .result .stream) cs .begun) l)
-            (ap (λ (p : Progress). p .begun) same ∙ sym (begun-same (length bytes) (usedIn cs) next)) (later .begun);
+            (ap (λ (p : Progress). p .begun) same ∙ sym (begun-same (length (bytes .log)) (usedIn cs) next)) (later .begun);
       }
 
-pub calls-replied : (cs : List Call) (s : Stream) (line bytes : List ℕ) → Begins (s .begun) line → FedBy s bytes cs →
-    Replied (length bytes) s (standing s line bytes) cs
+pub calls-replied : (cs : List Call) (s : Stream) (line : List ℕ) (bytes : Lent) → Begins (s .begun) line → FedBy s bytes cs →
+    Replied (length (bytes .log)) s (standing s line bytes) cs
 unfolding fedAll usedIn writtenIn streamAfter
 calls-replied [] s line bytes h f = record { text = refl; begun = h }
 calls-replied (c ∷ cs) s line bytes h f =
-    replied-more c cs s line bytes (f .0) h (calls-replied cs (c .result .stream) (next c cs s line bytes (f .0) h .begun) (c .log) (f .0 .does line h .begun) (f .1))
+    replied-more c cs s line bytes (f .0) h (calls-replied cs (c .result .stream) (next c cs s line bytes (f .0) h .begun) (c .lent) (f .0 .does line h .begun) (f .1))
 
 -- The calls have used the input, in whatever chunks: what they have written, and the reply to the unended rest, is the rule book's session.
 pub record Whole (room : ℕ) (s : Stream) (cs : List Call) : Type 0 where
@@ -109,21 +110,21 @@ pub record Whole (room : ℕ) (s : Stream) (cs : List Call) : Type 0 where
   pub begun : Begins (streamAfter s cs .begun) rest
   pub text : writtenIn cs ++ restReply rest ≡ sessionIn room (joined (usedIn cs))
 
-pub calls-whole : (cs : List Call) (s : Stream) (bytes : List ℕ) → StartsStream s bytes → FedBy s bytes cs → Whole (length bytes) s cs
+pub calls-whole : (cs : List Call) (s : Stream) (bytes : Lent) → StartsStream s bytes → FedBy s bytes cs → Whole (length (bytes .log)) s cs
 calls-whole cs s bytes starts f =
     record {
-      rest = fedAll (length bytes) (usedIn cs) atStart .begun;
+      rest = fedAll (length (bytes .log)) (usedIn cs) atStart .begun;
       begun = r .begun;
-      text = ap (λ (l : List ℕ). l ++ restReply (fedAll (length bytes) (usedIn cs) atStart .begun)) (r .text) ∙ sym (whole-input (length bytes) (usedIn cs));
+      text = ap (λ (l : List ℕ). l ++ restReply (fedAll (length (bytes .log)) (usedIn cs) atStart .begun)) (r .text) ∙ sym (whole-input (length (bytes .log)) (usedIn cs));
     }
   where
-    r : Replied (length bytes) s atStart cs
-    r = subst (λ (g : Progress). Replied (length bytes) s g cs) (starts .is) (calls-replied cs s [] bytes (starts .begun) f)
+    r : Replied (length (bytes .log)) s atStart cs
+    r = subst (λ (g : Progress). Replied (length (bytes .log)) s g cs) (starts .is) (calls-replied cs s [] bytes (starts .begun) f)
 
 -- ### Each call moves on
 
 -- With 2,730 bytes for replies, a call uses something of a chunk that is not empty.
-pub moves : (s : Stream) (old chunk : List ℕ) (r : Fed) (new out page : List ℕ) → ValidStream s old → Feeds s old chunk r new out page →
+pub moves : (s : Stream) (old : Lent) (chunk : List ℕ) (r : Fed) (new : Lent) (out page : List ℕ) → ValidStream s old → Feeds s old chunk r new out page →
     2730 ≤ length out → 0 < length chunk → 0 < r .used
 moves s old chunk r new out page v f long some = by-used (r .used) refl
   where
@@ -132,8 +133,8 @@ moves s old chunk r new out page v f long some = by-used (r .used) refl
     none e =
         let l = some-line (s .begun) (v .begun) in
         let x = f .does (l .line) (l .begins) .replies .count in
-        x ∙ ap (λ (k : ℕ). length (fed (length old) (take k chunk) (standing s (l .line) old) .replied)) e
-        ∙ ap (λ (p : Progress). length (p .replied)) (fed-none (length old) (standing s (l .line) old))
+        x ∙ ap (λ (k : ℕ). length (fed (length (old .log)) (take k chunk) (standing s (l .line) old) .replied)) e
+        ∙ ap (λ (p : Progress). length (p .replied)) (fed-none (length (old .log)) (standing s (l .line) old))
 
     by-used : (k : ℕ) → r .used ≡ k → 0 < r .used
     by-used zero e = absurd (omega (arith, f .stops (omega (arith, e, some)), none e, long))
@@ -144,7 +145,7 @@ pub record Moves (chunk : List ℕ) (at used : ℕ) : Type 0 where
   pub some : 0 < used
   pub within : at + used ≤ length chunk
 
-pub moves-on : (s : Stream) (old chunk : List ℕ) (at : ℕ) (r : Fed) (new out page : List ℕ) → ValidStream s old →
+pub moves-on : (s : Stream) (old : Lent) (chunk : List ℕ) (at : ℕ) (r : Fed) (new : Lent) (out page : List ℕ) → ValidStream s old →
     Feeds s old (take (length chunk - at) (drop at chunk)) r new out page → 2730 ≤ length out → at < length chunk → Moves chunk at (r .used)
 moves-on s old chunk at r new out page v f long lt =
     record {

@@ -12,7 +12,7 @@ use Rattle.rules.specs.LineSplitLaws.{NoEnd, lines-append, lines-from-open, res
 use Rattle.rules.specs.Session.{Turn, turn}
 use Rattle.journal.specs.Model.{EndAt}
 use Rattle.journal.specs.LineLaws.{take-line}
-use Rattle.site.specs.Model.{Printable}
+use Rattle.site.specs.Model.{Lent, Printable}
 use Rattle.writer.specs.Write.{Wrote}
 use Rattle.session.specs.declared.Begun.{Begun}
 use Rattle.session.specs.declared.Session.{Session}
@@ -36,17 +36,17 @@ line-ended line part h =
     ∙ ap₂ (λ (ls : List (List ℕ)) (l : List ℕ). ls ++ linesFrom l (10 ∷ [])) (lines-from-open line part h) (rest-from-open line part h)
 
 -- The stream s has been fed the first bytes of the chunk.
-pub record Along (s : Stream) (old chunk : List ℕ) (r : Fed) (new out page : List ℕ) : Type 0 where
+pub record Along (s : Stream) (old : Lent) (chunk : List ℕ) (r : Fed) (new : Lent) (out page : List ℕ) : Type 0 where
   pub within : r .used ≤ length chunk
-  pub room : length new ≡ length old
+  pub room : length (new .log) ≡ length (old .log)
   pub long : length page ≡ length out
   pub before : ValidStream s old
   pub valid : ValidStream (r .stream) new
-  pub log : (line : List ℕ) → Begins (s .begun) line → new ≡ logged (length old) (linesFrom line (take (r .used) chunk)) (sessionView (s .session) old) old
+  pub log : (line : List ℕ) → Begins (s .begun) line → new .log ≡ logged (length (old .log)) (linesFrom line (take (r .used) chunk)) (sessionView (s .session) old) (old .log)
   pub does : (line : List ℕ) → Begins (s .begun) line →
-      Comes (fed (length old) (take (r .used) chunk) (standing s line old)) (r .stream) new out page (r .written)
+      Comes (fed (length (old .log)) (take (r .used) chunk) (standing s line old)) (r .stream) new out page (r .written)
 
-pub along-start : (s : Stream) (old chunk out : List ℕ) → ValidStream s old → Along s old chunk (record { stream = s; used = 0; written = 0 }) old out out
+pub along-start : (s : Stream) (old : Lent) (chunk out : List ℕ) → ValidStream s old → Along s old chunk (record { stream = s; used = 0; written = 0 }) old out out
 unfolding logged linesFrom
 along-start s old chunk out v =
     record {
@@ -57,16 +57,16 @@ along-start s old chunk out v =
       valid = v;
       log = λ line h. refl;
       does = λ line h.
-          subst (λ (g : Progress). Comes g s old out out 0) (sym (fed-none (length old) (standing s line old)))
+          subst (λ (g : Progress). Comes g s old out out 0) (sym (fed-none (length (old .log)) (standing s line old)))
           (record { begun = h; session = refl; replies = fronts-none out });
     }
 
-module _ (s : Stream) (old chunk : List ℕ) (r : Fed) (new out page : List ℕ) (a : Along s old chunk r new out page) where
+module _ (s : Stream) (old : Lent) (chunk : List ℕ) (r : Fed) (new : Lent) (out page : List ℕ) (a : Along s old chunk r new out page) where
   -- what is written lies within the buffer
   pub along-fits : r .written ≤ length out
   along-fits =
       let l = some-line (s .begun) (a .before .begun) in
-      fronts-fits (fed (length old) (take (r .used) chunk) (standing s (l .line) old) .replied) out page (r .written) (a .does (l .line) (l .begins) .replies) (a .long)
+      fronts-fits (fed (length (old .log)) (take (r .used) chunk) (standing s (l .line) old) .replied) out page (r .written) (a .does (l .line) (l .begins) .replies) (a .long)
 
   pub along-feeds : (r .used < length chunk → length out < r .written + 2730) → Feeds s old chunk r new out page
   along-feeds h =
@@ -91,11 +91,11 @@ module _ (s : Stream) (old chunk : List ℕ) (r : Fed) (new out page : List ℕ)
         long = a .long;
         before = a .before;
         valid = record { session = a .valid .session; begun = held };
-        log = λ line begins. a .log line begins ∙ ap (λ (ls : List (List ℕ)). logged (length old) ls (sessionView (s .session) old) old) (sym (same-lines line));
+        log = λ line begins. a .log line begins ∙ ap (λ (ls : List (List ℕ)). logged (length (old .log)) ls (sessionView (s .session) old) (old .log)) (sym (same-lines line));
         does = λ line begins.
             let x = a .does line begins in
             subst (λ (g : Progress). Comes g (record { session = r .stream .session; begun = b }) new out page (r .written)) (sym (is line))
-            (record { begun = keeps (fed (length old) (take (r .used) chunk) (standing s line old) .begun) (x .begun); session = x .session; replies = x .replies });
+            (record { begun = keeps (fed (length (old .log)) (take (r .used) chunk) (standing s line old) .begun) (x .begun); session = x .session; replies = x .replies });
       }
     where
       keeps : (line : List ℕ) → Begins (r .stream .begun) line → Begins b (line ++ drop (r .used) chunk)
@@ -116,24 +116,24 @@ module _ (s : Stream) (old chunk : List ℕ) (r : Fed) (new out page : List ℕ)
           usable b (l .line ++ drop (r .used) chunk) (keeps (l .line) (l .begins))
 
       is : (line : List ℕ) →
-          fed (length old) (take (length chunk) chunk) (standing s line old)
-          ≡ opened (drop (r .used) chunk) (fed (length old) (take (r .used) chunk) (standing s line old))
+          fed (length (old .log)) (take (length chunk) chunk) (standing s line old)
+          ≡ opened (drop (r .used) chunk) (fed (length (old .log)) (take (r .used) chunk) (standing s line old))
       is line =
-          ap (λ (l : List ℕ). fed (length old) l (standing s line old)) (take-length chunk ∙ sym (take-append-drop (r .used) chunk))
-          ∙ sym (fed-append (length old) (take (r .used) chunk) (drop (r .used) chunk) (standing s line old))
-          ∙ fed-open (length old) (drop (r .used) chunk) (fed (length old) (take (r .used) chunk) (standing s line old)) h
+          ap (λ (l : List ℕ). fed (length (old .log)) l (standing s line old)) (take-length chunk ∙ sym (take-append-drop (r .used) chunk))
+          ∙ sym (fed-append (length (old .log)) (take (r .used) chunk) (drop (r .used) chunk) (standing s line old))
+          ∙ fed-open (length (old .log)) (drop (r .used) chunk) (fed (length (old .log)) (take (r .used) chunk) (standing s line old)) h
 
   -- One line more.
-  module _ (e : ℕ) (ends : EndAt chunk (r .used) e) (t : Turned) (after : List ℕ)
+  module _ (e : ℕ) (ends : EndAt chunk (r .used) e) (t : Turned) (after : Lent)
       (turns : (line : List ℕ) → Begins (r .stream .begun) line →
-      Turns (r .stream .session) new (turn (length new) (line ++ take (e - r .used) (drop (r .used) chunk)) (sessionView (r .stream .session) new)) t after) where
+      Turns (r .stream .session) new (turn (length (new .log)) (line ++ take (e - r .used) (drop (r .used) chunk)) (sessionView (r .stream .session) new)) t after) where
     abbrev part : List ℕ
     part = take (e - r .used) (drop (r .used) chunk)
 
     pub line-printable : Printable (t .reply)
     line-printable = let l = some-line (r .stream .begun) (a .valid .begun) in turns (l .line) (l .begins) .answer .printable
 
-    pub along-line : (b : Begun) (n : ℕ) (next : List ℕ) → length after ≡ length new → length next ≡ length page → Begins b [] →
+    pub along-line : (b : Begun) (n : ℕ) (next : List ℕ) → length (after .log) ≡ length (new .log) → length next ≡ length page → Begins b [] →
         Wrote page (r .written) (ended (outcomeText (outcomeOf (t .reply)))) n next →
         Along s old chunk (record { stream = record { session = t .session; begun = b }; used = e + 1; written = n }) after out next
     unfolding logged fed
@@ -149,13 +149,13 @@ module _ (s : Stream) (old chunk : List ℕ) (r : Fed) (new out page : List ℕ)
         }
       where
         soFar : List ℕ → Progress
-        soFar line = fed (length old) (take (r .used) chunk) (standing s line old)
+        soFar line = fed (length (old .log)) (take (r .used) chunk) (standing s line old)
 
-        is : (line : List ℕ) → fed (length old) (take (e + 1) chunk) (standing s line old) ≡ answered (length old) part (soFar line)
+        is : (line : List ℕ) → fed (length (old .log)) (take (e + 1) chunk) (standing s line old) ≡ answered (length (old .log)) part (soFar line)
         is line =
-            ap (λ (l : List ℕ). fed (length old) l (standing s line old)) (take-line chunk (r .used) e ends)
-            ∙ sym (fed-append (length old) (take (r .used) chunk) (ended part) (standing s line old))
-            ∙ fed-line (length old) part (soFar line) (ends .unended)
+            ap (λ (l : List ℕ). fed (length (old .log)) l (standing s line old)) (take-line chunk (r .used) e ends)
+            ∙ sym (fed-append (length (old .log)) (take (r .used) chunk) (ended part) (standing s line old))
+            ∙ fed-line (length (old .log)) part (soFar line) (ends .unended)
 
         more-lines : (line : List ℕ) → linesFrom line (take (e + 1) chunk) ≡ linesFrom line (take (r .used) chunk) ++ ((soFar line .begun ++ part) ∷ [])
         more-lines line =
@@ -165,26 +165,26 @@ module _ (s : Stream) (old chunk : List ℕ) (r : Fed) (new out page : List ℕ)
 
         -- the line's turn, as the rule book has it
         same-turn : (line : List ℕ) → Begins (s .begun) line →
-            turn (length new) (soFar line .begun ++ part) (sessionView (r .stream .session) new) ≡ turn (length old) (soFar line .begun ++ part) (soFar line .session)
+            turn (length (new .log)) (soFar line .begun ++ part) (sessionView (r .stream .session) new) ≡ turn (length (old .log)) (soFar line .begun ++ part) (soFar line .session)
         same-turn line begins = ap₂ (λ (k : ℕ) v. turn k (soFar line .begun ++ part) v) (a .room) (a .does line begins .session)
 
-        logs : (line : List ℕ) → Begins (s .begun) line → after ≡ logged (length old) (linesFrom line (take (e + 1) chunk)) (sessionView (s .session) old) old
+        logs : (line : List ℕ) → Begins (s .begun) line → after .log ≡ logged (length (old .log)) (linesFrom line (take (e + 1) chunk)) (sessionView (s .session) old) (old .log)
         logs line begins =
             turn-logs (r .stream .session) new _ t after (a .valid .session) (turns (soFar line .begun) (a .does line begins .begun))
             ∙ ap₂ (λ (y : Turn) (l : List ℕ). overlaid (y .after) l) (same-turn line begins) (a .log line begins)
-            ∙ sym (logged-append (length old) (linesFrom line (take (r .used) chunk)) ((soFar line .begun ++ part) ∷ []) (sessionView (s .session) old) old)
-            ∙ ap (λ (ls : List (List ℕ)). logged (length old) ls (sessionView (s .session) old) old) (sym (more-lines line))
+            ∙ sym (logged-append (length (old .log)) (linesFrom line (take (r .used) chunk)) ((soFar line .begun ++ part) ∷ []) (sessionView (s .session) old) (old .log))
+            ∙ ap (λ (ls : List (List ℕ)). logged (length (old .log)) ls (sessionView (s .session) old) (old .log)) (sym (more-lines line))
 
-        comes : (line : List ℕ) → Begins (s .begun) line → Comes (answered (length old) part (soFar line)) (record { session = t .session; begun = b }) after out next n
+        comes : (line : List ℕ) → Begins (s .begun) line → Comes (answered (length (old .log)) part (soFar line)) (record { session = t .session; begun = b }) after out next n
         comes line begins =
             record {
               begun = none;
               session = x .after ∙ ap (λ (y : Turn). y .after) (same-turn line begins);
               replies =
-                  fronts-more (soFar line .replied) out page (r .written) (ended (outcomeText (turn (length old) (soFar line .begun ++ part) (soFar line .session) .reply))) n next
+                  fronts-more (soFar line .replied) out page (r .written) (ended (outcomeText (turn (length (old .log)) (soFar line .begun ++ part) (soFar line .session) .reply))) n next
                   (a .does line begins .replies)
                   (subst (λ (o : Outcome). Wrote page (r .written) (ended (outcomeText o)) n next) (x .answer .outcome ∙ ap (λ (y : Turn). y .reply) (same-turn line begins)) w);
             }
           where
-            x : Turns (r .stream .session) new (turn (length new) (soFar line .begun ++ part) (sessionView (r .stream .session) new)) t after
+            x : Turns (r .stream .session) new (turn (length (new .log)) (soFar line .begun ++ part) (sessionView (r .stream .session) new)) t after
             x = turns (soFar line .begun) (a .does line begins .begun)

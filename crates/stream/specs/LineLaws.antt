@@ -13,6 +13,7 @@ use Rattle.rules.specs.Session.{Turn, turn}
 use Rattle.session.specs.declared.Begun.{Begun}
 use Rattle.session.specs.declared.Session.{Session}
 use Rattle.session.specs.declared.Turned.{Turned}
+use Rattle.site.specs.Model.{Lent}
 use Rattle.session.specs.Model.{sessionView, ValidSession, Refuses, Turns}
 use Rattle.session.specs.Feeding.{LineIs, UsableBegun, Begins}
 use Rattle.session.specs.TurnLaws.{turn-over, turn-refused}
@@ -104,9 +105,9 @@ module _ (b : Begun) (line part : List ℕ) (h : Begins b line) where
 -- ### Its turn
 
 -- 1: "above 1,024 bytes without its end"
-pub turns-over : (s : Session) (old line : List ℕ) (r : Turned) → ValidSession s old → 1024 < length line → Refuses s Unreadable r →
-    Turns s old (turn (length old) line (sessionView s old)) r old
-turns-over s old line r v h q = turn-refused s old (turn (length old) line (sessionView s old)) Unreadable r v (turn-over (length old) line (sessionView s old) h) q
+pub turns-over : (s : Session) (old : Lent) (line : List ℕ) (r : Turned) → ValidSession s old → 1024 < length line → Refuses s Unreadable r →
+    Turns s old (turn (length (old .log)) line (sessionView s old)) r old
+turns-over s old line r v h q = turn-refused s old (turn (length (old .log)) line (sessionView s old)) Unreadable r v (turn-over (length (old .log)) line (sessionView s old) h) q
 
 -- a line is above the limit where its beginning is
 pub over-is : (b : Begun) (line : List ℕ) → Begins b line → b .over ≡ true → 1024 < length line
@@ -123,6 +124,6 @@ held-is b line h e = subst (λ (o : Bool). LineIs o (take (b .len) (b .bytes)) l
 pub none-held : (b : Begun) (line : List ℕ) → Begins b line → b .over ≡ false → b .len ≡ 0 → line ≡ []
 none-held b line h e z = sym (held-is b line h e) ∙ ap (λ (k : ℕ). take k (b .bytes)) z
 
-pub turns-as : (s : Session) (old : List ℕ) (r : Turned) (new line other : List ℕ) → other ≡ line → Turns s old (turn (length old) other (sessionView s old)) r new →
-    Turns s old (turn (length old) line (sessionView s old)) r new
-turns-as s old r new line other e h = subst (λ (l : List ℕ). Turns s old (turn (length old) l (sessionView s old)) r new) e h
+pub turns-as : (s : Session) (old : Lent) (r : Turned) (new : Lent) (line other : List ℕ) → other ≡ line → Turns s old (turn (length (old .log)) other (sessionView s old)) r new →
+    Turns s old (turn (length (old .log)) line (sessionView s old)) r new
+turns-as s old r new line other e h = subst (λ (l : List ℕ). Turns s old (turn (length (old .log)) l (sessionView s old)) r new) e h

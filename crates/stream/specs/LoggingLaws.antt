@@ -11,37 +11,38 @@ use Rattle.forms.specs.Forms.{Outcome, Refused, Accepted}
 use Rattle.rules.specs.State.{State, logBytes}
 use Rattle.rules.specs.Session.{Turn, turn, afterLines}
 use Rattle.site.specs.declared.Site.{Site}
-use Rattle.site.specs.Model.{view, Valid}
+use Rattle.site.specs.Whole.{Sound}
+use Rattle.site.specs.Model.{Lent, view, Valid}
 use Rattle.session.specs.declared.Session.{Session}
 use Rattle.session.specs.declared.Turned.{Turned}
 use Rattle.session.specs.Model.{viewIf, sessionView, ValidSession, usedIf, Keeps, Turns}
 use Rattle.stream.specs.Logging.{overlaid, logged}
 
 -- A valid site's log stands at the front, and behind it are the bytes of a buffer that is the same from there on.
-pub over-site : (s : Site) (bytes other : List ℕ) → Valid s bytes → drop (s .used) bytes ≡ drop (s .used) other
-    → bytes ≡ logBytes (view s bytes) ++ drop (length (logBytes (view s bytes))) other
-unfolding Valid
-over-site s bytes other v e =
-    sym (take-append-drop (s .used) bytes)
+pub over-site : (s : Site) (m : Lent) (other : List ℕ) → Valid s m → drop (s .used) (m .log) ≡ drop (s .used) other →
+    m .log ≡ logBytes (view s m) ++ drop (length (logBytes (view s m))) other
+unfolding Sound
+over-site s m other v e =
+    sym (take-append-drop (s .used) (m .log))
     ∙ ap₂ (λ (a b : List ℕ). a ++ b) (v .carries .text) (e ∙ ap (λ (k : ℕ). drop k other) size)
   where
-    size : s .used ≡ length (logBytes (view s bytes))
-    size = sym (length-take-le (s .used) bytes (v .carries .within)) ∙ ap length (v .carries .text)
+    size : s .used ≡ length (logBytes (view s m))
+    size = sym (length-take-le (s .used) (m .log) (v .carries .within)) ∙ ap length (v .carries .text)
 
-over-view : (o : Bool) (s : Site) (bytes other : List ℕ) → (o ≡ true → Valid s bytes) → drop (usedIf o s) bytes ≡ drop (usedIf o s) other →
-    bytes ≡ overlaid (viewIf o s bytes) other
+over-view : (o : Bool) (s : Site) (m : Lent) (other : List ℕ) → (o ≡ true → Valid s m) → drop (usedIf o s) (m .log) ≡ drop (usedIf o s) other →
+    m .log ≡ overlaid (viewIf o s m) other
 unfolding overlaid
-over-view true s bytes other v e = over-site s bytes other (v refl) e
-over-view false s bytes other v e = e
+over-view true s m other v e = over-site s m other (v refl) e
+over-view false s m other v e = e
 
 -- The buffer after a turn.
-pub turn-logs : (s : Session) (old : List ℕ) (t : Turn) (r : Turned) (new : List ℕ) → ValidSession s old → Turns s old t r new → new ≡ overlaid (t .after) old
-turn-logs s old t r new v h = by-reply (t .reply) (h .keeps) ∙ ap (λ (x : Option State). overlaid x old) (h .after)
+pub turn-logs : (s : Session) (old : Lent) (t : Turn) (r : Turned) (new : Lent) → ValidSession s old → Turns s old t r new → new .log ≡ overlaid (t .after) (old .log)
+turn-logs s old t r new v h = by-reply (t .reply) (h .keeps) ∙ ap (λ (x : Option State). overlaid x (old .log)) (h .after)
   where
-    by-reply : (o : Outcome) → Keeps o s old r new → new ≡ overlaid (sessionView (r .session) new) old
+    by-reply : (o : Outcome) → Keeps o s old r new → new .log ≡ overlaid (sessionView (r .session) new) (old .log)
     by-reply (Refused q) k =
-        over-view (r .session .opened) (r .session .site) new old (h .valid .site) (ap (λ (l : List ℕ). drop (usedIf (r .session .opened) (r .session .site)) l) (k .bytes))
-    by-reply (Accepted a) k = over-view (r .session .opened) (r .session .site) new old (h .valid .site) (k .past)
+        over-view (r .session .opened) (r .session .site) new (old .log) (h .valid .site) (ap (λ (l : Lent). drop (usedIf (r .session .opened) (r .session .site)) (l .log)) (k .kept))
+    by-reply (Accepted a) k = over-view (r .session .opened) (r .session .site) new (old .log) (h .valid .site) (k .past)
 
 -- Lines in two parts.
 pub logged-append : (room : ℕ) (a b : List (List ℕ)) (s : Option State) (bytes : List ℕ) →

@@ -7,6 +7,7 @@ use mathlib.Core.Option.{none}
 use lib.ListN.{length, take, drop}
 use Rattle.rules.specs.Log.{linesFrom, linesOf}
 use Rattle.rules.specs.Session.{sessionIn}
+use Rattle.site.specs.Model.{Lent}
 use Rattle.session.specs.Model.{sessionView, ValidSession}
 use Rattle.session.specs.Feeding.{Progress, atStart, fed, UsableBegun, Begins}
 use Rattle.stream.specs.Logging.{logged}
@@ -16,17 +17,17 @@ use Rattle.stream.specs.declared.Ran.{Ran}
 
 -- ### The stream
 
--- The invariant of a stream and the bytes of its log buffer.
-pub record ValidStream (s : Stream) (bytes : List ℕ) : Type 0 where
+-- The invariant of a stream and what is lent to it.
+pub record ValidStream (s : Stream) (bytes : Lent) : Type 0 where
   pub session : ValidSession (s .session) bytes
   pub begun : UsableBegun (s .begun)
 
 -- The rule book's progress that a stream is, whose unended line is `line`, with nothing replied yet.
-abbrev pub standing : Stream → List ℕ → List ℕ → Progress
+abbrev pub standing : Stream → List ℕ → Lent → Progress
 standing s line bytes = record { begun = line; session = sessionView (s .session) bytes; replied = [] }
 
 -- A stream "before site", with nothing read.
-pub record StartsStream (s : Stream) (bytes : List ℕ) : Type 0 where
+pub record StartsStream (s : Stream) (bytes : Lent) : Type 0 where
   pub valid : ValidStream s bytes
   pub begun : Begins (s .begun) []
   pub is : standing s [] bytes ≡ atStart
@@ -39,23 +40,23 @@ pub record Fronts (text out page : List ℕ) (n : ℕ) : Type 0 where
   pub bytes : page ≡ text ++ drop n out
 
 -- The stream has come to the progress g, and its replies, of n bytes, are written.
-pub record Comes (g : Progress) (s : Stream) (bytes out page : List ℕ) (n : ℕ) : Type 0 where
+pub record Comes (g : Progress) (s : Stream) (bytes : Lent) (out page : List ℕ) (n : ℕ) : Type 0 where
   pub begun : Begins (s .begun) (g .begun)
   pub session : sessionView (s .session) bytes ≡ g .session
   pub replies : Fronts (g .replied) out page n
 
--- The stream s, whose log buffer was `old` and is `new`, is fed the first bytes of the chunk: all of them, or a line is left for whose
+-- The stream s, to which `old` was lent and is `new`, is fed the first bytes of the chunk: all of them, or a line is left for whose
 -- reply `out` may have no room.
-pub record Feeds (s : Stream) (old chunk : List ℕ) (r : Fed) (new out page : List ℕ) : Type 0 where
+pub record Feeds (s : Stream) (old : Lent) (chunk : List ℕ) (r : Fed) (new : Lent) (out page : List ℕ) : Type 0 where
   pub within : r .used ≤ length chunk
   pub stops : r .used < length chunk → length out < r .written + 2730
   pub fits : r .written ≤ length out
-  pub room : length new ≡ length old
+  pub room : length (new .log) ≡ length (old .log)
   pub valid : ValidStream (r .stream) new
   -- the log buffer, to its last byte
-  pub log : (line : List ℕ) → Begins (s .begun) line → new ≡ logged (length old) (linesFrom line (take (r .used) chunk)) (sessionView (s .session) old) old
+  pub log : (line : List ℕ) → Begins (s .begun) line → new .log ≡ logged (length (old .log)) (linesFrom line (take (r .used) chunk)) (sessionView (s .session) old) (old .log)
   pub does : (line : List ℕ) → Begins (s .begun) line →
-      Comes (fed (length old) (take (r .used) chunk) (standing s line old)) (r .stream) new out page (r .written)
+      Comes (fed (length (old .log)) (take (r .used) chunk) (standing s line old)) (r .stream) new out page (r .written)
 
 -- ### A whole input
 
@@ -77,8 +78,6 @@ RunsIf false input old r out page = RunsPart input old r out page
 -- The input's session over the log buffer that was `old` and is `new`.
 pub record Runs (input old : List ℕ) (r : Ran) (new out page : List ℕ) : Type 0 where
   pub room : length new ≡ length old
-  pub valid : ValidStream (r .stream) new
-  pub session : sessionView (r .stream .session) new ≡ fed (length old) (take (r .used) input) atStart .session
   -- the log buffer, to its last byte
   pub log : new ≡ logged (length old) (linesOf (take (r .used) input)) none old
   pub replies : RunsIf (r .whole) input old r out page

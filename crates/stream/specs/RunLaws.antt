@@ -16,7 +16,7 @@ use Rattle.forms.specs.declared.Refusal.the-variants.{Unreadable}
 use Rattle.forms.specs.declared.ReplyLine.{ReplyLine}
 use Rattle.rules.specs.Log.{ended, linesOf}
 use Rattle.rules.specs.Session.{restReply, sessionIn}
-use Rattle.site.specs.Model.{Says, Printable}
+use Rattle.site.specs.Model.{Lent, Says, Printable}
 use Rattle.session.specs.declared.Begun.{Begun}
 use Rattle.session.specs.declared.Session.{Session}
 use Rattle.session.specs.Model.{sessionView, Starts}
@@ -120,7 +120,7 @@ rest-within b out at r page n u w e = let l = some-line b u in wrote-within out 
 
 -- ### The start
 
-pub starts-stream : (x : Session) (b : Begun) (bytes : List ℕ) → Starts x bytes → Begins b [] → StartsStream (record { session = x; begun = b }) bytes
+pub starts-stream : (x : Session) (b : Begun) (bytes : Lent) → Starts x bytes → Begins b [] → StartsStream (record { session = x; begun = b }) bytes
 unfolding atStart
 starts-stream x b bytes s h =
     record {
@@ -131,40 +131,38 @@ starts-stream x b bytes s h =
 
 -- ### A whole input
 
-module _ (input old : List ℕ) (s : Stream) (f : Fed) (new out page : List ℕ) (starts : StartsStream s old) (feeds : Feeds s old input f new out page) where
+module _ (input : List ℕ) (old : Lent) (s : Stream) (f : Fed) (new : Lent) (out page : List ℕ) (starts : StartsStream s old) (feeds : Feeds s old input f new out page) where
   abbrev done : Progress
-  done = fed (length old) (take (f .used) input) atStart
+  done = fed (length (old .log)) (take (f .used) input) atStart
 
   comes : Comes done (f .stream) new out page (f .written)
-  comes = subst (λ (g : Progress). Comes (fed (length old) (take (f .used) input) g) (f .stream) new out page (f .written)) (starts .is) (feeds .does [] (starts .begun))
+  comes = subst (λ (g : Progress). Comes (fed (length (old .log)) (take (f .used) input) g) (f .stream) new out page (f .written)) (starts .is) (feeds .does [] (starts .begun))
 
-  logs : new ≡ logged (length old) (linesOf (take (f .used) input)) none old
+  logs : new .log ≡ logged (length (old .log)) (linesOf (take (f .used) input)) none (old .log)
   unfolding atStart
-  logs = feeds .log [] (starts .begun) ∙ ap (λ (g : Progress). logged (length old) (linesOf (take (f .used) input)) (g .session) old) (starts .is)
+  logs = feeds .log [] (starts .begun) ∙ ap (λ (g : Progress). logged (length (old .log)) (linesOf (take (f .used) input)) (g .session) (old .log)) (starts .is)
 
-  grows : length (done .replied) ≤ length (fed (length old) input atStart .replied)
+  grows : length (done .replied) ≤ length (fed (length (old .log)) input atStart .replied)
   grows =
-      subst (λ (l : List ℕ). length (done .replied) ≤ length (fed (length old) l atStart .replied)) (take-append-drop (f .used) input)
-      (replied-grows (length old) (take (f .used) input) (drop (f .used) input) atStart)
+      subst (λ (l : List ℕ). length (done .replied) ≤ length (fed (length (old .log)) l atStart .replied)) (take-append-drop (f .used) input)
+      (replied-grows (length (old .log)) (take (f .used) input) (drop (f .used) input) atStart)
 
-  whole-longer : length (done .replied) ≤ length (sessionIn (length old) input)
+  whole-longer : length (done .replied) ≤ length (sessionIn (length (old .log)) input)
   whole-longer =
-      let e = ap length (session-is (length old) input) in
-      let k = length-append (fed (length old) input atStart .replied) (restReply (fed (length old) input atStart .begun)) in
+      let e = ap length (session-is (length (old .log)) input) in
+      let k = length-append (fed (length (old .log)) input atStart .replied) (restReply (fed (length (old .log)) input atStart .begun)) in
       let g = grows in
       omega (arith, e, k, g)
 
   -- A line is left for whose reply there may be no room.
   pub run-stops : f .used < length input →
-      Runs input old (record { stream = f .stream; whole = false; used = f .used; written = f .written }) new out page
+      Runs input (old .log) (record { whole = false; used = f .used; written = f .written }) (new .log) out page
   run-stops lt =
       let k = comes .replies .count in
       let g = whole-longer in
       let h = feeds .stops lt in
       record {
         room = feeds .room;
-        valid = feeds .valid;
-        session = comes .session;
         log = logs;
         replies = record { within = feeds .within; short = omega (arith, k, g, h); replies = comes .replies };
       }
@@ -174,23 +172,21 @@ module _ (input old : List ℕ) (s : Stream) (f : Fed) (new out page : List ℕ)
     is-all : take (f .used) input ≡ input
     is-all = take-all (f .used) input all
 
-    session-done : sessionIn (length old) input ≡ done .replied ++ restReply (done .begun)
+    session-done : sessionIn (length (old .log)) input ≡ done .replied ++ restReply (done .begun)
     session-done =
-        session-is (length old) input
-        ∙ ap (λ (l : List ℕ). fed (length old) l atStart .replied ++ restReply (fed (length old) l atStart .begun)) (sym is-all)
+        session-is (length (old .log)) input
+        ∙ ap (λ (l : List ℕ). fed (length (old .log)) l atStart .replied ++ restReply (fed (length (old .log)) l atStart .begun)) (sym is-all)
 
     -- The rest has its reply too.
-    pub run-whole : (n : ℕ) → r ≡ At n → Runs input old (record { stream = f .stream; whole = true; used = f .used; written = n }) new out last
+    pub run-whole : (n : ℕ) → r ≡ At n → Runs input (old .log) (record { whole = true; used = f .used; written = n }) (new .log) out last
     run-whole n e =
         record {
           room = feeds .room;
-          valid = feeds .valid;
-          session = comes .session;
           log = logs;
           replies = record {
             used = let w = feeds .within in omega (arith, w, all);
             replies =
-                fronts-as (done .replied ++ restReply (done .begun)) (sessionIn (length old) input) out last n (sym session-done)
+                fronts-as (done .replied ++ restReply (done .begun)) (sessionIn (length (old .log)) input) out last n (sym session-done)
                 (fronts-more (done .replied) out page (f .written) (restReply (done .begun)) n last (comes .replies)
                 (wrote-at page (f .written) (restReply (done .begun)) r last n (rest (done .begun) (comes .begun)) e));
           };
@@ -198,7 +194,7 @@ module _ (input old : List ℕ) (s : Stream) (f : Fed) (new out page : List ℕ)
 
     -- There is no room for the reply to the rest.
     pub run-short : r ≡ NoRoom → length page ≡ length out →
-        Runs input old (record { stream = f .stream; whole = false; used = f .used; written = f .written }) new out last
+        Runs input (old .log) (record { whole = false; used = f .used; written = f .written }) (new .log) out last
     run-short e long =
         let x = wrote-not page (f .written) (restReply (done .begun)) r last (rest (done .begun) (comes .begun)) e in
         let k = comes .replies .count in
@@ -206,8 +202,6 @@ module _ (input old : List ℕ) (s : Stream) (f : Fed) (new out page : List ℕ)
         let z = ap length session-done ∙ length-append (done .replied) (restReply (done .begun)) in
         record {
           room = feeds .room;
-          valid = feeds .valid;
-          session = comes .session;
           log = logs;
           replies = record {
             within = feeds .within;

@@ -1,5 +1,5 @@
 -- Laws of the list of done operations.
-use Prim.Native.Nat.{ℕ, zero, suc, _+_, _-_, _≤_, _<_}
+use Prim.Native.Nat.{ℕ, zero, suc, _+_, _-_, _*_, _≤_, _<_}
 use native.Mathlib.Numerals.{add-one}
 use native.Mathlib.Omega.{arith}
 use mathlib.Core.Path.{_≡_, refl, sym, ap, ap₂, subst, _∙_}
@@ -12,18 +12,65 @@ use lib.Seq.{getD-drop, take-take}
 use Rattle.forms.specs.Lists.{any}
 use Rattle.forms.specs.ListLaws.{mem-along}
 use Rattle.history.specs.declared.DoneEntry.{DoneEntry}
-use Rattle.table.specs.declared.DoneList.{DoneList}
+use Rattle.history.specs.Tests.{four-eq}
 use Rattle.table.specs.Arrays.{Says}
-use Rattle.table.specs.Dones.{doneOf, UsableDone, UsableDones, IsDone, pastDone, doneTouches, stampedTo, versionFrom}
+use Rattle.table.specs.Dones.{Finished, doneOf, UsableDone, UsableDones, IsDone, pastDone, doneTouches, stampedTo, versionFrom}
+use Rattle.table.specs.Slots.{within, doneFrom, donesIn}
+use Rattle.table.specs.SlotLaws.{done-in, dones-put, puts, stores-first, stores-at, stores-kept, within-of, four-whole}
 use Rattle.table.specs.LoopLaws.{take-next, take-push, push-each, take-none, mem-take, drop-take, drop-past, slice-next, any-snoc}
 use Rattle.table.specs.ArrayLaws.{says-like, says-store}
 
+-- ### An entry in words
+
+-- the entry read word by word
+pub done-read : (ws : List ℕ) (i : ℕ) (a b c d : ℕ) → i < 64
+    → a ≡ within 256 (getD ws (i * 10 + 2) 0) → b ≡ within 256 (getD ws (i * 10 + 3) 0)
+    → c ≡ within 256 (getD ws (i * 10 + 4) 0) → d ≡ within 256 (getD ws (i * 10 + 5) 0)
+    → _≡_ {A = DoneEntry}
+    (record {
+      id = getD ws (i * 10) 0;
+      count = getD ws (i * 10 + 1) 0;
+      histories = a ∷ b ∷ c ∷ d ∷ [];
+      versions = getD ws (i * 10 + 6) 0 ∷ getD ws (i * 10 + 7) 0 ∷ getD ws (i * 10 + 8) 0 ∷ getD ws (i * 10 + 9) 0 ∷ [];
+    })
+    (getD (donesIn ws) i pastDone)
+unfolding doneFrom
+done-read ws i a b c d h p q r s =
+    rw (p, q, r, s) (sym (done-in ws i h))
+
+-- the nine words of an entry behind its id
+abbrev pub wordsBehind : DoneEntry → List ℕ
+wordsBehind e =
+    let hs = e .histories in
+    let vs = e .versions in
+    e .count ∷ getD hs 0 0 ∷ getD hs 1 0 ∷ getD hs 2 0 ∷ getD hs 3 0 ∷ getD vs 0 0 ∷ getD vs 1 0 ∷ getD vs 2 0 ∷ getD vs 3 0 ∷ []
+
+-- The ten stores of an entry.
+pub done-put : (ws : List ℕ) (i : ℕ) (e : DoneEntry) → i < 64 → length ws ≡ 640 → length (e .histories) ≡ 4 → length (e .versions) ≡ 4
+    → ((j : ℕ) → getD (e .histories) j 0 < 256) → donesIn (puts (set ws (i * 10) (e .id)) (i * 10) 1 (wordsBehind e)) ≡ set (donesIn ws) i e
+unfolding doneFrom
+done-put ws i e h n p q low =
+    let room : i * 10 + suc (length (wordsBehind e)) ≤ length ws = omega arith in
+    let s = stores-at ws (i * 10) (e .id) (wordsBehind e) room in
+    dones-put i e ws _ h (stores-kept ws (i * 10) (e .id) (wordsBehind e) room)
+    (λ t. record {
+      id = stores-first ws (i * 10) (e .id) (wordsBehind e) room t;
+      count = s 0 (omega arith) t;
+      histories =
+          (four-eq (byte 0 (s 1 (omega arith))) (byte 1 (s 2 (omega arith))) (byte 2 (s 3 (omega arith))) (byte 3 (s 4 (omega arith)))
+          ∙ four-whole 0 (e .histories) p) t;
+      versions = (four-eq (s 5 (omega arith)) (s 6 (omega arith)) (s 7 (omega arith)) (s 8 (omega arith)) ∙ four-whole 0 (e .versions) q) t;
+    })
+  where
+    byte : (j : ℕ) {x : ℕ} → x ≡ getD (e .histories) j 0 → within 256 x ≡ getD (e .histories) j 0
+    byte j x = ap (within 256) x ∙ within-of 256 (getD (e .histories) j 0) (low j)
+
 -- ### The list
 
-pub done-at : (l : DoneList) → UsableDones l → (i : ℕ) → i < l .count → UsableDone (getD (l .entries) i pastDone)
+pub done-at : (l : Finished) → UsableDones l → (i : ℕ) → i < l .count → UsableDone (getD (l .entries) i pastDone)
 done-at l u i h = u .each (getD (l .entries) i pastDone) (mem-take (l .entries) pastDone i (l .count) h (omega (arith, u .few, u .long)))
 
-pub done-pushed : (l : DoneList) (e : DoneEntry) → UsableDones l → l .count < 64 → UsableDone e
+pub done-pushed : (l : Finished) (e : DoneEntry) → UsableDones l → l .count < 64 → UsableDone e
     → IsDone (record { count = l .count + 1; entries = set (l .entries) (l .count) e }) (doneOf l ++ (e ∷ []))
 done-pushed l e u h w = record {
   usable = record {
@@ -34,7 +81,7 @@ done-pushed l e u h w = record {
   list = take-push (l .entries) (l .count) e (omega (arith, u .long));
 }
 
-pub done-none : (l : DoneList) → l .count ≡ 0 → length (l .entries) ≡ 64 → IsDone l []
+pub done-none : (l : Finished) → l .count ≡ 0 → length (l .entries) ≡ 64 → IsDone l []
 done-none l z n = record {
   usable = record { few = omega arith; long = n; each = λ x m. absurd (List·Memᴰ·not-nil (mem-along none m)) };
   list = none;
@@ -52,7 +99,7 @@ drop-step es l k i h g e =
     ∙ ap₂ (λ (x : List DoneEntry) (y : DoneEntry). x ++ (y ∷ [])) e (ap (λ (n : ℕ). getD l n pastDone) (sym q) ∙ sym (getD-drop k l i pastDone))
     ∙ sym (take-next (drop k l) pastDone i (omega (arith, length-drop k l)))
 
-pub done-dropped : (l : DoneList) (k n : ℕ) (es : List DoneEntry) → UsableDones l → k ≤ l .count → n ≡ l .count - k → length es ≡ 64
+pub done-dropped : (l : Finished) (k n : ℕ) (es : List DoneEntry) → UsableDones l → k ≤ l .count → n ≡ l .count - k → length es ≡ 64
     → take n es ≡ take n (drop k (l .entries)) → IsDone (record { count = n; entries = es }) (drop k (doneOf l))
 done-dropped l k n es u h q g e = record {
   usable = record {

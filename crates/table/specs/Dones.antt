@@ -8,10 +8,14 @@ use lib.Dec.{eqb}
 use lib.ListN.{length, getD, take}
 use Rattle.forms.specs.Lists.{any}
 use Rattle.history.specs.declared.DoneEntry.{DoneEntry}
-use Rattle.table.specs.declared.DoneList.{DoneList}
+
+-- Done operations: entries of which the first `count` count.
+pub record Finished : Type 0 where
+  pub count : ℕ
+  pub entries : List DoneEntry
 
 -- The entries, in log order.
-abbrev pub doneOf : DoneList → List DoneEntry
+abbrev pub doneOf : Finished → List DoneEntry
 doneOf l = take (l .count) (l .entries)
 
 pub record UsableDone (e : DoneEntry) : Type 0 where
@@ -20,13 +24,13 @@ pub record UsableDone (e : DoneEntry) : Type 0 where
   pub wide : length (e .versions) ≡ 4
   pub each : (j : ℕ) → j < e .count → getD (e .histories) j 0 < 16
 
-pub record UsableDones (l : DoneList) : Type 0 where
+pub record UsableDones (l : Finished) : Type 0 where
   pub few : l .count ≤ 64
   pub long : length (l .entries) ≡ 64
   pub each : (e : DoneEntry) → Mem e (doneOf l) → UsableDone e
 
 -- A list with just these entries.
-pub record IsDone (l : DoneList) (es : List DoneEntry) : Type 0 where
+pub record IsDone (l : Finished) (es : List DoneEntry) : Type 0 where
   pub usable : UsableDones l
   pub list : doneOf l ≡ es
 

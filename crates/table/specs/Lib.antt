@@ -4,6 +4,8 @@ pub mod Arrays
 pub mod Queues
 pub mod Tries
 pub mod Dones
+pub mod Slots
+pub mod SlotLaws
 pub mod LoopLaws
 pub mod ArrayLaws
 pub mod QueueLaws

@@ -13,9 +13,8 @@ use Rattle.forms.specs.declared.Numbers.{Numbers}
 use Rattle.forms.specs.ListLaws.{mem-along, mem-widen}
 use Rattle.history.specs.declared.Entry.{Entry}
 use Rattle.history.specs.Entries.{UsableEntry}
-use Rattle.table.specs.declared.Queue.{Queue}
 use Rattle.table.specs.Lists.{omit, IsNumbers}
-use Rattle.table.specs.Queues.{queueOf, UsableQueue, IsQueue, pastEntry}
+use Rattle.table.specs.Queues.{Queued, queueOf, UsableQueue, IsQueue, pastEntry}
 use Rattle.table.specs.LoopLaws.{take-push, push-each, take-none, mem-take, omitted, below-next}
 
 -- ### Numbers
@@ -67,13 +66,13 @@ kept-none p = record { few = omega arith; is = no-numbers }
 -- ### Queues
 
 -- an entry of the queue by its index
-pub usable-at : (q : Queue) → UsableQueue q → (i : ℕ) → i < q .count → UsableEntry (getD (q .entries) i pastEntry)
+pub usable-at : (q : Queued) → UsableQueue q → (i : ℕ) → i < q .count → UsableEntry (getD (q .entries) i pastEntry)
 usable-at q u i h = u .each (getD (q .entries) i pastEntry) (mem-take (q .entries) pastEntry i (q .count) h (omega (arith, u .few, u .long)))
 
-pub queue-length : (q : Queue) → UsableQueue q → length (queueOf q) ≡ q .count
+pub queue-length : (q : Queued) → UsableQueue q → length (queueOf q) ≡ q .count
 queue-length q u = length-take-le (q .count) (q .entries) (omega (arith, u .few, u .long))
 
-pub pushed : (q : Queue) (e : Entry) → UsableQueue q → q .count < 64 → UsableEntry e
+pub pushed : (q : Queued) (e : Entry) → UsableQueue q → q .count < 64 → UsableEntry e
     → IsQueue (record { count = q .count + 1; entries = set (q .entries) (q .count) e }) (queueOf q ++ (e ∷ []))
 pushed q e u h w = record {
   usable = record {
@@ -84,7 +83,7 @@ pushed q e u h w = record {
   list = take-push (q .entries) (q .count) e (omega (arith, u .long));
 }
 
-pub removed : (q : Queue) (at last : ℕ) (es : List Entry) → UsableQueue q → last ≡ q .count - 1 → at < q .count → length es ≡ 64
+pub removed : (q : Queued) (at last : ℕ) (es : List Entry) → UsableQueue q → last ≡ q .count - 1 → at < q .count → length es ≡ 64
     → omit last es ≡ omit at (q .entries) → IsQueue (record { count = last; entries = es }) (take at (queueOf q) ++ drop (at + 1) (queueOf q))
 removed q at last es u g h n e = record {
   usable = record {
@@ -105,7 +104,7 @@ removed q at last es u g h n e = record {
     whole = split-at (queueOf q) at pastEntry (omega (arith, queue-length q u))
 
 -- a queue without entries
-pub none-usable : (q : Queue) → q .count ≡ 0 → length (q .entries) ≡ 64 → IsQueue q []
+pub none-usable : (q : Queued) → q .count ≡ 0 → length (q .entries) ≡ 64 → IsQueue q []
 none-usable q z l = record {
   usable = record { few = omega arith; long = l; each = λ x m. absurd (List·Memᴰ·not-nil (mem-along none m)) };
   list = none;

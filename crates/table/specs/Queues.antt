@@ -9,19 +9,23 @@ use lib.ListN.{length, getD, take}
 use Rattle.rules.specs.Book.{Cell}
 use Rattle.history.specs.declared.Entry.{Entry}
 use Rattle.history.specs.Entries.{UsableEntry, canRunIn, didOfEntry}
-use Rattle.table.specs.declared.Queue.{Queue}
+
+-- A queue: entries of which the first `count` count.
+pub record Queued : Type 0 where
+  pub count : ℕ
+  pub entries : List Entry
 
 -- The entries of a queue, in order of arrival (or delivery).
-abbrev pub queueOf : Queue → List Entry
+abbrev pub queueOf : Queued → List Entry
 queueOf q = take (q .count) (q .entries)
 
-pub record UsableQueue (q : Queue) : Type 0 where
+pub record UsableQueue (q : Queued) : Type 0 where
   pub few : q .count ≤ 64
   pub long : length (q .entries) ≡ 64
   pub each : (e : Entry) → Mem e (queueOf q) → UsableEntry e
 
 -- A queue with just these entries.
-pub record IsQueue (q : Queue) (l : List Entry) : Type 0 where
+pub record IsQueue (q : Queued) (l : List Entry) : Type 0 where
   pub usable : UsableQueue q
   pub list : queueOf q ≡ l
 

@@ -11,12 +11,12 @@ use Rattle.rules.specs.Rules.{strong}
 use Rattle.rules.specs.Book.{Cell}
 use Rattle.rules.specs.State.{Operation}
 use Rattle.rules.specs.Calls.{blocked, madeReady}
+use Rattle.forms.specs.declared.Numbers.{Numbers}
 use Rattle.history.specs.declared.Entry.{Entry}
 use Rattle.history.specs.Entries.{operationOf, mayRunIn}
 use Rattle.table.specs.declared.Marks.{Marks}
-use Rattle.table.specs.declared.Tried.{Tried}
 use Rattle.table.specs.Lists.{IsNumbers}
-use Rattle.table.specs.Queues.{queueOf, UsableQueue}
+use Rattle.table.specs.Queues.{Queued, queueOf, UsableQueue}
 use Rattle.table.specs.Arrays.{Says}
 
 -- ### The rule book's tries, against cells
@@ -87,7 +87,7 @@ abbrev pub operationsOf : List Entry → List Operation
 operationsOf l = map operationOf l
 
 -- The queue after a pass over these entries, and the ids made ready.
-pub record Tries (cells : ℕ → Cell) (l : List Entry) (r : Tried) : Type 0 where
-  pub usable : UsableQueue (r .queue)
-  pub queue : operationsOf (queueOf (r .queue)) ≡ tryAllIn cells (operationsOf l)
-  pub ready : IsNumbers (r .ready) (madeReady (operationsOf l) (tryAllIn cells (operationsOf l)))
+pub record Tries (cells : ℕ → Cell) (l : List Entry) (q : Queued) (ns : Numbers) : Type 0 where
+  pub usable : UsableQueue q
+  pub queue : operationsOf (queueOf q) ≡ tryAllIn cells (operationsOf l)
+  pub ready : IsNumbers ns (madeReady (operationsOf l) (tryAllIn cells (operationsOf l)))

@@ -25,9 +25,9 @@ use Rattle.history.specs.Entries.{cellsOf, noItem, itemUpdate, operationOf, may
 use Rattle.history.specs.Tests.{all-agree}
 use Rattle.history.specs.CellLaws.{logCells}
 use Rattle.table.specs.declared.Marks.{Marks}
-use Rattle.table.specs.declared.Tried.{Tried}
 use Rattle.table.specs.Lists.{IsNumbers}
-use Rattle.table.specs.Queues.{queueOf, UsableQueue, pastEntry}
+use Rattle.table.specs.Queues.{Queued, queueOf, UsableQueue, pastEntry}
+use Rattle.table.specs.Slots.{begun}
 use Rattle.table.specs.Tries.{readyIn, attemptIn, tryFromIn, tryAllIn, gather, held, heldOf, updatesOf, Marked, More, freeBy, readyBy, startsBy, operationsOf, Tries}
 use Rattle.table.specs.LoopLaws.{take-push, take-next, mem-set, any-append}
 use Rattle.table.specs.EntryLaws.{usable-history}
@@ -211,14 +211,12 @@ module _ (cells : ℕ → Cell) (before now : List Entry) (m : Marks) (ns : Numb
           ≡ madeReady (operationsOf (take i before)) (operationsOf (take i now)) ++ cond (e .running && not (this .running)) (e .id ∷ []) []
       made = ap₂ madeReady old front ∙ made-snoc (operationsOf (take i before)) (operationsOf (take i now)) (operationOf this) (operationOf e) long
 
-  -- the entry in progress, and the marks with its own
-  abbrev begun : Entry
-  begun = record { id = this .id; running = true; count = this .count; items = this .items }
-
-  begun-marks : (r : Marks) → this .running ≡ false → More r m (updatesOf this) → Marked r (gather heldOf (set now i begun))
+  -- the marks with those of the entry in progress
+  begun-marks : (r : Marks) → this .running ≡ false → More r m (updatesOf this) → Marked r (gather heldOf (set now i (begun this)))
   unfolding gather operationOf
   begun-marks r e more =
-      marked-like r (gather heldOf now ++ updatesOf this) (gather heldOf (set now i begun)) same (marked-more m r (gather heldOf now) (updatesOf this) (p .marks) more)
+      marked-like r (gather heldOf now ++ updatesOf this) (gather heldOf (set now i (begun this))) same
+      (marked-more m r (gather heldOf now) (updatesOf this) (p .marks) more)
     where
       a : List Update
       a = gather heldOf (take i now)
@@ -232,13 +230,13 @@ module _ (cells : ℕ → Cell) (before now : List Entry) (m : Marks) (ns : Numb
           ∙ gather-append heldOf (take i now) (this ∷ drop (suc i) now)
           ∙ ap (λ (t : Bool). a ++ (cond t (updatesOf this) [] ++ b)) e
 
-      is : gather heldOf (set now i begun) ≡ a ++ (updatesOf this ++ b)
-      is = ap (gather heldOf) (set-split now i begun lt) ∙ gather-append heldOf (take i now) (begun ∷ drop (suc i) now)
+      is : gather heldOf (set now i (begun this)) ≡ a ++ (updatesOf this ++ b)
+      is = ap (gather heldOf) (set-split now i (begun this) lt) ∙ gather-append heldOf (take i now) (begun this ∷ drop (suc i) now)
 
       turn : (x y z : Bool) → (x || y || z) ≡ (x || (z || y))
       turn x y z = or-assoc x y z ∙ ap (λ (t : Bool). x || t) (or-comm y z)
 
-      same : (q : Update → Bool) → any q (gather heldOf now ++ updatesOf this) ≡ any q (gather heldOf (set now i begun))
+      same : (q : Update → Bool) → any q (gather heldOf now ++ updatesOf this) ≡ any q (gather heldOf (set now i (begun this)))
       same q =
           any-append q (gather heldOf now) (updatesOf this)
           ∙ ap (λ (l : List Update). any q l || any q (updatesOf this)) was
@@ -247,12 +245,12 @@ module _ (cells : ℕ → Cell) (before now : List Entry) (m : Marks) (ns : Numb
           ∙ sym (ap (any q) is ∙ any-append q a (updatesOf this ++ b) ∙ ap (λ (t : Bool). any q a || t) (any-append q (updatesOf this) b))
 
   step-yes : (r : Marks) (ks : Numbers) → startsBy cells m (operationOf this) ≡ true → More r m (updatesOf this)
-      → IsNumbers ks (numbersOf ns ++ (this .id ∷ [])) → ks .count ≡ ns .count + 1 → Passed cells before (set now i begun) r ks (i + 1)
+      → IsNumbers ks (numbersOf ns ++ (this .id ∷ [])) → ks .count ≡ ns .count + 1 → Passed cells before (set now i (begun this)) r ks (i + 1)
   unfolding operationOf
   step-yes r ks s more is n =
       let y = attempt-yes cells m (operationsOf (take i now)) (operationOf this) (operationsOf (drop (suc i) now)) marked-here (usable-history this here-usable) s in
       let f : this .running ≡ false = y .0 in
-      step begun r ks (record { few = here-usable .few; long = here-usable .long; each = here-usable .each }) (sym (y .1)) (begun-marks r f more)
+      step (begun this) r ks (record { few = here-usable .few; long = here-usable .long; each = here-usable .each }) (sym (y .1)) (begun-marks r f more)
       (omega (arith, p .few))
       (subst (λ (t : Bool). IsNumbers ks (numbersOf ns ++ cond (not t) (this .id ∷ []) [])) (sym f) is)
 
@@ -270,40 +268,38 @@ module _ (cells : ℕ → Cell) (before now : List Entry) (m : Marks) (ns : Numb
         list = sym (append-nil (numbersOf ns)) ∙ ap (λ (b : Bool). numbersOf ns ++ cond b (this .id ∷ []) []) (sym (and-not-self (this .running)));
       }))
 
--- ### The pass over an array of entries
+-- ### The pass over an array of entries: x is the one that is tried
 
-module _ (cells : ℕ → Cell) (es₀ es : List Entry) (n : ℕ) (m : Marks) (ns : Numbers) (i : ℕ) (p : Passed cells (take n es₀) (take n es) m ns i)
-    (lt : i < n) (fit : n ≤ length es) where
+module _ (cells : ℕ → Cell) (es₀ es : List Entry) (n : ℕ) (m : Marks) (ns : Numbers) (i : ℕ) (x : Entry) (read : x ≡ getD es i pastEntry)
+    (p : Passed cells (take n es₀) (take n es) m ns i) (lt : i < n) (fit : n ≤ length es) where
   inside : i < length (take n es)
   inside = omega (arith, length-take n es)
 
-  at : getD (take n es) i pastEntry ≡ getD es i pastEntry
-  at = getD-take n es i pastEntry lt
+  at : getD (take n es) i pastEntry ≡ x
+  at = getD-take n es i pastEntry lt ∙ sym read
 
-  pub tried-usable : UsableEntry (getD es i pastEntry)
+  pub tried-usable : UsableEntry x
   tried-usable = subst UsableEntry at (here-usable cells (take n es₀) (take n es) m ns i p inside)
 
-  pub passed-yes : (e : Entry) (r : Marks) (ks : Numbers) → startsBy cells m (operationOf (getD es i pastEntry)) ≡ true → More r m (updatesOf (getD es i pastEntry))
-      → IsNumbers ks (numbersOf ns ++ (getD es i pastEntry .id ∷ [])) → ks .count ≡ ns .count + 1
-      → e ≡ record { id = getD es i pastEntry .id; running = true; count = getD es i pastEntry .count; items = getD es i pastEntry .items }
-      → Passed cells (take n es₀) (take n (set es i e)) r ks (i + 1)
-  passed-yes e r ks s more is c q =
+  pub passed-yes : (r : Marks) (ks : Numbers) → startsBy cells m (operationOf x) ≡ true → More r m (updatesOf x)
+      → IsNumbers ks (numbersOf ns ++ (x .id ∷ [])) → ks .count ≡ ns .count + 1
+      → Passed cells (take n es₀) (take n (set es i (begun (getD es i pastEntry)))) r ks (i + 1)
+  passed-yes r ks s more is c =
       subst (λ (l : List Entry). Passed cells (take n es₀) l r ks (i + 1))
-      (ap (λ (x : Entry). set (take n es) i (record { id = x .id; running = true; count = x .count; items = x .items })) at
-      ∙ ap (set (take n es) i) (sym q) ∙ sym (take-set-lt n es i e lt))
+      (ap (λ (y : Entry). set (take n es) i (begun y)) (at ∙ read) ∙ sym (take-set-lt n es i (begun (getD es i pastEntry)) lt))
       (step-yes cells (take n es₀) (take n es) m ns i p inside r ks
-      (ap (λ (x : Entry). startsBy cells m (operationOf x)) at ∙ s)
-      (subst (λ (x : Entry). More r m (updatesOf x)) (sym at) more)
-      (subst (λ (x : Entry). IsNumbers ks (numbersOf ns ++ (x .id ∷ []))) (sym at) is) c)
+      (ap (λ (y : Entry). startsBy cells m (operationOf y)) at ∙ s)
+      (subst (λ (y : Entry). More r m (updatesOf y)) (sym at) more)
+      (subst (λ (y : Entry). IsNumbers ks (numbersOf ns ++ (y .id ∷ []))) (sym at) is) c)
 
-  pub passed-no : startsBy cells m (operationOf (getD es i pastEntry)) ≡ false → Passed cells (take n es₀) (take n es) m ns (i + 1)
-  passed-no s = step-no cells (take n es₀) (take n es) m ns i p inside (ap (λ (x : Entry). startsBy cells m (operationOf x)) at ∙ s)
+  pub passed-no : startsBy cells m (operationOf x) ≡ false → Passed cells (take n es₀) (take n es) m ns (i + 1)
+  passed-no s = step-no cells (take n es₀) (take n es) m ns i p inside (ap (λ (y : Entry). startsBy cells m (operationOf y)) at ∙ s)
 
 -- the end of the pass
-pub passed-all : (cells : ℕ → Cell) (l : List Entry) (m : Marks) (r : Tried) (i : ℕ) → r .queue .count ≤ 64 → length (r .queue .entries) ≡ 64 → i ≡ r .queue .count
-    → r .queue .count ≡ length l → Passed cells l (queueOf (r .queue)) m (r .ready) i → Tries cells l r
+pub passed-all : (cells : ℕ → Cell) (l : List Entry) (m : Marks) (q : Queued) (ready : Numbers) (i : ℕ) → q .count ≤ 64 → length (q .entries) ≡ 64 → i ≡ q .count
+    → q .count ≡ length l → Passed cells l (queueOf q) m ready i → Tries cells l q ready
 unfolding tryFromIn
-passed-all cells l m r i few long e n p = record {
+passed-all cells l m q ready i few long e n p = record {
   usable = record { few = few; long = long; each = p .each };
   queue = after;
   ready = record {
@@ -314,18 +310,18 @@ passed-all cells l m r i few long e n p = record {
 }
   where
     done : (xs ys : List Operation) → ys ≡ [] → tryFromIn cells xs ys ≡ xs
-    done xs ys q = ap (tryFromIn cells xs) q
+    done xs ys e = ap (tryFromIn cells xs) e
 
-    none : drop i (queueOf (r .queue)) ≡ []
-    none = let h : length (queueOf (r .queue)) ≤ i = omega (arith, p .same) in drop-of-length-le (queueOf (r .queue)) h
+    none : drop i (queueOf q) ≡ []
+    none = let h : length (queueOf q) ≤ i = omega (arith, p .same) in drop-of-length-le (queueOf q) h
 
-    whole : take i (queueOf (r .queue)) ≡ queueOf (r .queue)
-    whole = take-all i (queueOf (r .queue)) (omega (arith, p .same))
+    whole : take i (queueOf q) ≡ queueOf q
+    whole = take-all i (queueOf q) (omega (arith, p .same))
 
-    after : operationsOf (queueOf (r .queue)) ≡ tryAllIn cells (operationsOf l)
+    after : operationsOf (queueOf q) ≡ tryAllIn cells (operationsOf l)
     after =
         ap operationsOf (sym whole)
-        ∙ sym (done (operationsOf (take i (queueOf (r .queue)))) (operationsOf (drop i (queueOf (r .queue)))) (ap operationsOf none))
+        ∙ sym (done (operationsOf (take i (queueOf q))) (operationsOf (drop i (queueOf q))) (ap operationsOf none))
         ∙ p .tries
 
 -- the same pass under other names

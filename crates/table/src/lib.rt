@@ -1,4 +1,5 @@
 // The site's table of live operations: those not done in order of arrival (or waiting lines in order of delivery), and those done in log order.
+// Their entries stand in arrays of numbers that the caller lends.
 ghost use mathlib.Core.Path.{_≡_};
 ghost use mathlib.Core.Bool.{Bool, true, false, not, _&&_, _||_};
 ghost use mathlib.Core.List.{List, [], _∷_, _++_, map};
@@ -12,11 +13,9 @@ ghost use Rattle.table.specs.Lists.{firstAt, omit, IsNumbers};
 ghost use Rattle.table.specs.Arrays.{Says, rises, ceases};
 ghost use Rattle.table.specs.Dones.{doneOf, UsableDone, UsableDones, IsDone, doneHasId, doneTouches, stampedTo, versionFrom};
 ghost use Rattle.table.specs.Tries.{updatesOf, heldOf, gather, Marked, More, freeBy, readyBy, startsBy, operationsOf, Tries};
+ghost use Rattle.table.specs.Slots.{stored, storedDone};
 ghost use Rattle.table.specs.Queues.{queueOf, UsableQueue, IsQueue, hasId, isEntry, idOf, canRunEntry};
 use forms::Numbers;
-use forms::Place;
-use forms::Rule;
-use forms::Version;
 use history::DoneEntry;
 use history::Entry;
 use history::History;
@@ -24,29 +23,30 @@ use history::Item;
 use history::can_run;
 use history::is_strong;
 use history::may_run;
+use slots::DoneWords;
+use slots::QueueWords;
+use slots::done_at;
+use slots::entry_at;
+use slots::put_done;
+use slots::put_entry;
+use slots::start_entry;
 
-// Entries that are not done: the first `count` count.
+pub mod slots;
+
+// Entries that are not done: how many there are. They stand in the first words of an array that is lent.
 pub struct Queue {
     pub count: usize,
-    pub entries: [Entry; 64],
 }
 
-// Done operations that are not yet stable, in log order: the first `count` count.
+// Done operations that are not yet stable, in log order: how many there are. They stand in the first words of an array that is lent.
 pub struct DoneList {
     pub count: usize,
-    pub entries: [DoneEntry; 64],
 }
 
 // Of each history: whether an update of those counted is in it, and whether a strong one is.
 pub struct Marks {
     pub any: [bool; 16],
     pub strong: [bool; 16],
-}
-
-// A queue after a pass over its future operations, and the ids made ready.
-pub struct Tried {
-    pub queue: Queue,
-    pub ready: Numbers,
 }
 
 // Where an entry was found.
@@ -170,81 +170,52 @@ pub fn may_start(histories: [History; 16], m: Marks, e: Entry) -> bool
     }
 }
 
-// The entry in progress.
-pub fn started(e: Entry) -> Entry
-    ensures { λ r. ⌜ r ≡ record { id = e .id; running = true; count = e .count; items = e .items } ⌝ }
-{
-    let mut r = e;
-    r.running = true;
-    r
-}
-
 impl Queue {
+    // No entries.
     pub fn empty() -> Queue
-        ensures { λ r. ⌜ IsQueue r [] ⌝ }
+        ensures { λ r. ⌜ ((ws : List ℕ) → IsQueue (stored r ws) []) ⌝ }
     {
-        let i = Item {
-            rule: Rule::Inc,
-            history: 0,
-            version: Version(0),
-            place: Place(0),
-            operand: 0,
-        };
-        let e = Entry {
-            id: 0,
-            running: false,
-            count: 0,
-            items: [i; 4],
-        };
-        Queue {
-            count: 0,
-            entries: [e; 64],
-        }
+        Queue { count: 0 }
     }
 
     // One entry more at the end. The caller sees to it that there is room.
-    pub fn push(self, e: Entry) -> Queue
-        requires { ⌜ UsableQueue self ⌝ }
+    pub fn push(self, words: &mut QueueWords, e: Entry) -> Queue
+        requires { ⌜ UsableQueue (stored self (now words)) ⌝ }
         requires { ⌜ self .count < 64 ⌝ }
         requires { ⌜ UsableEntry e ⌝ }
-        ensures { λ r. ⌜ IsQueue r (queueOf self ++ (e ∷ [])) ⌝ }
+        ensures { λ r. ⌜ IsQueue (stored r (now (words .exit))) (queueOf (stored self (now (words .entry))) ++ (e ∷ [])) ⌝ }
     {
         let at = self.count;
-        let mut next = self;
-        next.entries[at] = e;
-        next.count = at + 1;
-        next
+        put_entry(words, at, e);
+        Queue { count: at + 1 }
     }
 
     // The queue without the entry at `at`; those behind it move up by one.
-    pub fn remove(self, at: usize) -> Queue
-        requires { ⌜ UsableQueue self ⌝ }
+    pub fn remove(self, words: &mut QueueWords, at: usize) -> Queue
+        requires { ⌜ UsableQueue (stored self (now words)) ⌝ }
         requires { ⌜ at < self .count ⌝ }
-        ensures { λ r. ⌜ IsQueue r (take at (queueOf self) ++ drop (at + 1) (queueOf self)) ⌝ }
+        ensures { λ r. ⌜ IsQueue (stored r (now (words .exit)))
+            (take at (queueOf (stored self (now (words .entry)))) ++ drop (at + 1) (queueOf (stored self (now (words .entry))))) ⌝ }
     {
         let last = self.count - 1;
-        let mut entries = self.entries;
         let mut i = at;
         while i < last {
-            let e = entries[i + 1];
-            entries[i] = e;
+            let e = entry_at(words, i + 1);
+            put_entry(words, i, e);
             i += 1;
         }
-        Queue {
-            count: last,
-            entries: entries,
-        }
+        Queue { count: last }
     }
 
     // Whether an entry has this id.
-    pub fn has_id(self, id: u64) -> bool
-        requires { ⌜ UsableQueue self ⌝ }
-        ensures { λ r. ⌜ r ≡ any (hasId id) (queueOf self) ⌝ }
+    pub fn has_id(self, words: &QueueWords, id: u64) -> bool
+        requires { ⌜ UsableQueue (stored self (now words)) ⌝ }
+        ensures { λ r. ⌜ r ≡ any (hasId id) (queueOf (stored self (now (words .entry)))) ⌝ }
     {
         let n = self.count;
         let mut i = 0;
         while i < n {
-            if self.entries[i].id == id {
+            if words[i * 23] == id {
                 return true;
             }
             i += 1;
@@ -253,14 +224,14 @@ impl Queue {
     }
 
     // The first entry with this id that is in progress (or future, as asked).
-    pub fn find(self, id: u64, running: bool) -> Found
-        requires { ⌜ UsableQueue self ⌝ }
-        ensures { λ r. ⌜ r ≡ firstAt (isEntry id running) (queueOf self) ⌝ }
+    pub fn find(self, words: &QueueWords, id: u64, running: bool) -> Found
+        requires { ⌜ UsableQueue (stored self (now words)) ⌝ }
+        ensures { λ r. ⌜ r ≡ firstAt (isEntry id running) (queueOf (stored self (now (words .entry)))) ⌝ }
     {
         let n = self.count;
         let mut i = 0;
         while i < n {
-            let e = self.entries[i];
+            let e = entry_at(words, i);
             if is_entry(e, id, running) {
                 return Found::At(i);
             }
@@ -270,9 +241,9 @@ impl Queue {
     }
 
     // The ids of the entries, in their order.
-    pub fn ids(self) -> Numbers
-        requires { ⌜ UsableQueue self ⌝ }
-        ensures { λ r. ⌜ IsNumbers r (map idOf (queueOf self)) ⌝ }
+    pub fn ids(self, words: &QueueWords) -> Numbers
+        requires { ⌜ UsableQueue (stored self (now words)) ⌝ }
+        ensures { λ r. ⌜ IsNumbers r (map idOf (queueOf (stored self (now (words .entry))))) ⌝ }
     {
         let n = self.count;
         let mut ns = Numbers {
@@ -281,16 +252,16 @@ impl Queue {
         };
         let mut i = 0;
         while i < n {
-            ns = push_number(ns, self.entries[i].id);
+            ns = push_number(ns, words[i * 23]);
             i += 1;
         }
         ns
     }
 
     // Which histories the entries' updates are in.
-    pub fn touched(self) -> [bool; 16]
-        requires { ⌜ UsableQueue self ⌝ }
-        ensures { λ r. ⌜ Says false r (λ (h : ℕ). any (asks h) (operationsOf (queueOf self))) ⌝ }
+    pub fn touched(self, words: &QueueWords) -> [bool; 16]
+        requires { ⌜ UsableQueue (stored self (now words)) ⌝ }
+        ensures { λ r. ⌜ Says false r (λ (h : ℕ). any (asks h) (operationsOf (queueOf (stored self (now (words .entry)))))) ⌝ }
     {
         let n = self.count;
         let mut m = Marks {
@@ -299,7 +270,7 @@ impl Queue {
         };
         let mut i = 0;
         while i < n {
-            let e = self.entries[i];
+            let e = entry_at(words, i);
             m = marked(m, e);
             i += 1;
         }
@@ -307,9 +278,9 @@ impl Queue {
     }
 
     // The marks of what is in progress.
-    pub fn marks(self) -> Marks
-        requires { ⌜ UsableQueue self ⌝ }
-        ensures { λ r. ⌜ Marked r (gather heldOf (queueOf self)) ⌝ }
+    pub fn marks(self, words: &QueueWords) -> Marks
+        requires { ⌜ UsableQueue (stored self (now words)) ⌝ }
+        ensures { λ r. ⌜ Marked r (gather heldOf (queueOf (stored self (now (words .entry))))) ⌝ }
     {
         let n = self.count;
         let mut m = Marks {
@@ -318,7 +289,7 @@ impl Queue {
         };
         let mut i = 0;
         while i < n {
-            let e = self.entries[i];
+            let e = entry_at(words, i);
             m = marked_by(m, e);
             i += 1;
         }
@@ -326,14 +297,14 @@ impl Queue {
     }
 
     // The first entry that can run as a did line.
-    pub fn first_ready_line(self, histories: [History; 16]) -> Found
-        requires { ⌜ UsableQueue self ⌝ }
-        ensures { λ r. ⌜ r ≡ firstAt (canRunEntry (cellsOf histories)) (queueOf self) ⌝ }
+    pub fn first_ready_line(self, words: &QueueWords, histories: [History; 16]) -> Found
+        requires { ⌜ UsableQueue (stored self (now words)) ⌝ }
+        ensures { λ r. ⌜ r ≡ firstAt (canRunEntry (cellsOf histories)) (queueOf (stored self (now (words .entry)))) ⌝ }
     {
         let n = self.count;
         let mut i = 0;
         while i < n {
-            let e = self.entries[i];
+            let e = entry_at(words, i);
             if can_run(histories, e) {
                 return Found::At(i);
             }
@@ -342,36 +313,28 @@ impl Queue {
         Found::Nothing
     }
 
-    // One pass over the future operations: each is examined once, oldest first.
-    pub fn try_all(self, histories: [History; 16]) -> Tried
-        requires { ⌜ UsableQueue self ⌝ }
-        ensures { λ r. ⌜ Tries (cellsOf histories) (queueOf self) r ⌝ }
-        ensures { λ r. ⌜ r .queue .count ≡ self .count ⌝ }
+    // One pass over the future operations: each is examined once, oldest first. The answer has the ids made ready.
+    pub fn try_all(self, words: &mut QueueWords, histories: [History; 16]) -> Numbers
+        requires { ⌜ UsableQueue (stored self (now words)) ⌝ }
+        ensures { λ r. ⌜ Tries (cellsOf histories) (queueOf (stored self (now (words .entry)))) (stored self (now (words .exit))) r ⌝ }
     {
         let n = self.count;
-        let mut m = self.marks();
-        let mut entries = self.entries;
+        let mut m = self.marks(words);
         let mut ready = Numbers {
             count: 0,
             values: [0; 64],
         };
         let mut i = 0;
         while i < n {
-            let e = entries[i];
+            let e = entry_at(words, i);
             if may_start(histories, m, e) {
                 m = marked(m, e);
-                entries[i] = started(e);
+                start_entry(words, i);
                 ready = push_number(ready, e.id);
             }
             i += 1;
         }
-        Tried {
-            queue: Queue {
-                count: n,
-                entries: entries,
-            },
-            ready: ready,
-        }
+        ready
     }
 }
 
@@ -446,64 +409,50 @@ pub fn became_dry(before: [bool; 16], after: [bool; 16], n: usize) -> Numbers
 }
 
 impl DoneList {
+    // No operations.
     pub fn empty() -> DoneList
-        ensures { λ r. ⌜ IsDone r [] ⌝ }
+        ensures { λ r. ⌜ ((ws : List ℕ) → IsDone (storedDone r ws) []) ⌝ }
     {
-        let e = DoneEntry {
-            id: 0,
-            count: 0,
-            histories: [0; 4],
-            versions: [0; 4],
-        };
-        DoneList {
-            count: 0,
-            entries: [e; 64],
-        }
+        DoneList { count: 0 }
     }
 
     // One operation more at the end. The caller sees to it that there is room.
-    pub fn push(self, e: DoneEntry) -> DoneList
-        requires { ⌜ UsableDones self ⌝ }
+    pub fn push(self, words: &mut DoneWords, e: DoneEntry) -> DoneList
+        requires { ⌜ UsableDones (storedDone self (now words)) ⌝ }
         requires { ⌜ self .count < 64 ⌝ }
         requires { ⌜ UsableDone e ⌝ }
-        ensures { λ r. ⌜ IsDone r (doneOf self ++ (e ∷ [])) ⌝ }
+        ensures { λ r. ⌜ IsDone (storedDone r (now (words .exit))) (doneOf (storedDone self (now (words .entry))) ++ (e ∷ [])) ⌝ }
     {
         let at = self.count;
-        let mut next = self;
-        next.entries[at] = e;
-        next.count = at + 1;
-        next
+        put_done(words, at, e);
+        DoneList { count: at + 1 }
     }
 
     // The list without its first `k` operations.
-    pub fn drop_first(self, k: usize) -> DoneList
-        requires { ⌜ UsableDones self ⌝ }
+    pub fn drop_first(self, words: &mut DoneWords, k: usize) -> DoneList
+        requires { ⌜ UsableDones (storedDone self (now words)) ⌝ }
         requires { ⌜ k ≤ self .count ⌝ }
-        ensures { λ r. ⌜ IsDone r (drop k (doneOf self)) ⌝ }
+        ensures { λ r. ⌜ IsDone (storedDone r (now (words .exit))) (drop k (doneOf (storedDone self (now (words .entry))))) ⌝ }
     {
         let n = self.count - k;
-        let mut entries = self.entries;
         let mut i = 0;
         while i < n {
-            let e = self.entries[i + k];
-            entries[i] = e;
+            let e = done_at(words, i + k);
+            put_done(words, i, e);
             i += 1;
         }
-        DoneList {
-            count: n,
-            entries: entries,
-        }
+        DoneList { count: n }
     }
 
     // Whether an operation has this id.
-    pub fn has_id(self, id: u64) -> bool
-        requires { ⌜ UsableDones self ⌝ }
-        ensures { λ r. ⌜ r ≡ any (doneHasId id) (doneOf self) ⌝ }
+    pub fn has_id(self, words: &DoneWords, id: u64) -> bool
+        requires { ⌜ UsableDones (storedDone self (now words)) ⌝ }
+        ensures { λ r. ⌜ r ≡ any (doneHasId id) (doneOf (storedDone self (now (words .entry)))) ⌝ }
     {
         let n = self.count;
         let mut i = 0;
         while i < n {
-            if self.entries[i].id == id {
+            if words[i * 10] == id {
                 return true;
             }
             i += 1;
@@ -512,16 +461,16 @@ impl DoneList {
     }
 
     // Which histories the operations behind the first `from` touch.
-    pub fn touched(self, from: usize) -> [bool; 16]
-        requires { ⌜ UsableDones self ⌝ }
+    pub fn touched(self, words: &DoneWords, from: usize) -> [bool; 16]
+        requires { ⌜ UsableDones (storedDone self (now words)) ⌝ }
         requires { ⌜ from ≤ self .count ⌝ }
-        ensures { λ r. ⌜ Says false r (λ (h : ℕ). any (doneTouches h) (drop from (doneOf self))) ⌝ }
+        ensures { λ r. ⌜ Says false r (λ (h : ℕ). any (doneTouches h) (drop from (doneOf (storedDone self (now (words .entry)))))) ⌝ }
     {
         let n = self.count;
         let mut t = [false; 16];
         let mut i = from;
         while i < n {
-            let e = self.entries[i];
+            let e = done_at(words, i);
             let next = touch(t, e);
             t = next;
             i += 1;
@@ -530,16 +479,22 @@ impl DoneList {
     }
 
     // The histories' versions after the first `to` operations, from those after the first `from`.
-    pub fn advance(self, versions: [u64; 16], from: usize, to: usize) -> [u64; 16]
-        requires { ⌜ UsableDones self ⌝ }
+    pub fn advance(
+        self,
+        words: &DoneWords,
+        versions: [u64; 16],
+        from: usize,
+        to: usize,
+    ) -> [u64; 16]
+        requires { ⌜ UsableDones (storedDone self (now words)) ⌝ }
         requires { ⌜ from ≤ to ⌝ }
         requires { ⌜ to ≤ self .count ⌝ }
-        ensures { λ r. ⌜ Says 0 r (λ (h : ℕ). versionFrom h (getD versions h 0) (drop from (take to (doneOf self)))) ⌝ }
+        ensures { λ r. ⌜ Says 0 r (λ (h : ℕ). versionFrom h (getD versions h 0) (drop from (take to (doneOf (storedDone self (now (words .entry))))))) ⌝ }
     {
         let mut vs = versions;
         let mut i = from;
         while i < to {
-            let e = self.entries[i];
+            let e = done_at(words, i);
             let next = stamp(vs, e);
             vs = next;
             i += 1;

@@ -6,6 +6,7 @@ use mathlib.Core.List.{List}
 use Rattle.stream.specs.declared.Stream.{Stream}
 use lib.ListN.{length}
 use lib.Seq.{length-take-le}
+use Rattle.site.specs.Model.{lent}
 use Rattle.stream.specs.Model.{ValidStream}
 use Rattle.stream.specs.ChunkLaws.{Moves, moves-on}
 use borrow.Author.Needs.{needs}
@@ -17,103 +18,90 @@ use Rattle.io.proofs.write_all.Reads as write-all-reads
 use Rattle.stream.proofs.Stream.feed.Reads as feed-reads
 
 -- what holds between two calls of feed
-record Holds (log₀ chunk out₀ log out : List ℕ) (stream : Stream) (at : ℕ) : Type 0 where
+record Holds (log₀ chunk out₀ log queued done out : List ℕ) (stream : Stream) (at : ℕ) : Type 0 where
   within : at ≤ length chunk
-  valid : ValidStream stream log
+  valid : ValidStream stream (lent log queued done)
   room : length log ≡ length log₀
   long : length out ≡ length out₀
 
 abbrev Inv-loop : tie.InvT-loop
-Inv-loop log₀ chunk out₀ stream₀ at₀ log out stream at = Holds log₀ chunk out₀ log out stream at
+Inv-loop log₀ queued₀ done₀ chunk out₀ stream₀ at₀ log queued done out stream at = Holds log₀ chunk out₀ log queued done out stream at
 
 abbrev μ-loop : tie.MeasureT-loop
-μ-loop log₀ chunk out₀ stream₀ at₀ log out stream at = length chunk - at
+μ-loop log₀ queued₀ done₀ chunk out₀ stream₀ at₀ log queued done out stream at = length chunk - at
 
 -- the call of feed moved on
-moved : (c : tie.After-feed Inv-loop μ-loop) → Moves (now (c .before .before .before .before .before .before .before .before .before .args .chunk)) (c .before .before .before .before .before .loop .at) (c .feed .result .used)
+moved : (c : tie.After-feed Inv-loop μ-loop) → Moves (now (c .before .before .before .before .before .before .before .before .before .before .before .args .chunk)) (c .before .before .before .before .before .before .before .loop .at) (c .feed .result .used)
 moved c =
-    let i = c .before .before .before .before .before .loop .inv in
-    moves-on _ _ (now (c .before .before .before .before .before .before .before .before .before .args .chunk)) (c .before .before .before .before .before .loop .at) (c .feed .result) _ _ _ (i .valid) (c .feed .ensures)
-    (let l = i .long in omega (arith, l, c .before .before .before .before .before .before .before .before .before .pre .1)) (c .before .before .before .before .loop-test .taken)
+    let i = c .before .before .before .before .before .before .before .loop .inv in
+    moves-on _ _ (now (c .before .before .before .before .before .before .before .before .before .before .before .args .chunk)) (c .before .before .before .before .before .before .before .loop .at) (c .feed .result) _ _ _ (i .valid) (c .feed .ensures)
+    (let l = i .long in omega (arith, l, c .before .before .before .before .before .before .before .before .before .before .before .pre .1)) (c .before .before .before .before .before .before .loop-test .taken)
 
--- src/main.rt:25:5
+-- what holds after the call of feed
+kept : (c : tie.After-feed Inv-loop μ-loop) →
+    Holds (now (c .before .before .before .before .before .before .before .before .before .before .before .args .log)) (now (c .before .before .before .before .before .before .before .before .before .before .before .args .chunk)) (now (c .before .before .before .before .before .before .before .before .before .before .before .args .out))
+    (c .feed .last .1 .0) (c .feed .last .1 .1 .0) (c .feed .last .1 .1 .1 .0) (c .feed .last .1 .1 .1 .1 .1 .0) (c .feed .result .stream) (c .before .before .before .before .before .before .before .loop .at + c .feed .result .used)
+kept c =
+    let f = c .feed in
+    let l = c .before .before .before .before .before .before .before .loop in
+    let room : length (f .last .1 .0) ≡ length (l .log) = f .ensures .room in
+    let long : length (f .last .1 .1 .1 .1 .1 .0) ≡ length (l .out) = search needs in
+    record { within = moved c .within; valid = f .ensures .valid; room = room ∙ l .inv .room; long = long ∙ l .inv .long }
+
 loop-holds : tie.Need-loop-holds Inv-loop μ-loop
 loop-holds c = record { within = omega arith; valid = c .before .before .before .pre .0; room = refl; long = refl }
 
--- src/main.rt:26:34
 sub-feed : tie.Need-sub-feed Inv-loop μ-loop
-sub-feed c = c .before .before .loop .inv .within
+sub-feed c = c .before .before .before .before .loop .inv .within
 
--- src/main.rt:26:34
 part-feed-start : tie.Need-part-feed-start Inv-loop μ-loop
-part-feed-start c = let w = c .before .before .loop .inv .within in search needs
+part-feed-start c = let w = c .before .before .before .before .loop .inv .within in search needs
 
--- src/main.rt:26:34
 part-feed-end : tie.Need-part-feed-end Inv-loop μ-loop
-part-feed-end c = let w = c .before .before .loop .inv .within in search needs
+part-feed-end c = let w = c .before .before .before .before .loop .inv .within in search needs
 
--- src/main.rt:26:13
 feed-requires : tie.Need-feed-requires Inv-loop μ-loop
-feed-requires c κs = c .before .before .before .before .loop .inv .valid
+feed-requires c κs = (c .before .before .before .before .before .before .loop .inv .valid)
 
--- src/main.rt:28:9
 add-at : tie.Need-add-at Inv-loop μ-loop
-add-at c = let m = moved (c .before .before .before .before .before) .within in let g : length (now (c .before .before .before .before .before .before .before .before .before .before .before .before .before .before .args .chunk)) < 18446744073709551616 = c .before .before .before .before .before .before .before .before .before .before .before .before .before .before .good .1 .1 .0 .0 in omega (arith, m, g)
+add-at c = let m = moved (c .before .before .before .before .before) .within in let g : length (now (c .before .before .before .before .before .before .before .before .before .before .before .before .before .before .before .before .args .chunk)) < 18446744073709551616 = c .before .before .before .before .before .before .before .before .before .before .before .before .before .before .before .before .good .1 .1 .1 .1 .0 .0 in omega (arith, m, g)
 
--- src/main.rt:30:42
 slice-reshare-prefix-write-all : tie.Need-slice-reshare-prefix-write-all Inv-loop μ-loop
 slice-reshare-prefix-write-all c =
     let f = c .before .before .before .before .before .before .feed in
-    let long : length (f .last .1 .1 .1 .0) ≡ length (c .before .before .before .before .before .before .before .before .before .before .before .loop .out) = search needs in
+    let long : length (f .last .1 .1 .1 .1 .1 .0) ≡ length (c .before .before .before .before .before .before .before .before .before .before .before .before .before .loop .out) = search needs in
     omega (arith, f .ensures .fits, long)
 
--- src/main.rt:30:42
 slice-aggregate-write-all : tie.Need-slice-aggregate-write-all Inv-loop μ-loop
 slice-aggregate-write-all c =
     let f = c .before .before .before .before .before .before .before .feed in
-    let long : length (f .last .1 .1 .1 .0) ≡ length (c .before .before .before .before .before .before .before .before .before .before .before .before .loop .out) = search needs in
+    let long : length (f .last .1 .1 .1 .1 .1 .0) ≡ length (c .before .before .before .before .before .before .before .before .before .before .before .before .before .before .loop .out) = search needs in
     sym (length-take-le _ _ (omega (arith, f .ensures .fits, long)))
 
--- src/main.rt:30:13
 write-all-requires : tie.Need-write-all-requires Inv-loop μ-loop
 write-all-requires c κs = search needs
 
--- src/main.rt:31:13
 same-length : tie.Need-same-length Inv-loop μ-loop
-same-length c = let r = c .before .before .before .before .before .before .before .before .before .feed .ensures .room in r ∙ c .before .before .before .before .before .before .before .before .before .before .before .before .before .before .loop .inv .room
+same-length c = kept (c .before .before .before .before .before .before .before .before .before) .room
 
--- src/main.rt:31:13
 same-length-2 : tie.Need-same-length-2 Inv-loop μ-loop
-same-length-2 c =
-    let f = c .before .before .before .before .before .before .before .before .before .feed in
-    let long : length (f .last .1 .1 .1 .0) ≡ length (c .before .before .before .before .before .before .before .before .before .before .before .before .before .before .loop .out) = search needs in
-    long ∙ c .before .before .before .before .before .before .before .before .before .before .before .before .before .before .loop .inv .long
+same-length-2 c = kept (c .before .before .before .before .before .before .before .before .before) .long
 
--- src/main.rt:31:13
 returns : tie.Need-returns Inv-loop μ-loop
-returns c = c .before .before .before .before .before .before .before .before .before .feed .ensures .valid
+returns c = kept (c .before .before .before .before .before .before .before .before .before) .valid
 
--- src/main.rt:25:5
 loop-less : tie.Need-loop-less Inv-loop μ-loop
 loop-less c = let m = moved (c .before .before .before .before .before .before .before .before .before) in omega (arith, m .some, m .within)
 
--- src/main.rt:25:5
 loop-again : tie.Need-loop-again Inv-loop μ-loop
-loop-again c =
-    let f = c .before .before .before .before .before .before .before .before .before .feed in
-    let i = c .before .before .before .before .before .before .before .before .before .before .before .before .before .before .loop .inv in
-    let long : length (f .last .1 .1 .1 .0) ≡ length (c .before .before .before .before .before .before .before .before .before .before .before .before .before .before .loop .out) = search needs in
-    record { within = moved (c .before .before .before .before .before .before .before .before .before) .within; valid = f .ensures .valid; room = f .ensures .room ∙ i .room; long = long ∙ i .long }
+loop-again c = kept (c .before .before .before .before .before .before .before .before .before)
 
--- src/main.rt:18:1
 same-length-3 : tie.Need-same-length-3 Inv-loop μ-loop
 same-length-3 c = c .before .loop .inv .room
 
--- src/main.rt:18:1
 same-length-4 : tie.Need-same-length-4 Inv-loop μ-loop
 same-length-4 c = c .before .loop .inv .long
 
--- src/main.rt:18:1
 returns-2 : tie.Need-returns-2 Inv-loop μ-loop
 returns-2 c = c .before .loop .inv .valid
 

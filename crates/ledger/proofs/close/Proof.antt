@@ -12,15 +12,12 @@ use Rattle.ledger.proofs.close.Lts as lts
 use Rattle.io.proofs.write_all.Reads as write-all-reads
 use Rattle.stream.proofs.Stream.finish.Reads as finish-reads
 
--- src/main.rt:41:29
 finish-requires : tie.Need-finish-requires
-finish-requires c κs = search needs
+finish-requires c κs = (c .before .before .pre)
 
--- src/main.rt:41:24
 enum-known-n : tie.Need-enum-known-n
 enum-known-n c = search needs
 
--- src/main.rt:42:38
 slice-reshare-prefix-write-all : tie.Need-slice-reshare-prefix-write-all
 slice-reshare-prefix-write-all c =
     let e = c .before .before .before .before .before .before .before .before in
@@ -29,7 +26,6 @@ slice-reshare-prefix-write-all c =
     let h = rest-within (e .args .stream .begun) (now (e .args .out)) 0 (f .result) _ (c .before .n .given .0 .0) (e .pre) (f .ensures) (c .before .n .given .1) in
     omega (arith, h, long)
 
--- src/main.rt:42:38
 slice-aggregate-write-all : tie.Need-slice-aggregate-write-all
 slice-aggregate-write-all c =
     let e = c .before .before .before .before .before .before .before .before .before in
@@ -38,26 +34,21 @@ slice-aggregate-write-all c =
     let h = rest-within (e .args .stream .begun) (now (e .args .out)) 0 (f .result) _ (c .before .before .n .given .0 .0) (e .pre) (f .ensures) (c .before .before .n .given .1) in
     sym (length-take-le _ _ (omega (arith, h, long)))
 
--- src/main.rt:42:9
 write-all-requires : tie.Need-write-all-requires
 write-all-requires c κs = search needs
 
 enum-told : tie.Need-enum-told
 enum-told c = search needs
 
--- src/main.rt:38:1
 same-length : tie.Need-same-length
 same-length c = search needs
 
--- src/main.rt:38:1
 returns : tie.Need-returns
 returns c = search needs
 
--- src/main.rt:38:1
 same-length-2 : tie.Need-same-length-2
 same-length-2 c = search needs
 
--- src/main.rt:38:1
 returns-2 : tie.Need-returns-2
 returns-2 c = search needs
 

@@ -6,6 +6,7 @@ use mathlib.Core.List.{List}
 use lib.ListN.{length}
 use borrow.Author.Needs.{needs}
 use Rattle.stream.specs.declared.Stream.{Stream}
+use Rattle.site.specs.Model.{lent}
 use Rattle.stream.specs.Model.{ValidStream}
 use Rattle.ledger.proofs.serve.Statement.{statement}
 use Rattle.ledger.proofs.serve.Tie as tie
@@ -15,82 +16,69 @@ use Rattle.ledger.proofs.step.Reads as step-reads
 use Rattle.stream.proofs.Stream.start.Reads as start-reads
 
 -- what holds between two reads
-record Holds (log₀ chunk₀ out₀ log chunk out : List ℕ) (stream : Stream) : Type 0 where
-  valid : ValidStream stream log
+record Holds (log₀ chunk₀ out₀ log queued done chunk out : List ℕ) (stream : Stream) : Type 0 where
+  valid : ValidStream stream (lent log queued done)
   room : length log ≡ length log₀
   input : length chunk ≡ length chunk₀
   long : length out ≡ length out₀
 
 abbrev Inv-loop : tie.InvT-loop
-Inv-loop log₀ chunk₀ out₀ stream₀ turns₀ log chunk out stream turns = Holds log₀ chunk₀ out₀ log chunk out stream
+Inv-loop log₀ queued₀ done₀ chunk₀ out₀ stream₀ turns₀ log queued done chunk out stream turns = Holds log₀ chunk₀ out₀ log queued done chunk out stream
 
 abbrev μ-loop : tie.MeasureT-loop
-μ-loop log₀ chunk₀ out₀ stream₀ turns₀ log chunk out stream turns = turns
+μ-loop log₀ queued₀ done₀ chunk₀ out₀ stream₀ turns₀ log queued done chunk out stream turns = turns
 
 -- the buffers keep their lengths
 kept : (c : tie.After-step Inv-loop μ-loop) →
-    Holds (now (c .before .before .before .before .before .before .before .before .before .before .args .log)) (now (c .before .before .before .before .before .before .before .before .before .before .args .chunk)) (now (c .before .before .before .before .before .before .before .before .before .before .args .out)) (c .step .last .1 .0) (c .step .last .1 .1 .0) (c .step .last .1 .1 .1 .0) (c .step .result .stream)
+    Holds (now (c .before .before .before .before .before .before .before .before .before .before .before .before .args .log)) (now (c .before .before .before .before .before .before .before .before .before .before .before .before .args .chunk)) (now (c .before .before .before .before .before .before .before .before .before .before .before .before .args .out))
+    (c .step .last .1 .0) (c .step .last .1 .1 .0) (c .step .last .1 .1 .1 .0) (c .step .last .1 .1 .1 .1 .0) (c .step .last .1 .1 .1 .1 .1 .0) (c .step .result .stream)
 kept c =
     let s = c .step in
-    let l = c .before .before .before .before .before .loop in
+    let l = c .before .before .before .before .before .before .before .loop in
     let a : length (s .last .1 .0) ≡ length (l .log) = search needs in
-    let b : length (s .last .1 .1 .0) ≡ length (l .chunk) = search needs in
-    let d : length (s .last .1 .1 .1 .0) ≡ length (l .out) = search needs in
+    let b : length (s .last .1 .1 .1 .1 .0) ≡ length (l .chunk) = search needs in
+    let d : length (s .last .1 .1 .1 .1 .1 .0) ≡ length (l .out) = search needs in
     record { valid = s .ensures; room = a ∙ l .inv .room; input = b ∙ l .inv .input; long = d ∙ l .inv .long }
 
--- src/main.rt:68:9
 start-requires : tie.Need-start-requires Inv-loop μ-loop
 start-requires c κs = search needs
 
--- src/main.rt:70:5
 loop-holds : tie.Need-loop-holds Inv-loop μ-loop
-loop-holds c = record { valid = c .start .ensures (now (c .before .before .before .before .args .log)) .valid; room = refl; input = refl; long = refl }
+loop-holds c = let e = c .before .before .before .before in record { valid = c .start .ensures (lent (now (e .args .log)) (now (e .args .queued)) (now (e .args .done))) .valid; room = refl; input = refl; long = refl }
 
--- src/main.rt:71:13
 step-requires : tie.Need-step-requires Inv-loop μ-loop
-step-requires c κs = (c .before .before .before .before .loop .inv .valid, let l = c .before .before .before .before .loop .inv .long in omega (arith, l, c .before .before .before .before .before .before .before .before .before .pre))
+step-requires c κs = (c .before .before .before .before .before .before .loop .inv .valid, let l = c .before .before .before .before .before .before .loop .inv .long in omega (arith, l, c .before .before .before .before .before .before .before .before .before .before .before .pre))
 
--- src/main.rt:75:13
 sub-turns : tie.Need-sub-turns Inv-loop μ-loop
-sub-turns c = omega (arith, c .before .before .before .before .before .before .before .before .before .before .before .before .loop-test .taken)
+sub-turns c = omega (arith, c .before .before .before .before .before .before .before .before .before .before .before .before .before .before .loop-test .taken)
 
--- src/main.rt:70:5
 loop-less : tie.Need-loop-less Inv-loop μ-loop
-loop-less c = omega (arith, c .before .before .before .before .before .before .before .before .before .before .before .before .loop-test .taken)
+loop-less c = omega (arith, c .before .before .before .before .before .before .before .before .before .before .before .before .before .before .loop-test .taken)
 
--- src/main.rt:70:5
 loop-again : tie.Need-loop-again Inv-loop μ-loop
 loop-again c = kept (c .before .before .before .before .before .before .before .before)
 
--- src/main.rt:77:13
 same-length : tie.Need-same-length Inv-loop μ-loop
 same-length c = kept (c .before .before .before .before .before .before .before .before) .room
 
--- src/main.rt:77:13
 same-length-2 : tie.Need-same-length-2 Inv-loop μ-loop
 same-length-2 c = kept (c .before .before .before .before .before .before .before .before) .input
 
--- src/main.rt:77:13
 same-length-3 : tie.Need-same-length-3 Inv-loop μ-loop
 same-length-3 c = kept (c .before .before .before .before .before .before .before .before) .long
 
--- src/main.rt:77:13
 returns : tie.Need-returns Inv-loop μ-loop
 returns c = search needs
 
--- src/main.rt:65:1
 same-length-4 : tie.Need-same-length-4 Inv-loop μ-loop
 same-length-4 c = c .before .loop .inv .room
 
--- src/main.rt:65:1
 same-length-5 : tie.Need-same-length-5 Inv-loop μ-loop
 same-length-5 c = c .before .loop .inv .input
 
--- src/main.rt:65:1
 same-length-6 : tie.Need-same-length-6 Inv-loop μ-loop
 same-length-6 c = c .before .loop .inv .long
 
--- src/main.rt:65:1
 returns-2 : tie.Need-returns-2 Inv-loop μ-loop
 returns-2 c = search needs
 

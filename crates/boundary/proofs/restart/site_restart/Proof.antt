@@ -1,6 +1,8 @@
 use denote.Ref.{now}
+use mathlib.Core.List.{[]}
 use borrow.Author.Needs.{needs}
 use Rattle.rules.specs.Calls.{restart}
+use Rattle.site.specs.Model.{lent}
 use Rattle.site.specs.OpenLaws.{blankSite}
 use Rattle.boundary.specs.RestartLaws.{does-prints, puts-reply}
 use Rattle.boundary.proofs.restart.site_restart.Statement.{statement}
@@ -20,7 +22,8 @@ write-reply-requires : tie.Need-write-reply-requires
 write-reply-requires c κs =
     let e = c .before .before .before .before .before in
     let bytes = now (e .args .log) in
-    does-prints blankSite bytes (restart bytes (e .args .k)) (c .before .before .restart .result) bytes (c .before .before .restart .ensures)
+    let m = lent bytes [] [] in
+    does-prints blankSite m (restart bytes (e .args .k)) (c .before .before .restart .result) m (c .before .before .restart .ensures [] [])
 
 -- src/restart.rt:28:5
 code-requires : tie.Need-code-requires
@@ -35,9 +38,10 @@ returns : tie.Need-returns
 returns c =
     let e = c .before .before .before .before .before .before .before .before .before in
     let bytes = now (e .args .log) in
-    puts-reply blankSite bytes (restart bytes (e .args .k)) (c .before .before .before .before .before .before .restart .result) bytes (now (e .args .out))
+    let m = lent bytes [] [] in
+    puts-reply blankSite m (restart bytes (e .args .k)) (c .before .before .before .before .before .before .restart .result) m (now (e .args .out))
     (c .before .before .before .write-reply .last .0) (c .before .before .before .write-reply .result) (c .code .result)
-    (c .before .before .before .before .before .before .restart .ensures) (c .before .before .before .write-reply .ensures) (c .code .ensures)
+    (c .before .before .before .before .before .before .restart .ensures [] []) (c .before .before .before .write-reply .ensures) (c .code .ensures)
 
 pub site-restart-spec : {M : Type 1} → statement M
 site-restart-spec =

@@ -1,5 +1,6 @@
 use denote.Ref.{now}
 use Rattle.session.specs.AnswerLaws.{answers}
+use Rattle.site.specs.Model.{lent}
 use borrow.Author.Needs.{needs}
 use Rattle.session.proofs.Session.answer.Statement.{statement}
 use Rattle.session.proofs.Session.answer.Tie as tie
@@ -22,8 +23,8 @@ same-length-2 c = search needs
 
 returns : tie.Need-returns
 returns c =
-    let e = c .before .before .before .before .before .before .before .before .before .before .before .before .before in
-    answers (e .args .self) (now (e .args .log)) _ (c .before .before .before .before .before .before .before .before .turn .result) _ _ (now (e .args .out)) _
+    let e = c .before .before .before .before .before .before .before .before .before .before .before .before .before .before .before in
+    answers (e .args .self) (lent (now (e .args .log)) (now (e .args .queued)) (now (e .args .done))) _ (c .before .before .before .before .before .before .before .before .turn .result) _ _ (now (e .args .out)) _
     (c .before .before .before .before .before .before .before .before .turn .ensures) (c .before .before .write-reply .ensures)
 
 pub answer-spec : {M : Type 1} → statement M

@@ -1,6 +1,7 @@
 use denote.Ref.{now}
 use Rattle.rules.specs.Calls.{Call}
 use Rattle.session.specs.TurnLaws.{calls, calls-closed}
+use Rattle.site.specs.Model.{lent}
 use borrow.Author.Needs.{needs}
 use Rattle.session.proofs.Session.end.Statement.{statement}
 use Rattle.session.proofs.Session.end.Tie as tie
@@ -8,7 +9,7 @@ use Rattle.session.proofs.Session.end.Reads as reads
 use Rattle.session.proofs.Session.end.Lts as lts
 
 end-requires : tie.Need-end-requires
-end-requires c κs = c .before .before .before .pre .site (c .before .if1 .taken)
+end-requires c κs = (c .before .before .before .pre .site (c .before .if1 .taken))
 
 called-requires : tie.Need-called-requires
 called-requires c κs = search needs
@@ -19,13 +20,13 @@ refuse-requires c κs = search needs
 returns : tie.Need-returns
 returns c =
     let e = c .before .before .before .before .before in
-    calls (e .args .self) (now (e .args .log)) Call.End _ (now (e .args .log)) _
+    calls (e .args .self) (lent (now (e .args .log)) (now (e .args .queued)) (now (e .args .done))) Call.End _ (lent (now (e .args .log)) (now (e .args .queued)) (now (e .args .done))) _
     (c .before .before .before .if1 .taken) (e .pre) (c .before .end .ensures) (c .called .ensures)
 
 returns-2 : tie.Need-returns-2
 returns-2 c =
     let e = c .before .before .before in
-    calls-closed (e .args .self) (now (e .args .log)) Call.End _ (c .before .if1 .left) (e .pre) (c .refuse .ensures)
+    calls-closed (e .args .self) (lent (now (e .args .log)) (now (e .args .queued)) (now (e .args .done))) Call.End _ (c .before .if1 .left) (e .pre) (c .refuse .ensures)
 
 pub end-spec : {M : Type 1} → statement M
 end-spec = tie.close (tie.spec end-requires called-requires refuse-requires returns returns-2)

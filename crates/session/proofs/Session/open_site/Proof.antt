@@ -1,6 +1,7 @@
 use denote.Ref.{now}
 use native.Mathlib.Omega.{arith}
 use Rattle.session.specs.OpenLaws.{opens-twice, opens-not, opens}
+use Rattle.site.specs.Model.{lent}
 use borrow.Author.Needs.{needs}
 use Rattle.session.proofs.Session.open_site.Statement.{statement}
 use Rattle.session.proofs.Session.open_site.Tie as tie
@@ -13,7 +14,7 @@ refuse-requires c κs = search needs
 returns : tie.Need-returns
 returns c =
     let e = c .before .before .before in
-    opens-twice (e .args .self) (now (e .args .log)) (e .args .n) _ (c .before .if1 .taken) (e .pre) (c .refuse .ensures)
+    opens-twice (e .args .self) (lent (now (e .args .log)) (now (e .args .queued)) (now (e .args .done))) (e .args .n) _ (c .before .if1 .taken) (e .pre) (c .refuse .ensures)
 
 open-requires : tie.Need-open-requires
 open-requires c κs = search needs
@@ -28,7 +29,7 @@ returns-2 : tie.Need-returns-2
 returns-2 c =
     let o = c .before .before .before .before .before .before in
     let e = o .before .before .before .before in
-    opens-not (e .args .self) (now (e .args .log)) (e .args .n) _ _ (o .before .before .if1 .left) (e .pre) (o .«open» .ensures) (c .if2 .taken)
+    opens-not (e .args .self) (lent (now (e .args .log)) (now (e .args .queued)) (now (e .args .done))) (e .args .n) _ _ (o .before .before .if1 .left) (e .pre) (o .«open» .ensures (now (e .args .queued)) (now (e .args .done))) (c .if2 .taken)
 
 same-length-2 : tie.Need-same-length-2
 same-length-2 c = search needs
@@ -37,7 +38,7 @@ returns-3 : tie.Need-returns-3
 returns-3 c =
     let o = c .before .before .before .before .before .before .before in
     let e = o .before .before .before .before in
-    opens (e .args .self) (now (e .args .log)) (e .args .n) _ _ _ (o .before .before .if1 .left) (o .«open» .ensures) (omega (arith, c .before .if2 .left)) (c .called .ensures)
+    opens (e .args .self) (lent (now (e .args .log)) (now (e .args .queued)) (now (e .args .done))) (e .args .n) _ _ _ (o .before .before .if1 .left) (o .«open» .ensures (now (e .args .queued)) (now (e .args .done))) (omega (arith, c .before .if2 .left)) (c .called .ensures)
 
 pub open-site-spec : {M : Type 1} → statement M
 open-site-spec =

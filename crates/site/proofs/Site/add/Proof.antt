@@ -1,25 +1,172 @@
-use Rattle.site.specs.TrimLaws.{trimmed-asks, updates-writable}
+use denote.Ref.{now}
+use Prim.Native.Nat.{_≤_}
+use native.Mathlib.Omega.{arith}
+use mathlib.Core.Path.{_≡_, refl, sym, _∙_}
+use mathlib.Core.Option.{Option, none}
+use Rattle.forms.specs.Decimal.{top}
+use Rattle.forms.specs.declared.Refusal.{Refusal}
+use Rattle.rules.specs.Calls.{addRefusal}
+use Rattle.history.specs.Asking.{verdictOf}
+use Rattle.table.specs.Slots.{stored}
+use Rattle.site.specs.Whole.{Sound}
+use Rattle.site.specs.Model.{lent, whole, view}
+use Rattle.site.specs.ModelLaws.{refuses, does}
+use Rattle.site.specs.ShowLaws.{count-most}
+use Rattle.site.specs.Trim.{updatesHeld}
+use Rattle.site.specs.TrimLaws.{updates-writable}
+use Rattle.site.specs.SeenLaws.{site-sees, passes-is, refused-is}
+use Rattle.site.specs.AddLaws.{add-refused, add-does, add-room, passed-usable, passed-enters}
 use borrow.Author.Needs.{needs}
 use Rattle.site.proofs.Site.add.Statement.{statement}
 use Rattle.site.proofs.Site.add.Tie as tie
 use Rattle.site.proofs.Site.add.Reads as reads
 use Rattle.site.proofs.Site.add.Lts as lts
-use Rattle.site.proofs.Site.add_trimmed.Reads as add-trimmed-reads
+use Rattle.history.proofs.entry_of_asked.Reads as entry-of-asked-reads
+use Rattle.site.proofs.add.add_refusal.Reads as add-refusal-reads
 use Rattle.site.proofs.add.trimmed_asked.Reads as trimmed-asked-reads
+use Rattle.site.proofs.no_numbers.Reads as no-numbers-reads
+use Rattle.site.proofs.refusal.Reads as refusal-reads
+use Rattle.table.proofs.DoneList.has_id.Reads as DoneList-has-id-reads
+use Rattle.table.proofs.Queue.has_id.Reads as Queue-has-id-reads
+use Rattle.table.proofs.Queue.push.Reads as push-reads
+use Rattle.table.proofs.Queue.try_all.Reads as try-all-reads
 
--- src/add.rt:164:13
+-- what the rule book says of the operation
+abbrev ruled : tie.After-add-refusal → Option Refusal
+ruled r =
+    let a = r .before .before .before .before .before .before .before .before .before .before .before .args in
+    addRefusal (a .id) (updatesHeld (a .asked)) (view (a .self) (lent (now (a .log)) (now (a .queued)) (now (a .done))))
+
+-- what the checks said is what the rule book says
+said : (r : tie.After-add-refusal) → r .add-refusal .result ≡ verdictOf (ruled r)
+said r =
+    let e = r .before .before .before .before .before .before .before .before .before .before .before in
+    let a = e .args in
+    let s = whole (a .self) (lent (now (a .log)) (now (a .queued)) (now (a .done))) in
+    let waits = r .before .before .before .before .has-id .ensures in
+    let stands = r .before .before .before .has-id2 .ensures in
+    r .add-refusal .ensures _ (r .before .before .before .before .before .before .before .before .before .trimmed-asked .ensures .is)
+    _ (site-sees s (now (a .log)) (e .pre) (a .id) _ _ _ waits stands refl)
+
+-- .. and nothing where they passed
+free : (t : tie.After-enum-told) → ruled (t .before .before) ≡ none
+free t = passes-is _ (sym (t .enum-told .given .1) ∙ said (t .before .before))
+
+-- src/add.rt:118:13
 trimmed-asked-requires : tie.Need-trimmed-asked-requires
 trimmed-asked-requires c κs = search needs
 
--- src/add.rt:165:9
-add-trimmed-requires : tie.Need-add-trimmed-requires
-add-trimmed-requires c κs = (c .before .before .pre, trimmed-asks _ _ (c .trimmed-asked .ensures))
+-- src/add.rt:125:22
+has-id-requires : tie.Need-has-id-requires
+unfolding Sound
+has-id-requires c κs = (c .before .before .before .before .before .before .pre .carries .usable)
 
--- src/add.rt:160:5
+-- src/add.rt:126:19
+has-id-requires-2 : tie.Need-has-id-requires-2
+unfolding Sound
+has-id-requires-2 c κs = (c .before .before .before .before .before .before .before .pre .carries .finished .usable)
+
+-- src/add.rt:127:33
+add-t19 : tie.Need-add-t19
+unfolding Sound
+add-t19 c =
+    let k = c .before .before .before .before .before .before .before .before .before .before .pre .carries in
+    omega (arith, k .usable .few, k .finished .usable .few)
+
+-- src/add.rt:130:15
+add-refusal-requires : tie.Need-add-refusal-requires
+add-refusal-requires c κs = (
+  count-most _ _ (c .before .before .before .before .before .before .before .before .before .before .pre),
+  (_, c .before .before .before .before .before .before .before .before .trimmed-asked .ensures .is),
+)
+
+-- src/add.rt:131:30
+enum-known-q : tie.Need-enum-known-q
+enum-known-q c = search needs
+
+-- src/add.rt:133:24
+refusal-requires : tie.Need-refusal-requires
+refusal-requires c κs = search needs
+
+-- src/add.rt:136:39
+enum-told : tie.Need-enum-told
+enum-told c = search needs
+
+-- src/add.rt:136:47
+entry-of-asked-requires : tie.Need-entry-of-asked-requires
+entry-of-asked-requires c κs =
+    let e = c .before .before .before .before .before .before .before .before .before .before .before .before .before .before in
+    let a = e .args in
+    let s = whole (a .self) (lent (now (a .log)) (now (a .queued)) (now (a .done))) in
+    let t = c .before .before .before .before .before .before .before .before .before .before .before .before .trimmed-asked .ensures in
+    passed-usable s (now (a .log)) (e .pre) (a .id) _ (free (c .before)) _ (t .is)
+
+-- src/add.rt:136:21
+push-requires : tie.Need-push-requires
+unfolding Sound
+push-requires c κs =
+    let e = c .before .before .before .before .before .before .before .before .before .before .before .before .before .before .before in
+    let a = e .args in
+    let s = whole (a .self) (lent (now (a .log)) (now (a .queued)) (now (a .done))) in
+    let room = add-room s (now (a .log)) (e .pre) (a .id) _ (free (c .before .before)) in
+    (e .pre .carries .usable, (room, (c .entry-of-asked .ensures .usable)))
+
+-- src/add.rt:137:21
+try-all-requires : tie.Need-try-all-requires
+try-all-requires c κs = (c .before .push .ensures .usable)
+
+-- src/add.rt:145:33
+no-numbers-requires : tie.Need-no-numbers-requires
+no-numbers-requires c κs = search needs
+
+-- src/add.rt:106:5
 returns : tie.Need-returns
 returns c =
-    let t = c .before .trimmed-asked .ensures in
-    c .add-trimmed .ensures _ (t .is) (updates-writable _ (t .writable))
+    let r = c .before .before .before .before in
+    let e = r .before .before .before .before .before .before .before .before .before .before .before in
+    let a = e .args in
+    let m = lent (now (a .log)) (now (a .queued)) (now (a .done)) in
+    let t = r .before .before .before .before .before .before .before .before .before .trimmed-asked .ensures in
+    let le : a .id ≤ top = omega (arith, e .fits .id) in
+    refuses (a .self) m _ _ _
+    (add-refused (a .id) _ (view (a .self) m) le (updates-writable _ (t .writable)) _
+    (refused-is _ _ (sym (c .before .before .q .given .1) ∙ said r))) (c .refusal .ensures) refl
+
+-- src/add.rt:106:5
+returns-2 : tie.Need-returns-2
+returns-2 c =
+    let r = c .before .before .before .before .before .before .before .before in
+    let e = r .before .before .before .before .before .before .before .before .before .before .before in
+    let a = e .args in
+    let m = lent (now (a .log)) (now (a .queued)) (now (a .done)) in
+    let s = whole (a .self) m in
+    let t = r .before .before .before .before .before .before .before .before .before .trimmed-asked .ensures in
+    let le : a .id ≤ top = omega (arith, e .fits .id) in
+    let f = free (c .before .before .before .before .before .before) in
+    let push = c .before .before .before .push in
+    let pushed = push .last .1 .0 in
+    let try = c .before .try-all in
+    let words = try .last .1 .0 in
+    does (a .self) m _ _ (lent (now (a .log)) words (now (a .done)))
+    (add-does s (now (a .log)) (e .pre) (a .id) _ le (updates-writable _ (t .writable)) f _
+    (passed-enters s (now (a .log)) (e .pre) (a .id) _ f _ (t .is) _ (c .before .before .before .before .entry-of-asked .ensures))
+    (stored (push .result) pushed) (push .ensures) (stored (push .result) words) _ (try .ensures) _ (c .no-numbers .ensures))
 
 pub add-spec : {M : Type 1} → statement M
-add-spec = tie.close (tie.spec trimmed-asked-requires add-trimmed-requires returns)
+add-spec =
+    tie.close
+    (tie.spec
+    trimmed-asked-requires
+    has-id-requires
+    has-id-requires-2
+    add-t19
+    add-refusal-requires
+    enum-known-q
+    refusal-requires
+    enum-told
+    entry-of-asked-requires
+    push-requires
+    try-all-requires
+    no-numbers-requires
+    returns
+    returns-2)

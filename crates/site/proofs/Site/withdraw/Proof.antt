@@ -1,10 +1,12 @@
 use denote.Ref.{now}
 use native.Mathlib.Omega.{arith}
-use mathlib.Core.Path.{refl, sym, _∙_}
+use mathlib.Core.Path.{sym, _∙_}
 use mathlib.Core.Bool.{false}
 use Rattle.forms.specs.declared.Refusal.the-variants.{WrongState, OutOfTurn}
-use Rattle.site.specs.Model.{Valid}
-use Rattle.site.specs.ModelLaws.{refuses}
+use Rattle.table.specs.Slots.{stored}
+use Rattle.site.specs.Whole.{Sound}
+use Rattle.site.specs.Model.{lent, whole}
+use Rattle.site.specs.ModelLaws.{refuses, does}
 use Rattle.site.specs.MarkLaws.{marked}
 use Rattle.site.specs.WithdrawLaws.{withdraw-refused-turn, withdraw-refused-state, found-below, volatile-few, withdraw-does}
 use borrow.Author.Needs.{needs}
@@ -12,94 +14,114 @@ use Rattle.site.proofs.Site.withdraw.Statement.{statement}
 use Rattle.site.proofs.Site.withdraw.Tie as tie
 use Rattle.site.proofs.Site.withdraw.Reads as reads
 use Rattle.site.proofs.Site.withdraw.Lts as lts
+use Rattle.site.proofs.Site.refused.Reads as refused-reads
 use Rattle.site.proofs.busy.busy.Reads as busy-reads
 use Rattle.site.proofs.no_numbers.Reads as no-numbers-reads
-use Rattle.site.proofs.Site.refused.Reads as refused-reads
 use Rattle.table.proofs.Queue.find.Reads as find-reads
 use Rattle.table.proofs.Queue.remove.Reads as remove-reads
 use Rattle.table.proofs.became_dry.Reads as became-dry-reads
 
--- src/withdraw.rt:24:24
+-- src/withdraw.rt:24:13
 refused-requires : tie.Need-refused-requires
 refused-requires c κs = search needs
 
--- src/withdraw.rt:22:13
+-- src/withdraw.rt:24:13
 returns : tie.Need-returns
 returns c =
     let e = c .before .before .before in
-    refuses (e .args .self) (now (e .args .log)) _ OutOfTurn _
-    (withdraw-refused-turn (e .args .self) (now (e .args .log)) (e .args .id) (omega (arith, e .fits .id)) (c .before .if1 .taken)) (c .refused .ensures .0) (c .refused .ensures .1)
+    let a = e .args in
+    let m = lent (now (a .log)) (now (a .queued)) (now (a .done)) in
+    refuses (a .self) m _ OutOfTurn _
+    (withdraw-refused-turn (whole (a .self) m) (now (a .log)) (a .id) (omega (arith, e .fits .id)) (c .before .if1 .taken))
+    (c .refused .ensures .0) (c .refused .ensures .1)
 
--- src/withdraw.rt:28:15
+-- src/withdraw.rt:27:15
 find-requires : tie.Need-find-requires
-unfolding Valid
-find-requires c κs = c .before .before .before .pre .carries .usable
+unfolding Sound
+find-requires c κs = (c .before .before .before .before .pre .carries .usable)
 
--- src/withdraw.rt:31:32
+-- src/withdraw.rt:28:44
 enum-told : tie.Need-enum-told
 enum-told c = search needs
 
--- src/withdraw.rt:31:24
+-- src/withdraw.rt:28:31
 refused-requires-2 : tie.Need-refused-requires-2
 refused-requires-2 c κs = search needs
 
--- src/withdraw.rt:33:23
+-- src/withdraw.rt:29:23
 enum-known-at : tie.Need-enum-known-at
 enum-known-at c = search needs
 
--- src/withdraw.rt:34:21
-remove-requires : tie.Need-remove-requires
-unfolding Valid
-remove-requires c κs =
-    let e = c .before .before .before .before .before .before .before in
-    let u = e .pre .carries .usable in
-    (u, found-below _ u (e .args .id) false (c .before .at .given .0 .0) (sym (c .before .before .before .find .ensures) ∙ c .before .at .given .1))
-
--- src/withdraw.rt:36:29
+-- src/withdraw.rt:31:29
 sub-from : tie.Need-sub-from
 sub-from c = marked _ _ (c .before .before .before .before .before .before .before .before .before .before .pre) .stable
 
--- src/withdraw.rt:37:21
+-- src/withdraw.rt:32:21
 busy-requires : tie.Need-busy-requires
-unfolding Valid
+unfolding Sound
 busy-requires c κs =
-    let e = c .before .before .before .before .before .before .before .before .before .before in
-    (e .pre .carries .usable, (e .pre .carries .finished .usable, volatile-few (e .args .self) (now (e .args .log)) (e .pre)))
-
--- src/withdraw.rt:38:21
-busy-requires-2 : tie.Need-busy-requires-2
-unfolding Valid
-busy-requires-2 c κs =
     let e = c .before .before .before .before .before .before .before .before .before .before .before in
-    (c .before .before .before .remove .ensures .usable, (e .pre .carries .finished .usable, volatile-few (e .args .self) (now (e .args .log)) (e .pre)))
+    let a = e .args in
+    let s = whole (a .self) (lent (now (a .log)) (now (a .queued)) (now (a .done))) in
+    (e .pre .carries .usable, (e .pre .carries .finished .usable, volatile-few s (now (a .log)) (e .pre)))
 
--- src/withdraw.rt:39:21
+-- src/withdraw.rt:33:21
+remove-requires : tie.Need-remove-requires
+unfolding Sound
+remove-requires c κs =
+    let f = c .before .before .before .before .before .before in
+    let e = f .before .before .before .before .before .before .before in
+    let a = e .args in
+    let u = e .pre .carries .usable in
+    let found = sym (f .before .before .find .ensures) ∙ f .at .given .1 in
+    (u, (found-below (stored (a .self .queue) (now (a .queued))) u (a .id) false (f .at .given .0 .0) found))
+
+-- src/withdraw.rt:34:21
+busy-requires-2 : tie.Need-busy-requires-2
+unfolding Sound
+busy-requires-2 c κs =
+    let e = c .before .before .before .before .before .before .before .before .before .before .before .before .before .before .before in
+    let a = e .args in
+    let s = whole (a .self) (lent (now (a .log)) (now (a .queued)) (now (a .done))) in
+    (c .before .remove .ensures .usable, (e .pre .carries .finished .usable, volatile-few s (now (a .log)) (e .pre)))
+
+-- src/withdraw.rt:35:21
 became-dry-requires : tie.Need-became-dry-requires
-became-dry-requires c κs = marked _ _ (c .before .before .before .before .before .before .before .before .before .before .before .before .pre) .few
+became-dry-requires c κs =
+    let b = c .before .before .before .before in
+    marked _ _ (b .before .before .before .before .before .before .before .before .before .before .before .before .pre) .few
 
--- src/withdraw.rt:47:33
+-- src/withdraw.rt:43:33
 no-numbers-requires : tie.Need-no-numbers-requires
 no-numbers-requires c κs = search needs
 
--- src/withdraw.rt:16:5
+-- src/withdraw.rt:17:5
 returns-2 : tie.Need-returns-2
 returns-2 c =
     let f = c .before .before .before in
-    let e = f .before .before .before .before in
-    refuses (e .args .self) (now (e .args .log)) _ WrongState _
-    (withdraw-refused-state (e .args .self) (now (e .args .log)) (e .args .id) (omega (arith, e .fits .id)) (f .before .before .if1 .left)
-    (sym (f .find .ensures) ∙ c .before .enum-told .given .1))
+    let e = f .before .before .before .before .before in
+    let a = e .args in
+    let m = lent (now (a .log)) (now (a .queued)) (now (a .done)) in
+    refuses (a .self) m _ WrongState _
+    (withdraw-refused-state (whole (a .self) m) (now (a .log)) (a .id) (omega (arith, e .fits .id))
+    (f .before .before .before .if1 .left) (sym (f .find .ensures) ∙ c .before .enum-told .given .1))
     (c .refused2 .ensures .0) (c .refused2 .ensures .1)
 
--- src/withdraw.rt:16:5
+-- src/withdraw.rt:17:5
 returns-3 : tie.Need-returns-3
 returns-3 c =
-    let f = c .before .before .before .before .before .before .before .before in
-    let e = f .before .before .before .before .before .before in
-    withdraw-does (e .args .self) (now (e .args .log)) (e .args .id) (f .at .given .0 .0) (e .pre) (omega (arith, e .fits .id)) (f .before .before .before .before .if1 .left)
-    (sym (f .before .before .find .ensures) ∙ f .at .given .1)
-    _ _ _ _ _ (c .before .before .before .before .before .before .remove .ensures) (c .before .before .before .busy .ensures) (c .before .before .busy2 .ensures)
-    (c .before .became-dry .ensures) (c .no-numbers .ensures)
+    let b = c .before .before .before .before .before .before in
+    let f = b .before .before .before .before .before in
+    let e = f .before .before .before .before .before .before .before in
+    let a = e .args in
+    let m = lent (now (a .log)) (now (a .queued)) (now (a .done)) in
+    let left = c .before .before .before .before .remove in
+    let words = left .last .1 .0 in
+    does (a .self) m _ _ (lent (now (a .log)) words (now (a .done)))
+    (withdraw-does (whole (a .self) m) (now (a .log)) (a .id) (f .at .given .0 .0) (e .pre) (omega (arith, e .fits .id))
+    (f .before .before .before .before .before .if1 .left) (sym (f .before .before .find .ensures) ∙ f .at .given .1)
+    (stored (left .result) words) _ _ _ _ (left .ensures) (b .busy .ensures) (c .before .before .busy2 .ensures)
+    (c .before .became-dry .ensures) (c .no-numbers .ensures))
 
 pub withdraw-spec : {M : Type 1} → statement M
 withdraw-spec =
@@ -111,9 +133,9 @@ withdraw-spec =
     enum-told
     refused-requires-2
     enum-known-at
-    remove-requires
     sub-from
     busy-requires
+    remove-requires
     busy-requires-2
     became-dry-requires
     no-numbers-requires

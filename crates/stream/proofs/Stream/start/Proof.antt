@@ -7,17 +7,17 @@ use Rattle.stream.proofs.Stream.start.Lts as lts
 use Rattle.session.proofs.Session.start.Reads as start-reads
 use Rattle.session.proofs.no_line.Reads as no-line-reads
 
--- src/lib.rt:142:13
+-- src/lib.rt:140:13
 start-requires : tie.Need-start-requires
 start-requires c κs = search needs
 
--- src/lib.rt:143:13
+-- src/lib.rt:141:13
 no-line-requires : tie.Need-no-line-requires
 no-line-requires c κs = search needs
 
--- src/lib.rt:139:5
+-- src/lib.rt:137:5
 returns : tie.Need-returns
-returns c = λ bytes. starts-stream (c .before .start .result) (c .no-line .result) bytes (c .before .start .ensures bytes) (c .no-line .ensures)
+returns c = λ m. starts-stream (c .before .start .result) (c .no-line .result) m (c .before .start .ensures m) (c .no-line .ensures)
 
 pub start-spec : {M : Type 1} → statement M
 start-spec = tie.close (tie.spec start-requires no-line-requires returns)

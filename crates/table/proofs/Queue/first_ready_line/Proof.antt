@@ -1,41 +1,43 @@
-use Prim.Native.Nat.{ℕ, _≤_, _-_, _+_}
+use Prim.Native.Nat.{_≤_, _-_}
 use native.Mathlib.Omega.{arith}
-use mathlib.Core.Path.{_≡_, refl, sym, _∙_}
-use lib.ListN.{length, take}
-use Rattle.history.specs.Entries.{cellsOf}
+use mathlib.Core.Path.{_≡_, sym, ap, subst, _∙_}
+use lib.ListN.{take}
+use Rattle.history.specs.Entries.{cellsOf, UsableEntry}
 use Rattle.table.specs.declared.Found.the-variants.{Nothing}
 use Rattle.table.specs.Lists.{firstAt}
 use Rattle.table.specs.Queues.{canRunEntry, pastEntry}
+use Rattle.table.specs.Slots.{entriesIn, stored}
 use Rattle.table.specs.LoopLaws.{first-none, first-next, first-hit}
 use Rattle.table.specs.QueueLaws.{usable-at}
 use Rattle.table.proofs.Queue.first_ready_line.Statement.{statement}
 use Rattle.table.proofs.Queue.first_ready_line.Tie as tie
 
 abbrev Inv-loop : tie.InvT-loop
-Inv-loop histories self n i₀ i =
-    (i ≤ n) × (n ≡ self .count) × (n ≤ 64) × (firstAt (canRunEntry (cellsOf histories)) (take i (self .entries)) ≡ Nothing)
+Inv-loop words histories n i₀ i = (i ≤ n) × (n ≤ 64) × (firstAt (canRunEntry (cellsOf histories)) (take i (entriesIn words)) ≡ Nothing)
 
 abbrev μ-loop : tie.MeasureT-loop
-μ-loop histories self n i₀ i = n - i
+μ-loop words histories n i₀ i = n - i
 
 loop-holds : tie.Need-loop-holds Inv-loop μ-loop
-loop-holds c = (omega arith, refl, c .pre .few, first-none _)
+loop-holds c = (omega arith, c .pre .few, first-none _)
 
-mul-e : tie.Need-mul-e Inv-loop μ-loop
-mul-e c = omega arith
-
-element-copy-out-e : tie.Need-element-copy-out-e Inv-loop μ-loop
-element-copy-out-e c = omega arith
+entry-at-requires : tie.Need-entry-at-requires Inv-loop μ-loop
+entry-at-requires c κs = omega arith
 
 can-run-requires : tie.Need-can-run-requires Inv-loop μ-loop
-can-run-requires c κs = usable-at (c .before .before .before .args .t1) (c .before .before .before .pre) (c .before .before .loop .i) (omega arith)
+can-run-requires c κs =
+    let a = c .before .before .before .args in
+    let l = c .before .before .loop in
+    subst UsableEntry (sym (c .entry-at .ensures)) (usable-at (stored (a .self) (a .words .now)) (c .before .before .before .pre) (l .i) (omega arith))
 
 returns : tie.Need-returns Inv-loop μ-loop
 returns c =
-    let q = c .before .before .before .before .before .args .t1 in
+    let a = c .before .before .before .before .before .args in
     let u = c .before .before .before .before .before .pre in
-    sym (first-hit (canRunEntry (cellsOf (c .before .before .before .before .before .args .histories))) (q .entries) pastEntry (c .before .before .before .before .loop .i) (q .count) (omega arith) (omega (arith, u .few, u .long)) (c .before .before .before .before .loop .inv .3)
-    (sym (c .before .can-run .ensures) ∙ c .if1 .taken))
+    let l = c .before .before .before .before .loop in
+    let p = canRunEntry (cellsOf (a .histories)) in
+    sym (first-hit p (entriesIn (a .words .now)) pastEntry (l .i) (a .self .count) (omega arith) (omega (arith, u .few, u .long)) (l .inv .2)
+    (ap p (sym (c .before .before .entry-at .ensures)) ∙ sym (c .before .can-run .ensures) ∙ c .if1 .taken))
 
 add-i : tie.Need-add-i Inv-loop μ-loop
 add-i c = omega arith
@@ -45,32 +47,21 @@ loop-less c = omega arith
 
 loop-again : tie.Need-loop-again Inv-loop μ-loop
 loop-again c =
+    let a = c .before .before .before .before .before .args in
+    let u = c .before .before .before .before .before .pre in
     let l = c .before .before .before .before .loop in
-    let u = c .before .before .before .before .before .pre in (
+    let p = canRunEntry (cellsOf (a .histories)) in (
       omega arith,
-      refl,
-      l .inv .2,
-      first-next (canRunEntry (cellsOf (c .before .before .before .before .before .args .histories))) (c .before .before .before .before .before .args .t1 .entries) pastEntry (l .i) (omega (arith, u .few, u .long)) (l .inv .3)
-          (sym (c .before .can-run .ensures) ∙ c .if1 .left),
+      l .inv .1,
+      first-next p (entriesIn (a .words .now)) pastEntry (l .i) (omega (arith, u .few, u .long)) (l .inv .2)
+          (ap p (sym (c .before .before .entry-at .ensures)) ∙ sym (c .before .can-run .ensures) ∙ c .if1 .left),
     )
 
 returns-2 : tie.Need-returns-2 Inv-loop μ-loop
 returns-2 c =
-    let e : c .before .loop .i ≡ c .before .before .args .t1 .count = omega arith in
-    sym (rw e at (c .before .loop .inv .3))
+    let e : c .before .loop .i ≡ c .before .before .args .self .count = omega arith in
+    sym (rw e at (c .before .loop .inv .2))
 
 pub first-ready-line-spec : {M : Type 1} → statement M
 first-ready-line-spec =
-    tie.close
-    (tie.spec
-    Inv-loop
-    μ-loop
-    loop-holds
-    mul-e
-    element-copy-out-e
-    can-run-requires
-    returns
-    add-i
-    loop-less
-    loop-again
-    returns-2)
+    tie.close (tie.spec Inv-loop μ-loop loop-holds entry-at-requires can-run-requires returns add-i loop-less loop-again returns-2)

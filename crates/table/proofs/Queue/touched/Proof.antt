@@ -1,33 +1,36 @@
-use Prim.Native.Nat.{ℕ, _≤_, _-_, _+_}
+use Prim.Native.Nat.{_≤_, _-_}
 use native.Mathlib.Omega.{arith}
-use mathlib.Core.Path.{_≡_, refl}
-use lib.ListN.{length, take}
-use Rattle.table.specs.Queues.{pastEntry, queueOf}
-use Rattle.table.specs.Tries.{Marked, gather, updatesOf}
+use mathlib.Core.Path.{_≡_, sym, subst}
+use lib.ListN.{take}
+use Rattle.history.specs.declared.Entry.{Entry}
+use Rattle.history.specs.Entries.{UsableEntry}
+use Rattle.table.specs.Queues.{queueOf}
+use Rattle.table.specs.Tries.{Marked, More, gather, updatesOf}
+use Rattle.table.specs.Slots.{entriesIn, stored}
 use Rattle.table.specs.QueueLaws.{usable-at}
 use Rattle.table.specs.MarkLaws.{marked-start, marked-next, touched-by}
 use Rattle.table.proofs.Queue.touched.Statement.{statement}
 use Rattle.table.proofs.Queue.touched.Tie as tie
 
 abbrev Inv-loop : tie.InvT-loop
-Inv-loop self n m₀ i₀ m i = (i ≤ n) × (n ≡ self .count) × (n ≤ 64) × Marked m (gather updatesOf (take i (self .entries)))
+Inv-loop words n m₀ i₀ m i = (i ≤ n) × (n ≤ 64) × Marked m (gather updatesOf (take i (entriesIn words)))
 
 abbrev μ-loop : tie.MeasureT-loop
-μ-loop self n m₀ i₀ m i = n - i
+μ-loop words n m₀ i₀ m i = n - i
 
 loop-holds : tie.Need-loop-holds Inv-loop μ-loop
-loop-holds c = (omega arith, refl, c .pre .few, marked-start updatesOf (c .args .t1 .entries))
+loop-holds c = (omega arith, c .pre .few, marked-start updatesOf (entriesIn (c .args .words .now)))
 
-mul-e : tie.Need-mul-e Inv-loop μ-loop
-mul-e c = omega arith
-
-element-copy-out-e : tie.Need-element-copy-out-e Inv-loop μ-loop
-element-copy-out-e c = omega arith
+entry-at-requires : tie.Need-entry-at-requires Inv-loop μ-loop
+entry-at-requires c κs = omega arith
 
 marked-requires : tie.Need-marked-requires Inv-loop μ-loop
 marked-requires c κs =
-    let l = c .before .before .loop in
-    (usable-at (c .before .before .before .args .t1) (c .before .before .before .pre) (l .i) (omega arith), (l .inv .3 .each .long, l .inv .3 .strongs .long))
+    let a = c .before .before .before .args in
+    let l = c .before .before .loop in (
+      subst UsableEntry (sym (c .entry-at .ensures)) (usable-at (stored (a .self) (a .words .now)) (c .before .before .before .pre) (l .i) (omega arith)),
+      (l .inv .2 .each .long, l .inv .2 .strongs .long),
+    )
 
 add-i : tie.Need-add-i Inv-loop μ-loop
 add-i c = omega arith
@@ -38,17 +41,19 @@ loop-less c = omega arith
 loop-again : tie.Need-loop-again Inv-loop μ-loop
 loop-again c =
     let l = c .before .before .before .loop in
-    let u = c .before .before .before .before .pre in (
+    let u = c .before .before .before .before .pre in
+    let r = c .marked .result in (
       omega arith,
-      refl,
-      l .inv .2,
-      marked-next updatesOf (c .before .before .before .before .args .t1 .entries) (l .m) (c .marked .result) (l .i) (omega (arith, u .few, u .long)) (l .inv .3) (c .marked .ensures),
+      l .inv .1,
+      marked-next updatesOf (entriesIn (c .before .before .before .before .args .words .now)) (l .m) r (l .i) (omega (arith, u .few, u .long)) (l .inv .2)
+          (subst (λ (e : Entry). More r (l .m) (updatesOf e)) (c .before .entry-at .ensures) (c .marked .ensures)),
     )
 
 returns : tie.Need-returns Inv-loop μ-loop
 returns c =
-    let e : c .before .before .loop .i ≡ c .before .before .before .args .t1 .count = omega arith in
-    touched-by _ (queueOf (c .before .before .before .args .t1)) (rw e at (c .before .before .loop .inv .3))
+    let a = c .before .before .before .args in
+    let e : c .before .before .loop .i ≡ a .self .count = omega arith in
+    touched-by _ (queueOf (stored (a .self) (a .words .now))) (rw e at (c .before .before .loop .inv .2))
 
 pub touched-spec : {M : Type 1} → statement M
-touched-spec = tie.close (tie.spec Inv-loop μ-loop loop-holds mul-e element-copy-out-e marked-requires add-i loop-less loop-again returns)
+touched-spec = tie.close (tie.spec Inv-loop μ-loop loop-holds entry-at-requires marked-requires add-i loop-less loop-again returns)

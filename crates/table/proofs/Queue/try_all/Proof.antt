@@ -1,61 +1,59 @@
-use Prim.Native.Nat.{ℕ, _≤_, _-_, _+_}
+use Prim.Native.Nat.{_≤_, _-_}
 use native.Mathlib.Omega.{arith}
-use mathlib.Core.Path.{_≡_, refl, sym, ap, _∙_}
+use mathlib.Core.Path.{refl, sym, ap, _∙_}
 use mathlib.Core.Logic.{⊎-elim}
-use lib.ListN.{length, take, set, length-set}
-use Rattle.history.specs.declared.Entry.{Entry}
+use lib.ListN.{take}
 use Rattle.history.specs.Entries.{cellsOf}
 use Rattle.table.specs.Queues.{queueOf}
+use Rattle.table.specs.Slots.{entriesIn, stored}
+use Rattle.table.specs.SlotLaws.{entries-long}
 use Rattle.table.specs.QueueLaws.{no-numbers, queue-length}
 use Rattle.table.specs.TryLaws.{Passed, passed-none, tried-usable, passed-yes, passed-no, passed-all, passed-at}
 use Rattle.table.proofs.Queue.try_all.Statement.{statement}
 use Rattle.table.proofs.Queue.try_all.Tie as tie
 
 abbrev Inv-loop : tie.InvT-loop
-Inv-loop histories n m₀ entries₀ ready₀ i₀ m entries ready i =
-    (i ≤ n) × (n ≤ 64) × (length entries ≡ 64) × Passed (cellsOf histories) (take n entries₀) (take n entries) m ready i
+Inv-loop words₀ histories n m₀ ready₀ i₀ words m ready i =
+    (i ≤ n) × (n ≤ 64) × Passed (cellsOf histories) (take n (entriesIn words₀)) (take n (entriesIn words)) m ready i
 
 abbrev μ-loop : tie.MeasureT-loop
-μ-loop histories n m₀ entries₀ ready₀ i₀ m entries ready i = n - i
+μ-loop words₀ histories n m₀ ready₀ i₀ words m ready i = n - i
 
 marks-requires : tie.Need-marks-requires Inv-loop μ-loop
-marks-requires c κs = c .pre
+marks-requires c κs = c .before .pre
 
 loop-holds : tie.Need-loop-holds Inv-loop μ-loop
 loop-holds c =
-    let q = c .before .before .args .self in
+    let a = c .before .before .args in
     let u = c .before .before .pre in
-    (omega arith, u .few, u .long, passed-none _ (queueOf q) (c .before .marks .result) _ (u .each) (c .before .marks .ensures) refl no-numbers)
+    (omega arith, u .few, passed-none _ (queueOf (stored (a .self) (a .words .now))) (c .marks .result) _ (u .each) (c .marks .ensures) refl no-numbers)
 
-mul-e : tie.Need-mul-e Inv-loop μ-loop
-mul-e c = omega arith
-
-array-copy-out-e : tie.Need-array-copy-out-e Inv-loop μ-loop
-array-copy-out-e c = omega arith
+entry-at-requires : tie.Need-entry-at-requires Inv-loop μ-loop
+entry-at-requires c κs = omega arith
 
 may-start-requires : tie.Need-may-start-requires Inv-loop μ-loop
 may-start-requires c κs =
-    let l = c .before .before .loop in
-    tried-usable (cellsOf (c .before .before .before .before .before .args .histories)) (c .before .before .before .before .before .args .self .entries) (l .entries) (c .before .before .before .before .before .args .self .count) (l .m) (l .ready) (l .i) (l .inv .3) (omega arith) (omega (arith, l .inv .2))
+    let a = c .before .before .before .before .before .before .args in
+    let l = c .before .before .before .loop in
+    tried-usable (cellsOf (a .histories)) (entriesIn (a .words .now)) (entriesIn (l .words)) (a .self .count) (l .m) (l .ready) (l .i) _
+    (c .entry-at .ensures) (l .inv .2) (omega arith) (omega (arith, entries-long (l .words)))
 
 marked-requires : tie.Need-marked-requires Inv-loop μ-loop
 marked-requires c κs =
-    let l = c .before .before .before .before .loop in (
-      tried-usable (cellsOf (c .before .before .before .before .before .before .before .args .histories)) (c .before .before .before .before .before .before .before .args .self .entries) (l .entries) (c .before .before .before .before .before .before .before .args .self .count) (l .m) (l .ready) (l .i) (l .inv .3) (omega arith) (omega (arith, l .inv .2)),
-      (l .inv .3 .marks .each .long, l .inv .3 .marks .strongs .long),
+    let a = c .before .before .before .before .before .before .before .before .args in
+    let l = c .before .before .before .before .before .loop in (
+      tried-usable (cellsOf (a .histories)) (entriesIn (a .words .now)) (entriesIn (l .words)) (a .self .count) (l .m) (l .ready) (l .i) _
+          (c .before .before .entry-at .ensures) (l .inv .2) (omega arith) (omega (arith, entries-long (l .words))),
+      (l .inv .2 .marks .each .long, l .inv .2 .marks .strongs .long),
     )
 
-started-requires : tie.Need-started-requires Inv-loop μ-loop
-started-requires c κs = tt
-
-mul-entries : tie.Need-mul-entries Inv-loop μ-loop
-mul-entries c = omega arith
-
-array-set-from-entries : tie.Need-array-set-from-entries Inv-loop μ-loop
-array-set-from-entries c = omega arith
+start-entry-requires : tie.Need-start-entry-requires Inv-loop μ-loop
+start-entry-requires c κs = omega arith
 
 push-number-requires : tie.Need-push-number-requires Inv-loop μ-loop
-push-number-requires c κs = let l = c .before .before .before .before .before .before .loop in (l .inv .3 .ready .long, omega (arith, l .inv .3 .few))
+push-number-requires c κs =
+    let l = c .before .before .before .before .before .before .before .before .loop in
+    (l .inv .2 .ready .long, omega (arith, l .inv .2 .few))
 
 add-i : tie.Need-add-i Inv-loop μ-loop
 add-i c = omega arith
@@ -65,34 +63,38 @@ loop-less c = omega arith
 
 loop-again : tie.Need-loop-again Inv-loop μ-loop
 loop-again c =
-    let l = c .before .before .before .before .loop in
-    let n = c .before .before .before .before .before .before .before .args .self .count in
-    let cells = cellsOf (c .before .before .before .before .before .before .before .args .histories) in
-    let es₀ = c .before .before .before .before .before .before .before .args .self .entries in
+    let a = c .before .before .before .before .before .before .before .before .args in
+    let l = c .before .before .before .before .before .loop in
+    let n = a .self .count in
+    let cells = cellsOf (a .histories) in
+    let es₀ = entriesIn (a .words .now) in
+    let es = entriesIn (l .words) in
+    let e = c .before .before .entry-at .result in
+    let read = c .before .before .entry-at .ensures in
     ⊎-elim
     (λ w. (
       omega arith,
       l .inv .1,
-      ap length (w .5) ∙ length-set (l .entries) (l .i) _ ∙ l .inv .2,
-      passed-at cells _ (set (l .entries) (l .i) (w .2 .result)) _ n _ (w .1 .result) _ (w .3 .result) _ (w .4) (w .5) (w .6)
-          (passed-yes cells es₀ (l .entries) n (l .m) (l .ready) (l .i) (l .inv .3) (omega arith) (omega (arith, l .inv .2)) (w .2 .result) (w .1 .result) (w .3 .result)
-          (sym (c .before .may-start .ensures) ∙ w .0 .taken) (w .1 .ensures) (w .3 .ensures .0) (w .3 .ensures .1) (w .2 .ensures)),
+      passed-at cells _ _ _ n _ (w .1 .result) _ (w .4 .result) _ (w .6) (ap entriesIn (w .5) ∙ w .3 .ensures) (w .7)
+          (passed-yes cells es₀ es n (l .m) (l .ready) (l .i) e read (l .inv .2) (omega arith) (omega (arith, entries-long (l .words)))
+          (w .1 .result) (w .4 .result) (sym (c .before .may-start .ensures) ∙ w .0 .taken) (w .1 .ensures) (w .4 .ensures .0) (w .4 .ensures .1)),
     ))
     (λ w. (
       omega arith,
       l .inv .1,
-      ap length (w .2) ∙ l .inv .2,
-      passed-at cells _ (l .entries) _ n _ (l .m) _ (l .ready) _ (w .1) (w .2) (w .3)
-          (passed-no cells es₀ (l .entries) n (l .m) (l .ready) (l .i) (l .inv .3) (omega arith) (omega (arith, l .inv .2))
+      passed-at cells _ es _ n _ (l .m) _ (l .ready) _ (w .2) (ap entriesIn (w .1)) (w .3)
+          (passed-no cells es₀ es n (l .m) (l .ready) (l .i) e read (l .inv .2) (omega arith) (omega (arith, entries-long (l .words)))
           (sym (c .before .may-start .ensures) ∙ w .0 .left)),
     ))
     (c .if1 .came)
 
 returns : tie.Need-returns Inv-loop μ-loop
 returns c =
+    let a = c .before .before .before .before .args in
     let l = c .before .loop in
-    let q = c .before .before .before .before .args .self in
-    (passed-all _ (queueOf q) (l .m) _ (l .i) (l .inv .1) (l .inv .2) (omega arith) (sym (queue-length q (c .before .before .before .before .pre))) (l .inv .3), refl)
+    let q = stored (a .self) (a .words .now) in
+    let n = sym (queue-length q (c .before .before .before .before .pre)) in
+    passed-all _ (queueOf q) (l .m) _ _ (l .i) (l .inv .1) (entries-long (l .words)) (omega arith) n (l .inv .2)
 
 pub try-all-spec : {M : Type 1} → statement M
 try-all-spec =
@@ -102,13 +104,10 @@ try-all-spec =
     μ-loop
     marks-requires
     loop-holds
-    mul-e
-    array-copy-out-e
+    entry-at-requires
     may-start-requires
     marked-requires
-    started-requires
-    mul-entries
-    array-set-from-entries
+    start-entry-requires
     push-number-requires
     add-i
     loop-less

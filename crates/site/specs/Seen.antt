@@ -1,0 +1,33 @@
+-- What the checks of an operation or of a did line read of a state, and the order of those that both have.
+use Prim.Native.Nat.{ℕ, _+_, _<_}
+use mathlib.Core.Path.{_≡_}
+use mathlib.Core.Bool.{Bool}
+use mathlib.Core.Option.{Option, none}
+use lib.ListN.{length}
+use Rattle.forms.specs.Lists.{sum}
+use Rattle.forms.specs.declared.Refusal.{Refusal}
+use Rattle.forms.specs.declared.Refusal.the-variants.{IdPending, AlreadyDone, ReadOvertaken, TableFull, NoRoom}
+use Rattle.rules.specs.Book.{cell}
+use Rattle.rules.specs.Checks.{check}
+use Rattle.rules.specs.State.{State, logBytes, lineBytes}
+use Rattle.rules.specs.Calls.{idPending, idDone, tableFull}
+use Rattle.history.specs.Entries.{cellsOf}
+use Rattle.site.specs.declared.seen.Seen.{Seen}
+
+-- What was read is so in the state st, for the id i.
+pub record Sees (x : Seen) (i : ℕ) (st : State) : Type 0 where
+  pub restoring : x .restoring ≡ st .restoring
+  pub count : x .count ≡ st .histories
+  pub pending : x .pending ≡ idPending i st
+  pub done : x .done ≡ idDone i st
+  pub full : x .full ≡ tableFull st
+  pub book : (h : ℕ) → h < 16 → cellsOf (x .histories) h ≡ cell h (st .log)
+
+-- So many bytes of the log buffer are neither in use nor reserved.
+abbrev pub Leaves : ℕ → State → Type 0
+Leaves n st = length (logBytes st) + sum lineBytes (st .waiting) + n ≡ st .room
+
+-- The refusals 7 to 12 in their order: an add has no 12, a redo no 9.
+unfoldable pub conflicts : Bool → Bool → Bool → Bool → Bool → Option Refusal
+conflicts pending done overtaken full short =
+    check pending IdPending (check done AlreadyDone (check overtaken ReadOvertaken (check full TableFull (check short NoRoom none))))

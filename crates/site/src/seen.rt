@@ -1,0 +1,42 @@
+// What the checks of an add and of a redo read of a site, and those that both have.
+ghost use mathlib.Core.Path.{_≡_};
+ghost use Rattle.history.specs.Asking.{verdictOf};
+ghost use Rattle.site.specs.Seen.{conflicts};
+use forms::Refusal;
+use history::History;
+use history::Verdict;
+
+// What the checks of an operation or of a did line read of a site.
+pub struct Seen {
+    pub restoring: bool,
+    // how many histories there are
+    pub count: usize,
+    // whether the id stands in the queue, and among the done operations that are not yet stable
+    pub pending: bool,
+    pub done: bool,
+    // whether as many operations are live as may be
+    pub full: bool,
+    pub histories: [History; 16],
+}
+
+// The checks 7 to 12, by what each has found.
+pub fn conflict(pending: bool, done: bool, overtaken: bool, full: bool, short: bool) -> Verdict
+    ensures { λ r. ⌜ r ≡ verdictOf (conflicts pending done overtaken full short) ⌝ }
+{
+    if pending {
+        return Verdict::Refused(Refusal::IdPending);
+    }
+    if done {
+        return Verdict::Refused(Refusal::AlreadyDone);
+    }
+    if overtaken {
+        return Verdict::Refused(Refusal::ReadOvertaken);
+    }
+    if full {
+        return Verdict::Refused(Refusal::TableFull);
+    }
+    if short {
+        return Verdict::Refused(Refusal::NoRoom);
+    }
+    Verdict::Passes
+}
