@@ -43,8 +43,8 @@ said r =
     let e = r .before .before .before .before .before .before .before .before .before .before .before in
     let a = e .args in
     let s = whole (a .self) (lent (now (a .log)) (now (a .queued)) (now (a .done))) in
-    let waits = r .before .before .before .before .has-id .ensures in
-    let stands = r .before .before .before .has-id2 .ensures in
+    let waits = r .before .before .has-id .ensures in
+    let stands = r .before .has-id2 .ensures in
     r .add-refusal .ensures _ (r .before .before .before .before .before .before .before .before .before .trimmed-asked .ensures .is)
     _ (site-sees s (now (a .log)) (e .pre) (a .id) _ _ _ waits stands refl)
 
@@ -56,22 +56,22 @@ free t = passes-is _ (sym (t .enum-told .given .1) ∙ said (t .before .before))
 trimmed-asked-requires : tie.Need-trimmed-asked-requires
 trimmed-asked-requires c κs = search needs
 
+-- the operations that are live
+add-live : tie.Need-add-live
+unfolding Sound
+add-live c =
+    let k = c .before .before .before .before .before .before .before .pre .carries in
+    omega (arith, k .usable .few, k .finished .usable .few)
+
 -- src/add.rt:125:22
 has-id-requires : tie.Need-has-id-requires
 unfolding Sound
-has-id-requires c κs = (c .before .before .before .before .before .before .pre .carries .usable)
+has-id-requires c κs = c .before .before .before .before .before .before .before .before .pre .carries .usable
 
 -- src/add.rt:126:19
 has-id-requires-2 : tie.Need-has-id-requires-2
 unfolding Sound
-has-id-requires-2 c κs = (c .before .before .before .before .before .before .before .pre .carries .finished .usable)
-
--- src/add.rt:127:33
-add-t19 : tie.Need-add-t19
-unfolding Sound
-add-t19 c =
-    let k = c .before .before .before .before .before .before .before .before .before .before .pre .carries in
-    omega (arith, k .usable .few, k .finished .usable .few)
+has-id-requires-2 c κs = c .before .before .before .before .before .before .before .before .before .pre .carries .finished .usable
 
 -- src/add.rt:130:15
 add-refusal-requires : tie.Need-add-refusal-requires
@@ -157,9 +157,9 @@ add-spec =
     tie.close
     (tie.spec
     trimmed-asked-requires
+    add-live
     has-id-requires
     has-id-requires-2
-    add-t19
     add-refusal-requires
     enum-known-q
     refusal-requires
