@@ -4,6 +4,7 @@ ghost use Rattle.site.specs.Model.{lent, Valid, Steps};
 use super::Called;
 use super::Site;
 use super::no_numbers;
+use super::refusal;
 use forms::Refusal;
 use forms::ReplyForm;
 use forms::ReplyLine;
@@ -35,7 +36,10 @@ impl Site {
                 },
             }
         } else {
-            self.refused(Refusal::OutOfTurn)
+            Called {
+                site: self,
+                reply: refusal(Refusal::OutOfTurn),
+            }
         }
     }
 }

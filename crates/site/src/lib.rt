@@ -105,16 +105,3 @@ fn greater(a: u64, b: u64) -> u64
 {
     if a < b { b } else { a }
 }
-
-impl Site {
-    // "A refusal returns its number only; site, log .. do not change."
-    fn refused(self, q: Refusal) -> Called
-        ensures { λ r. ⌜ Says (r .reply) (Refused q) ⌝ }
-        ensures { λ r. ⌜ r .site ≡ self ⌝ }
-    {
-        Called {
-            site: self,
-            reply: refusal(q),
-        }
-    }
-}

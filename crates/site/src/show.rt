@@ -4,6 +4,7 @@ ghost use Rattle.site.specs.Model.{lent, Valid, Steps};
 use super::Called;
 use super::Site;
 use super::no_numbers;
+use super::refusal;
 use forms::Refusal;
 use forms::ReplyForm;
 use forms::ReplyLine;
@@ -21,7 +22,10 @@ impl Site {
     {
         let n = self.count;
         if n as u64 <= h {
-            return self.refused(Refusal::NoSuchHistory);
+            return Called {
+                site: self,
+                reply: refusal(Refusal::NoSuchHistory),
+            };
         }
         let i = h as usize;
         let c = self.histories[i];

@@ -1,4 +1,5 @@
 use denote.Ref.{now}
+use mathlib.Core.Path.{refl}
 use Rattle.forms.specs.declared.Refusal.the-variants.{OutOfTurn}
 use Rattle.site.specs.Whole.{Sound}
 use Rattle.site.specs.Model.{lent, whole}
@@ -9,7 +10,7 @@ use Rattle.site.proofs.Site.end.Statement.{statement}
 use Rattle.site.proofs.Site.end.Tie as tie
 use Rattle.site.proofs.Site.end.Reads as reads
 use Rattle.site.proofs.Site.end.Lts as lts
-use Rattle.site.proofs.Site.refused.Reads as refused-reads
+use Rattle.site.proofs.refusal.Reads as refusal-reads
 use Rattle.site.proofs.no_numbers.Reads as no-numbers-reads
 use Rattle.table.proofs.Queue.empty.Reads as empty-reads
 use Rattle.table.proofs.Queue.ids.Reads as ids-reads
@@ -28,8 +29,8 @@ no-numbers-requires : tie.Need-no-numbers-requires
 no-numbers-requires c κs = search needs
 
 -- src/end.rt:38:13
-refused-requires : tie.Need-refused-requires
-refused-requires c κs = search needs
+refusal-requires : tie.Need-refusal-requires
+refusal-requires c κs = search needs
 
 -- src/end.rt:16:5
 returns : tie.Need-returns
@@ -48,9 +49,9 @@ returns-2 c =
     let a = e .args in
     let m = lent (now (a .log)) (now (a .queued)) (now (a .done)) in
     refuses (a .self) m _ OutOfTurn _ (end-refused (whole (a .self) m) (now (a .log)) (c .before .if1 .left))
-    (c .refused .ensures .0) (c .refused .ensures .1)
+    (c .refusal .ensures) refl
 
 pub end-spec : {M : Type 1} → statement M
 end-spec =
     tie.close
-    (tie.spec ids-requires empty-requires no-numbers-requires refused-requires returns returns-2)
+    (tie.spec ids-requires empty-requires no-numbers-requires refusal-requires returns returns-2)

@@ -1,4 +1,5 @@
 use denote.Ref.{now}
+use mathlib.Core.Path.{refl}
 use Prim.Native.Nat.{_≤_}
 use native.Mathlib.Omega.{arith}
 use Rattle.forms.specs.Decimal.{top}
@@ -11,12 +12,12 @@ use Rattle.site.proofs.Site.show.Statement.{statement}
 use Rattle.site.proofs.Site.show.Tie as tie
 use Rattle.site.proofs.Site.show.Reads as reads
 use Rattle.site.proofs.Site.show.Lts as lts
-use Rattle.site.proofs.Site.refused.Reads as refused-reads
+use Rattle.site.proofs.refusal.Reads as refusal-reads
 use Rattle.site.proofs.no_numbers.Reads as no-numbers-reads
 
 -- src/show.rt:24:13
-refused-requires : tie.Need-refused-requires
-refused-requires c κs = search needs
+refusal-requires : tie.Need-refusal-requires
+refusal-requires c κs = search needs
 
 -- src/show.rt:24:13
 returns : tie.Need-returns
@@ -26,7 +27,7 @@ returns c =
     let m = lent (now (a .log)) (now (a .queued)) (now (a .done)) in
     let le : a .h ≤ top = omega (arith, e .fits .h) in
     refuses (a .t1) m _ NoSuchHistory _ (show-refused (whole (a .t1) m) (now (a .log)) (a .h) le (c .before .if1 .taken))
-    (c .refused .ensures .0) (c .refused .ensures .1)
+    (c .refusal .ensures) refl
 
 -- src/show.rt:27:17
 mul-c : tie.Need-mul-c
@@ -37,25 +38,25 @@ element-copy-out-c : tie.Need-element-copy-out-c
 element-copy-out-c c = omega (arith, c .if1 .left, count-most _ _ (c .before .before .pre))
 
 -- src/show.rt:33:33
-mul-t17 : tie.Need-mul-t17
-mul-t17 c = omega (arith, c .before .before .before .if1 .left, count-most _ _ (c .before .before .before .before .before .pre))
+mul-t18 : tie.Need-mul-t18
+mul-t18 c = omega (arith, c .before .before .before .if1 .left, count-most _ _ (c .before .before .before .before .before .pre))
 
 -- src/show.rt:33:33
 element-copy-out-t13 : tie.Need-element-copy-out-t13
 element-copy-out-t13 c = omega (arith, c .before .before .before .if1 .left, count-most _ _ (c .before .before .before .before .before .pre))
 
 -- src/show.rt:34:29
-mul-t24 : tie.Need-mul-t24
-mul-t24 c = omega (arith, c .before .before .before .before .if1 .left, count-most _ _ (c .before .before .before .before .before .before .pre))
+mul-t25 : tie.Need-mul-t25
+mul-t25 c = omega (arith, c .before .before .before .before .if1 .left, count-most _ _ (c .before .before .before .before .before .before .pre))
 
 -- src/show.rt:34:29
-element-copy-out-t27 : tie.Need-element-copy-out-t27
-element-copy-out-t27 c =
+element-copy-out-t28 : tie.Need-element-copy-out-t28
+element-copy-out-t28 c =
     omega (arith, c .before .before .before .before .if1 .left, count-most _ _ (c .before .before .before .before .before .before .pre))
 
 -- src/show.rt:36:22
-cast-t29 : tie.Need-cast-t29
-cast-t29 c = search needs
+cast-t30 : tie.Need-cast-t30
+cast-t30 c = search needs
 
 -- src/show.rt:42:24
 no-numbers-requires : tie.Need-no-numbers-requires
@@ -80,15 +81,15 @@ pub show-spec : {M : Type 1} → statement M
 show-spec =
     tie.close
     (tie.spec
-    refused-requires
+    refusal-requires
     returns
     mul-c
     element-copy-out-c
-    mul-t17
+    mul-t18
     element-copy-out-t13
-    mul-t24
-    element-copy-out-t27
-    cast-t29
+    mul-t25
+    element-copy-out-t28
+    cast-t30
     no-numbers-requires
     no-numbers-requires-2
     returns-2)

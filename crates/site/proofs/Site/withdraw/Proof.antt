@@ -1,6 +1,6 @@
 use denote.Ref.{now}
 use native.Mathlib.Omega.{arith}
-use mathlib.Core.Path.{sym, _∙_}
+use mathlib.Core.Path.{refl, sym, _∙_}
 use mathlib.Core.Bool.{false}
 use Rattle.forms.specs.declared.Refusal.the-variants.{WrongState, OutOfTurn}
 use Rattle.table.specs.Slots.{stored}
@@ -14,7 +14,7 @@ use Rattle.site.proofs.Site.withdraw.Statement.{statement}
 use Rattle.site.proofs.Site.withdraw.Tie as tie
 use Rattle.site.proofs.Site.withdraw.Reads as reads
 use Rattle.site.proofs.Site.withdraw.Lts as lts
-use Rattle.site.proofs.Site.refused.Reads as refused-reads
+use Rattle.site.proofs.refusal.Reads as refusal-reads
 use Rattle.site.proofs.busy.busy.Reads as busy-reads
 use Rattle.site.proofs.no_numbers.Reads as no-numbers-reads
 use Rattle.table.proofs.Queue.find.Reads as find-reads
@@ -22,8 +22,8 @@ use Rattle.table.proofs.Queue.remove.Reads as remove-reads
 use Rattle.table.proofs.became_dry.Reads as became-dry-reads
 
 -- src/withdraw.rt:24:13
-refused-requires : tie.Need-refused-requires
-refused-requires c κs = search needs
+refusal-requires : tie.Need-refusal-requires
+refusal-requires c κs = search needs
 
 -- src/withdraw.rt:24:13
 returns : tie.Need-returns
@@ -33,7 +33,7 @@ returns c =
     let m = lent (now (a .log)) (now (a .queued)) (now (a .done)) in
     refuses (a .self) m _ OutOfTurn _
     (withdraw-refused-turn (whole (a .self) m) (now (a .log)) (a .id) (omega (arith, e .fits .id)) (c .before .if1 .taken))
-    (c .refused .ensures .0) (c .refused .ensures .1)
+    (c .refusal .ensures) refl
 
 -- src/withdraw.rt:27:15
 find-requires : tie.Need-find-requires
@@ -45,8 +45,8 @@ enum-told : tie.Need-enum-told
 enum-told c = search needs
 
 -- src/withdraw.rt:28:31
-refused-requires-2 : tie.Need-refused-requires-2
-refused-requires-2 c κs = search needs
+refusal-requires-2 : tie.Need-refusal-requires-2
+refusal-requires-2 c κs = search needs
 
 -- src/withdraw.rt:29:23
 enum-known-at : tie.Need-enum-known-at
@@ -105,7 +105,7 @@ returns-2 c =
     refuses (a .self) m _ WrongState _
     (withdraw-refused-state (whole (a .self) m) (now (a .log)) (a .id) (omega (arith, e .fits .id))
     (f .before .before .before .if1 .left) (sym (f .find .ensures) ∙ c .before .enum-told .given .1))
-    (c .refused2 .ensures .0) (c .refused2 .ensures .1)
+    (c .refusal2 .ensures) refl
 
 -- src/withdraw.rt:17:5
 returns-3 : tie.Need-returns-3
@@ -127,11 +127,11 @@ pub withdraw-spec : {M : Type 1} → statement M
 withdraw-spec =
     tie.close
     (tie.spec
-    refused-requires
+    refusal-requires
     returns
     find-requires
     enum-told
-    refused-requires-2
+    refusal-requires-2
     enum-known-at
     sub-from
     busy-requires
