@@ -21,7 +21,8 @@ pub fn code(w: Written) -> usize
 pub extern "C" fn site_restart(log: &[u8], k: usize, out: &mut [u8]) -> usize
     ensures { λ r. ⌜ PutsText (replyText (restart (now (log .entry)) k)) (now (out .entry)) r (now (out .exit)) ⌝ }
 {
-    let c = Site::restart(log, k);
+    let mut book = [0u64; 80];
+    let c = Site::restart(log, &mut book, k);
     let reply = c.reply;
     let w = write_reply(out, 0, reply);
     code(w)

@@ -11,6 +11,7 @@ use forms::Asked;
 use forms::AskedHeld;
 use forms::Rule;
 use forms::Version;
+use history::book::BookWords;
 use site::Site;
 use table::slots::DoneWords;
 use table::slots::QueueWords;
@@ -37,41 +38,56 @@ fn one_operation(
     log: &mut [u8],
     queued: &mut QueueWords,
     done: &mut DoneWords,
+    book: &mut BookWords,
     id: u64,
 ) -> Site
-    requires { ⌜ Valid site (lent (now log) (now queued) (now done)) ⌝ }
-    ensures { λ r. ⌜ Reaches site (lent (now (log .entry)) (now (queued .entry)) (now (done .entry))) (workCalls id) r
-        (lent (now (log .exit)) (now (queued .exit)) (now (done .exit))) ⌝ }
+    requires { ⌜ Valid site (lent (now log) (now queued) (now done) (now book)) ⌝ }
+    ensures { λ r. ⌜ Reaches site (lent (now (log .entry)) (now (queued .entry)) (now (done .entry)) (now (book .entry))) (workCalls id) r
+        (lent (now (log .exit)) (now (queued .exit)) (now (done .exit)) (now (book .exit))) ⌝ }
 {
     let asked = asked_inc(id % 4, id / 4 + 1);
-    let a = site.add(log, queued, done, id, asked);
+    let a = site.add(log, queued, done, book, id, asked);
     let added = a.site;
-    let f = added.finish(log, queued, done, id);
+    let f = added.finish(log, queued, done, book, id);
     f.site
 }
 
 // The first n operations become persistent and stable.
-fn mark(site: Site, log: &[u8], queued: &mut QueueWords, done: &mut DoneWords, n: u64) -> Site
-    requires { ⌜ Valid site (lent (now log) (now queued) (now done)) ⌝ }
-    ensures { λ r. ⌜ Reaches site (lent (now (log .entry)) (now (queued .entry)) (now (done .entry))) (markCalls n) r
-        (lent (now (log .entry)) (now (queued .exit)) (now (done .exit))) ⌝ }
+fn mark(
+    site: Site,
+    log: &[u8],
+    queued: &QueueWords,
+    done: &mut DoneWords,
+    book: &mut BookWords,
+    n: u64,
+) -> Site
+    requires { ⌜ Valid site (lent (now log) (now queued) (now done) (now book)) ⌝ }
+    ensures { λ r. ⌜ Reaches site (lent (now (log .entry)) (now (queued .entry)) (now (done .entry)) (now (book .entry))) (markCalls n) r
+        (lent (now (log .entry)) (now (queued .entry)) (now (done .exit)) (now (book .exit))) ⌝ }
 {
-    let p = site.persistent(log, queued, done, n);
+    let p = site.persistent(log, queued, done, book, n);
     let kept = p.site;
-    let s = kept.stable(log, queued, done, n);
+    let s = kept.stable(log, queued, done, book, n);
     s.site
 }
 
 // The operation with this id, and after every 32nd the marks.
-fn round(site: Site, log: &mut [u8], queued: &mut QueueWords, done: &mut DoneWords, id: u64) -> Site
-    requires { ⌜ Valid site (lent (now log) (now queued) (now done)) ⌝ }
+fn round(
+    site: Site,
+    log: &mut [u8],
+    queued: &mut QueueWords,
+    done: &mut DoneWords,
+    book: &mut BookWords,
+    id: u64,
+) -> Site
+    requires { ⌜ Valid site (lent (now log) (now queued) (now done) (now book)) ⌝ }
     requires { ⌜ id < 18446744073709551615 ⌝ }
-    ensures { λ r. ⌜ Reaches site (lent (now (log .entry)) (now (queued .entry)) (now (done .entry))) (roundCalls id) r
-        (lent (now (log .exit)) (now (queued .exit)) (now (done .exit))) ⌝ }
+    ensures { λ r. ⌜ Reaches site (lent (now (log .entry)) (now (queued .entry)) (now (done .entry)) (now (book .entry))) (roundCalls id) r
+        (lent (now (log .exit)) (now (queued .exit)) (now (done .exit)) (now (book .exit))) ⌝ }
 {
-    let worked = one_operation(site, log, queued, done, id);
+    let worked = one_operation(site, log, queued, done, book, id);
     if id % 32 == 31 {
-        return mark(worked, log, queued, done, id + 1);
+        return mark(worked, log, queued, done, book, id + 1);
     }
     worked
 }
@@ -81,7 +97,8 @@ fn round(site: Site, log: &mut [u8], queued: &mut QueueWords, done: &mut DoneWor
 pub extern "C" fn site_add_and_finish(log: &mut [u8], n: u64) -> usize
     ensures { λ r. ⌜ Rounds (openSite 4 (length (now (log .entry)))) n (now (log .entry)) r (now (log .exit)) ⌝ }
 {
-    let c = Site::open(log, 4);
+    let mut book = [0u64; 80];
+    let c = Site::open(log, &mut book, 4);
     let mut site = c.site;
     if site.count == 0 {
         return 0;
@@ -90,7 +107,7 @@ pub extern "C" fn site_add_and_finish(log: &mut [u8], n: u64) -> usize
     let mut done = [0u64; 640];
     let mut id: u64 = 0;
     while id < n {
-        site = round(site, log, &mut queued, &mut done, id);
+        site = round(site, log, &mut queued, &mut done, &mut book, id);
         id += 1;
     }
     site.used

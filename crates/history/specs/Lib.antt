@@ -6,3 +6,5 @@ pub mod CellLaws
 pub mod EntryLaws
 pub mod AtLog
 pub mod AskingLaws
+pub mod Words
+pub mod WordLaws

@@ -4,6 +4,7 @@ ghost use lib.ListN.{length};
 ghost use Rattle.session.specs.Feeding.{UsableBegun};
 ghost use Rattle.site.specs.Model.{lent};
 ghost use Rattle.stream.specs.Model.{ValidStream};
+use history::book::BookWords;
 use libc::STDIN_FILENO;
 use libc::STDOUT_FILENO;
 use stream::Stream;
@@ -23,17 +24,18 @@ fn answer(
     log: &mut [u8],
     queued: &mut QueueWords,
     done: &mut DoneWords,
+    book: &mut BookWords,
     chunk: &[u8],
     out: &mut [u8],
 ) -> Going
-    requires { ⌜ ValidStream start (lent (now log) (now queued) (now done)) ⌝ }
+    requires { ⌜ ValidStream start (lent (now log) (now queued) (now done) (now book)) ⌝ }
     requires { ⌜ 2730 ≤ length (now out) ⌝ }
-    ensures { λ r. ⌜ ValidStream (r .stream) (lent (now (log .exit)) (now (queued .exit)) (now (done .exit))) ⌝ }
+    ensures { λ r. ⌜ ValidStream (r .stream) (lent (now (log .exit)) (now (queued .exit)) (now (done .exit)) (now (book .exit))) ⌝ }
 {
     let mut stream = start;
     let mut at: usize = 0;
     while at < chunk.len() {
-        let f = stream.feed(log, queued, done, &chunk[at..], out);
+        let f = stream.feed(log, queued, done, book, &chunk[at..], out);
         let n = f.written;
         at += f.used;
         stream = f.stream;
@@ -59,12 +61,13 @@ fn step(
     log: &mut [u8],
     queued: &mut QueueWords,
     done: &mut DoneWords,
+    book: &mut BookWords,
     chunk: &mut [u8],
     out: &mut [u8],
 ) -> Going
-    requires { ⌜ ValidStream stream (lent (now log) (now queued) (now done)) ⌝ }
+    requires { ⌜ ValidStream stream (lent (now log) (now queued) (now done) (now book)) ⌝ }
     requires { ⌜ 2730 ≤ length (now out) ⌝ }
-    ensures { λ r. ⌜ ValidStream (r .stream) (lent (now (log .exit)) (now (queued .exit)) (now (done .exit))) ⌝ }
+    ensures { λ r. ⌜ ValidStream (r .stream) (lent (now (log .exit)) (now (queued .exit)) (now (done .exit)) (now (book .exit))) ⌝ }
 {
     let got = libc::read(STDIN_FILENO, chunk);
     if got < 0 {
@@ -75,7 +78,7 @@ fn step(
         return Going { stream, on: false };
     }
     let n = io::count(got, chunk);
-    answer(stream, log, queued, done, &chunk[..n], out)
+    answer(stream, log, queued, done, book, &chunk[..n], out)
 }
 
 // A proved loop has to end, and nothing says that the input does: it counts its turns down, from a number that no run uses up.
@@ -83,6 +86,7 @@ fn serve(
     log: &mut [u8],
     queued: &mut QueueWords,
     done: &mut DoneWords,
+    book: &mut BookWords,
     chunk: &mut [u8],
     out: &mut [u8],
 )
@@ -91,7 +95,7 @@ fn serve(
     let mut stream = Stream::start();
     let mut turns = u64::MAX;
     while turns > 0 {
-        let s = step(stream, log, queued, done, chunk, out);
+        let s = step(stream, log, queued, done, book, chunk, out);
         let on = s.on;
         stream = s.stream;
         if on {
@@ -106,7 +110,15 @@ fn main() {
     let mut log = io::large_buffer();
     let mut queued = [0u64; 1472];
     let mut done = [0u64; 640];
+    let mut book = [0u64; 80];
     let mut chunk = io::large_buffer();
     let mut out = io::large_buffer();
-    serve(&mut log, &mut queued, &mut done, &mut chunk, &mut out);
+    serve(
+        &mut log,
+        &mut queued,
+        &mut done,
+        &mut book,
+        &mut chunk,
+        &mut out,
+    );
 }

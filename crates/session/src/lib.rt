@@ -18,6 +18,7 @@ use forms::AskedHeld;
 use forms::DidLine;
 use forms::Refusal;
 use forms::ReplyLine;
+use history::book::BookWords;
 use reader::CommandForm;
 use reader::CommandRead;
 use reader::read_command;
@@ -89,84 +90,119 @@ impl Session {
     }
 
     // `(show H)`
-    pub fn show(self, log: &[u8], queued: &QueueWords, done: &DoneWords, h: u64) -> Turned
-        requires { ⌜ ValidSession self (lent (now log) (now queued) (now done)) ⌝ }
-        ensures { λ r. ⌜ TurnsCall self (lent (now (log .entry)) (now (queued .entry)) (now (done .entry))) (Call.Show h) r
-            (lent (now (log .entry)) (now (queued .entry)) (now (done .entry))) ⌝ }
+    pub fn show(
+        self,
+        log: &[u8],
+        queued: &QueueWords,
+        done: &DoneWords,
+        book: &BookWords,
+        h: u64,
+    ) -> Turned
+        requires { ⌜ ValidSession self (lent (now log) (now queued) (now done) (now book)) ⌝ }
+        ensures { λ r. ⌜ TurnsCall self (lent (now (log .entry)) (now (queued .entry)) (now (done .entry)) (now (book .entry))) (Call.Show h) r
+            (lent (now (log .entry)) (now (queued .entry)) (now (done .entry)) (now (book .entry))) ⌝ }
     {
         if self.opened {
             let site = self.site;
-            called(site.show(log, queued, done, h))
+            called(site.show(log, queued, done, book, h))
         } else {
             self.refuse(Refusal::OutOfTurn)
         }
     }
 
     // `(end)`
-    pub fn end(self, log: &[u8], queued: &QueueWords, done: &DoneWords) -> Turned
-        requires { ⌜ ValidSession self (lent (now log) (now queued) (now done)) ⌝ }
-        ensures { λ r. ⌜ TurnsCall self (lent (now (log .entry)) (now (queued .entry)) (now (done .entry))) Call.End r
-            (lent (now (log .entry)) (now (queued .entry)) (now (done .entry))) ⌝ }
+    pub fn end(self, log: &[u8], queued: &QueueWords, done: &DoneWords, book: &BookWords) -> Turned
+        requires { ⌜ ValidSession self (lent (now log) (now queued) (now done) (now book)) ⌝ }
+        ensures { λ r. ⌜ TurnsCall self (lent (now (log .entry)) (now (queued .entry)) (now (done .entry)) (now (book .entry))) Call.End r
+            (lent (now (log .entry)) (now (queued .entry)) (now (done .entry)) (now (book .entry))) ⌝ }
     {
         if self.opened {
             let site = self.site;
-            called(site.end(log, queued, done))
+            called(site.end(log, queued, done, book))
         } else {
             self.refuse(Refusal::OutOfTurn)
         }
     }
 
     // `(persistent N)`
-    pub fn persistent(self, log: &[u8], queued: &QueueWords, done: &DoneWords, n: u64) -> Turned
-        requires { ⌜ ValidSession self (lent (now log) (now queued) (now done)) ⌝ }
-        ensures { λ r. ⌜ TurnsCall self (lent (now (log .entry)) (now (queued .entry)) (now (done .entry))) (Call.Persistent n) r
-            (lent (now (log .entry)) (now (queued .entry)) (now (done .entry))) ⌝ }
+    pub fn persistent(
+        self,
+        log: &[u8],
+        queued: &QueueWords,
+        done: &DoneWords,
+        book: &mut BookWords,
+        n: u64,
+    ) -> Turned
+        requires { ⌜ ValidSession self (lent (now log) (now queued) (now done) (now book)) ⌝ }
+        ensures { λ r. ⌜ TurnsCall self (lent (now (log .entry)) (now (queued .entry)) (now (done .entry)) (now (book .entry))) (Call.Persistent n) r
+            (lent (now (log .entry)) (now (queued .entry)) (now (done .entry)) (now (book .exit))) ⌝ }
     {
         if self.opened {
             let site = self.site;
-            called(site.persistent(log, queued, done, n))
+            called(site.persistent(log, queued, done, book, n))
         } else {
             self.refuse(Refusal::OutOfTurn)
         }
     }
 
     // `(stable N)`
-    pub fn stable(self, log: &[u8], queued: &QueueWords, done: &mut DoneWords, n: u64) -> Turned
-        requires { ⌜ ValidSession self (lent (now log) (now queued) (now done)) ⌝ }
-        ensures { λ r. ⌜ TurnsCall self (lent (now (log .entry)) (now (queued .entry)) (now (done .entry))) (Call.Stable n) r
-            (lent (now (log .entry)) (now (queued .entry)) (now (done .exit))) ⌝ }
+    pub fn stable(
+        self,
+        log: &[u8],
+        queued: &QueueWords,
+        done: &mut DoneWords,
+        book: &mut BookWords,
+        n: u64,
+    ) -> Turned
+        requires { ⌜ ValidSession self (lent (now log) (now queued) (now done) (now book)) ⌝ }
+        ensures { λ r. ⌜ TurnsCall self (lent (now (log .entry)) (now (queued .entry)) (now (done .entry)) (now (book .entry))) (Call.Stable n) r
+            (lent (now (log .entry)) (now (queued .entry)) (now (done .exit)) (now (book .exit))) ⌝ }
     {
         if self.opened {
             let site = self.site;
-            called(site.stable(log, queued, done, n))
+            called(site.stable(log, queued, done, book, n))
         } else {
             self.refuse(Refusal::OutOfTurn)
         }
     }
 
     // `(withdraw ID)`
-    pub fn withdraw(self, log: &[u8], queued: &mut QueueWords, done: &DoneWords, id: u64) -> Turned
-        requires { ⌜ ValidSession self (lent (now log) (now queued) (now done)) ⌝ }
-        ensures { λ r. ⌜ TurnsCall self (lent (now (log .entry)) (now (queued .entry)) (now (done .entry))) (Call.Withdraw id) r
-            (lent (now (log .entry)) (now (queued .exit)) (now (done .entry))) ⌝ }
+    pub fn withdraw(
+        self,
+        log: &[u8],
+        queued: &mut QueueWords,
+        done: &DoneWords,
+        book: &BookWords,
+        id: u64,
+    ) -> Turned
+        requires { ⌜ ValidSession self (lent (now log) (now queued) (now done) (now book)) ⌝ }
+        ensures { λ r. ⌜ TurnsCall self (lent (now (log .entry)) (now (queued .entry)) (now (done .entry)) (now (book .entry))) (Call.Withdraw id) r
+            (lent (now (log .entry)) (now (queued .exit)) (now (done .entry)) (now (book .entry))) ⌝ }
     {
         if self.opened {
             let site = self.site;
-            called(site.withdraw(log, queued, done, id))
+            called(site.withdraw(log, queued, done, book, id))
         } else {
             self.refuse(Refusal::OutOfTurn)
         }
     }
 
     // `(cut K)`
-    pub fn cut(self, log: &[u8], queued: &QueueWords, done: &DoneWords, k: u64) -> Turned
-        requires { ⌜ ValidSession self (lent (now log) (now queued) (now done)) ⌝ }
-        ensures { λ r. ⌜ TurnsCall self (lent (now (log .entry)) (now (queued .entry)) (now (done .entry))) (Call.Cut k (length (now (log .entry)))) r
-            (lent (now (log .entry)) (now (queued .entry)) (now (done .entry))) ⌝ }
+    pub fn cut(
+        self,
+        log: &[u8],
+        queued: &QueueWords,
+        done: &DoneWords,
+        book: &mut BookWords,
+        k: u64,
+    ) -> Turned
+        requires { ⌜ ValidSession self (lent (now log) (now queued) (now done) (now book)) ⌝ }
+        ensures { λ r. ⌜ TurnsCall self (lent (now (log .entry)) (now (queued .entry)) (now (done .entry)) (now (book .entry))) (Call.Cut k (length (now (log .entry)))) r
+            (lent (now (log .entry)) (now (queued .entry)) (now (done .entry)) (now (book .exit))) ⌝ }
     {
         if self.opened {
             let site = self.site;
-            called(site.cut(log, queued, done, k))
+            called(site.cut(log, queued, done, book, k))
         } else {
             self.refuse(Refusal::OutOfTurn)
         }
@@ -178,17 +214,18 @@ impl Session {
         log: &[u8],
         queued: &mut QueueWords,
         done: &DoneWords,
+        book: &BookWords,
         id: u64,
         asked: AskedHeld,
     ) -> Turned
-        requires { ⌜ ValidSession self (lent (now log) (now queued) (now done)) ⌝ }
+        requires { ⌜ ValidSession self (lent (now log) (now queued) (now done) (now book)) ⌝ }
         ensures { λ r. ⌜ ((us : List Update) → asked ≡ heldUpdates us → T (all writableUpdate us) →
-            TurnsCall self (lent (now (log .entry)) (now (queued .entry)) (now (done .entry))) (Call.Add id us) r
-            (lent (now (log .entry)) (now (queued .exit)) (now (done .entry)))) ⌝ }
+            TurnsCall self (lent (now (log .entry)) (now (queued .entry)) (now (done .entry)) (now (book .entry))) (Call.Add id us) r
+            (lent (now (log .entry)) (now (queued .exit)) (now (done .entry)) (now (book .entry)))) ⌝ }
     {
         if self.opened {
             let site = self.site;
-            called(site.add(log, queued, done, id, asked))
+            called(site.add(log, queued, done, book, id, asked))
         } else {
             self.refuse(Refusal::OutOfTurn)
         }
@@ -200,15 +237,16 @@ impl Session {
         log: &mut [u8],
         queued: &mut QueueWords,
         done: &mut DoneWords,
+        book: &mut BookWords,
         id: u64,
     ) -> Turned
-        requires { ⌜ ValidSession self (lent (now log) (now queued) (now done)) ⌝ }
-        ensures { λ r. ⌜ TurnsCall self (lent (now (log .entry)) (now (queued .entry)) (now (done .entry))) (Call.Finish id) r
-            (lent (now (log .exit)) (now (queued .exit)) (now (done .exit))) ⌝ }
+        requires { ⌜ ValidSession self (lent (now log) (now queued) (now done) (now book)) ⌝ }
+        ensures { λ r. ⌜ TurnsCall self (lent (now (log .entry)) (now (queued .entry)) (now (done .entry)) (now (book .entry))) (Call.Finish id) r
+            (lent (now (log .exit)) (now (queued .exit)) (now (done .exit)) (now (book .exit))) ⌝ }
     {
         if self.opened {
             let site = self.site;
-            called(site.finish(log, queued, done, id))
+            called(site.finish(log, queued, done, book, id))
         } else {
             self.refuse(Refusal::OutOfTurn)
         }
@@ -220,30 +258,38 @@ impl Session {
         log: &mut [u8],
         queued: &mut QueueWords,
         done: &mut DoneWords,
+        book: &mut BookWords,
         d: DidLine,
     ) -> Turned
-        requires { ⌜ ValidSession self (lent (now log) (now queued) (now done)) ⌝ }
+        requires { ⌜ ValidSession self (lent (now log) (now queued) (now done) (now book)) ⌝ }
         ensures { λ r. ⌜ ((did : Did) → d ≡ heldDid did → readDid (didText did) ≡ got did [] →
-            TurnsCall self (lent (now (log .entry)) (now (queued .entry)) (now (done .entry))) (Call.Redo (didText did)) r
-            (lent (now (log .exit)) (now (queued .exit)) (now (done .exit)))) ⌝ }
+            TurnsCall self (lent (now (log .entry)) (now (queued .entry)) (now (done .entry)) (now (book .entry))) (Call.Redo (didText did)) r
+            (lent (now (log .exit)) (now (queued .exit)) (now (done .exit)) (now (book .exit)))) ⌝ }
     {
         if self.opened {
             let site = self.site;
-            called(site.redo_did(log, queued, done, d))
+            called(site.redo_did(log, queued, done, book, d))
         } else {
             self.refuse(Refusal::OutOfTurn)
         }
     }
 
     // `(site N)`: a refused opening hands back a site without histories.
-    pub fn open_site(self, log: &mut [u8], queued: &QueueWords, done: &DoneWords, n: u64) -> Turned
-        requires { ⌜ ValidSession self (lent (now log) (now queued) (now done)) ⌝ }
-        ensures { λ r. ⌜ Turns self (lent (now (log .entry)) (now (queued .entry)) (now (done .entry))) (opening (length (now (log .entry))) n (sessionView self (lent (now (log .entry)) (now (queued .entry)) (now (done .entry))))) r (lent (now (log .exit)) (now (queued .entry)) (now (done .entry))) ⌝ }
+    pub fn open_site(
+        self,
+        log: &mut [u8],
+        queued: &QueueWords,
+        done: &DoneWords,
+        book: &mut BookWords,
+        n: u64,
+    ) -> Turned
+        requires { ⌜ ValidSession self (lent (now log) (now queued) (now done) (now book)) ⌝ }
+        ensures { λ r. ⌜ Turns self (lent (now (log .entry)) (now (queued .entry)) (now (done .entry)) (now (book .entry))) (opening (length (now (log .entry))) n (sessionView self (lent (now (log .entry)) (now (queued .entry)) (now (done .entry)) (now (book .entry))))) r (lent (now (log .exit)) (now (queued .entry)) (now (done .entry)) (now (book .exit))) ⌝ }
     {
         if self.opened {
             return self.refuse(Refusal::OutOfTurn);
         }
-        let c = Site::open(log, n);
+        let c = Site::open(log, book, n);
         let site = c.site;
         let reply = c.reply;
         if site.count == 0 {
@@ -262,27 +308,28 @@ impl Session {
         log: &mut [u8],
         queued: &mut QueueWords,
         done: &mut DoneWords,
+        book: &mut BookWords,
         c: CommandRead,
     ) -> Turned
-        requires { ⌜ ValidSession self (lent (now log) (now queued) (now done)) ⌝ }
+        requires { ⌜ ValidSession self (lent (now log) (now queued) (now done) (now book)) ⌝ }
         ensures { λ r. ⌜ ((us : List Update) (did : Did) → c .asked ≡ heldUpdates us → T (all writableUpdate us) → c .did ≡ heldDid did → readDid (didText did) ≡ got did [] →
-            Turns self (lent (now (log .entry)) (now (queued .entry)) (now (done .entry))) (obeyed (length (now (log .entry))) (c .form) us did (sessionView self (lent (now (log .entry)) (now (queued .entry)) (now (done .entry))))) r (lent (now (log .exit)) (now (queued .exit)) (now (done .exit)))) ⌝ }
+            Turns self (lent (now (log .entry)) (now (queued .entry)) (now (done .entry)) (now (book .entry))) (obeyed (length (now (log .entry))) (c .form) us did (sessionView self (lent (now (log .entry)) (now (queued .entry)) (now (done .entry)) (now (book .entry))))) r (lent (now (log .exit)) (now (queued .exit)) (now (done .exit)) (now (book .exit)))) ⌝ }
     {
         let form = c.form;
         let asked = c.asked;
         let did = c.did;
         match form {
             CommandForm::Bad => self.refuse(Refusal::Unreadable),
-            CommandForm::SiteOf(n) => self.open_site(log, queued, done, n),
-            CommandForm::Add(i) => self.add(log, queued, done, i, asked),
-            CommandForm::Finish(i) => self.finish(log, queued, done, i),
-            CommandForm::Withdraw(i) => self.withdraw(log, queued, done, i),
-            CommandForm::Persistent(n) => self.persistent(log, queued, done, n),
-            CommandForm::Stable(n) => self.stable(log, queued, done, n),
-            CommandForm::Show(h) => self.show(log, queued, done, h),
-            CommandForm::Cut(k) => self.cut(log, queued, done, k),
-            CommandForm::Redo => self.redo(log, queued, done, did),
-            CommandForm::End => self.end(log, queued, done),
+            CommandForm::SiteOf(n) => self.open_site(log, queued, done, book, n),
+            CommandForm::Add(i) => self.add(log, queued, done, book, i, asked),
+            CommandForm::Finish(i) => self.finish(log, queued, done, book, i),
+            CommandForm::Withdraw(i) => self.withdraw(log, queued, done, book, i),
+            CommandForm::Persistent(n) => self.persistent(log, queued, done, book, n),
+            CommandForm::Stable(n) => self.stable(log, queued, done, book, n),
+            CommandForm::Show(h) => self.show(log, queued, done, book, h),
+            CommandForm::Cut(k) => self.cut(log, queued, done, book, k),
+            CommandForm::Redo => self.redo(log, queued, done, book, did),
+            CommandForm::End => self.end(log, queued, done, book),
         }
     }
 
@@ -292,14 +339,15 @@ impl Session {
         log: &mut [u8],
         queued: &mut QueueWords,
         done: &mut DoneWords,
+        book: &mut BookWords,
         line: &[u8],
     ) -> Turned
-        requires { ⌜ ValidSession self (lent (now log) (now queued) (now done)) ⌝ }
-        ensures { λ r. ⌜ TurnsLine self (lent (now (log .entry)) (now (queued .entry)) (now (done .entry))) (now (line .entry)) r
-            (lent (now (log .exit)) (now (queued .exit)) (now (done .exit))) ⌝ }
+        requires { ⌜ ValidSession self (lent (now log) (now queued) (now done) (now book)) ⌝ }
+        ensures { λ r. ⌜ TurnsLine self (lent (now (log .entry)) (now (queued .entry)) (now (done .entry)) (now (book .entry))) (now (line .entry)) r
+            (lent (now (log .exit)) (now (queued .exit)) (now (done .exit)) (now (book .exit))) ⌝ }
     {
         let c = read_command(line);
-        self.obey(log, queued, done, c)
+        self.obey(log, queued, done, book, c)
     }
 
     // A session "before site".
@@ -318,14 +366,15 @@ impl Session {
         log: &mut [u8],
         queued: &mut QueueWords,
         done: &mut DoneWords,
+        book: &mut BookWords,
         line: &[u8],
         out: &mut [u8],
     ) -> Answered
-        requires { ⌜ ValidSession self (lent (now log) (now queued) (now done)) ⌝ }
-        ensures { λ r. ⌜ Answers self (lent (now (log .entry)) (now (queued .entry)) (now (done .entry))) (turn (length (now (log .entry))) (now (line .entry)) (sessionView self (lent (now (log .entry)) (now (queued .entry)) (now (done .entry)))))
-            r (lent (now (log .exit)) (now (queued .exit)) (now (done .exit))) (now (out .entry)) (now (out .exit)) ⌝ }
+        requires { ⌜ ValidSession self (lent (now log) (now queued) (now done) (now book)) ⌝ }
+        ensures { λ r. ⌜ Answers self (lent (now (log .entry)) (now (queued .entry)) (now (done .entry)) (now (book .entry))) (turn (length (now (log .entry))) (now (line .entry)) (sessionView self (lent (now (log .entry)) (now (queued .entry)) (now (done .entry)) (now (book .entry)))))
+            r (lent (now (log .exit)) (now (queued .exit)) (now (done .exit)) (now (book .exit))) (now (out .entry)) (now (out .exit)) ⌝ }
     {
-        let t = self.turn(log, queued, done, line);
+        let t = self.turn(log, queued, done, book, line);
         let session = t.session;
         let reply = t.reply;
         let next = write_reply(out, 0, reply);

@@ -24,6 +24,7 @@ use Rattle.rules.specs.CheckLaws.{check-none, andThen-none, formed-updates, not
 use Rattle.rules.specs.State.{Operation, State, refused, ok, live, withPending}
 use Rattle.rules.specs.Calls.{Call, unless, writable, writableUpdate, perform, step, tryAll, madeReady}
 use Rattle.rules.specs.Calls.{add, addRefusal, arrived, nothingOrders, idPending, idDone, alreadyDone, readOvertaken, tableFull}
+use Rattle.history.specs.declared.History.{History}
 use Rattle.history.specs.declared.Entry.{Entry}
 use Rattle.history.specs.declared.Verdict.{Verdict}
 use Rattle.history.specs.declared.Verdict.the-variants.{Passes, Refused}
@@ -50,7 +51,7 @@ asking i us = record { id = i; updates = us; running = false }
 
 -- ### Refusals
 
-module _ (x : Seen) (i : ℕ) (us : List Update) (st : State) (s : Sees x i st) where
+module _ (x : Seen) (hs : List History) (i : ℕ) (us : List Update) (st : State) (s : Sees x hs i st) where
   -- the checks behind turn and form, by what was read
   abbrev others : Option Refusal
   others = check (nothingOrders us) NothingOrders (conflicts (x .pending) (x .done || any (alreadyDone st) us) (any (readOvertaken st) us) (x .full) false)
@@ -66,8 +67,8 @@ module _ (x : Seen) (i : ℕ) (us : List Update) (st : State) (s : Sees x i st) 
   nothing-orders-is e = rw e refl
 
   pub conflict-is : nothingOrders us ≡ false → (e : Entry) → Enters (asking i us) e → (done overtaken : Bool) →
-      done ≡ (x .done || any (alreadyDoneIn (cellsOf (x .histories))) (operationOf e .updates)) →
-      overtaken ≡ any (readOvertakenIn (cellsOf (x .histories))) (operationOf e .updates) →
+      done ≡ (x .done || any (alreadyDoneIn (cellsOf hs)) (operationOf e .updates)) →
+      overtaken ≡ any (readOvertakenIn (cellsOf hs)) (operationOf e .updates) →
       (v : Verdict) → v ≡ verdictOf (conflicts (x .pending) done overtaken (x .full) false) → v ≡ verdictOf others
   unfolding check
   conflict-is orders e enters done overtaken d o v h =
@@ -75,12 +76,12 @@ module _ (x : Seen) (i : ℕ) (us : List Update) (st : State) (s : Sees x i st) 
     where
       ran : done ≡ (x .done || any (alreadyDone st) us)
       ran =
-          d ∙ ap (_||_ (x .done)) (already-done-book (x .histories) st (s .book) e (enters .usable)
+          d ∙ ap (_||_ (x .done)) (already-done-book hs st (s .book) e (enters .usable)
           ∙ ap (λ (y : Operation). any (alreadyDone st) (y .updates)) (enters .operation))
 
       late : overtaken ≡ any (readOvertaken st) us
       late =
-          o ∙ read-overtaken-book (x .histories) st (s .book) e (enters .usable)
+          o ∙ read-overtaken-book hs st (s .book) e (enters .usable)
           ∙ ap (λ (y : Operation). any (readOvertaken st) (y .updates)) (enters .operation)
 
 -- What passed all checks.

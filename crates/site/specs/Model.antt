@@ -10,6 +10,7 @@ use Rattle.forms.specs.declared.ReplyLine.{ReplyLine}
 use Rattle.forms.specs.declared.Numbers.{Numbers}
 use Rattle.rules.specs.State.{State, Reply, refused, ok}
 use Rattle.rules.specs.Calls.{Call, step}
+use Rattle.history.specs.Words.{historiesIn, persistedIn, stabilisedIn}
 use Rattle.table.specs.Slots.{stored, storedDone}
 use Rattle.site.specs.declared.Site.{Site}
 use Rattle.site.specs.declared.Called.{Called}
@@ -17,16 +18,17 @@ use Rattle.site.specs.Whole.{Whole, stateOf, Sound}
 
 -- ### What is lent
 
--- What is lent to a call of a site: the buffer of its log, and the words of its queue and of its done operations.
+-- What is lent to a call of a site: the buffer of its log, and the words of its queue, of its done operations and of its histories.
 pub record Lent : Type 0 where
   pub log : List ℕ
   pub queue : List ℕ
   pub done : List ℕ
+  pub book : List ℕ
 
-abbrev pub lent : List ℕ → List ℕ → List ℕ → Lent
-lent log queue done = record { log = log; queue = queue; done = done }
+abbrev pub lent : List ℕ → List ℕ → List ℕ → List ℕ → Lent
+lent log queue done book = record { log = log; queue = queue; done = done; book = book }
 
--- The site with the entries that stand in what is lent.
+-- The site with the histories and the entries that stand in what is lent.
 abbrev pub whole : Site → Lent → Whole
 whole s m =
     record {
@@ -37,9 +39,9 @@ whole s m =
       stable = s .stable;
       restoring = s .restoring;
       reserved = s .reserved;
-      histories = s .histories;
-      persisted = s .persisted;
-      stabilised = s .stabilised;
+      histories = historiesIn (m .book);
+      persisted = persistedIn (m .book);
+      stabilised = stabilisedIn (m .book);
       queue = stored (s .queue) (m .queue);
       finished = storedDone (s .finished) (m .done);
     }

@@ -15,6 +15,7 @@ use Rattle.rules.specs.State.{Operation, State, Reply, refused, ok, logBytes, s
 use Rattle.rules.specs.Checks.{check}
 use Rattle.rules.specs.Calls.{Call, unless, writable, perform, step}
 use Rattle.rules.specs.Good.{Good}
+use Rattle.history.specs.declared.History.{History}
 use Rattle.table.specs.Lists.{IsNumbers}
 use Rattle.site.specs.declared.Site.{Site}
 use Rattle.site.specs.declared.Called.{Called}
@@ -63,6 +64,28 @@ pub valid-is : (s : Whole) (bytes : List ℕ) (st : State) → Holds s bytes st 
 unfolding Sound
 valid-is s bytes st h = subst (Holds s bytes) (sym (view-is s bytes st h)) h
 
+-- the site with these histories and versions
+abbrev pub withBook : List History → List ℕ → List ℕ → Whole → Whole
+withBook histories persisted stabilised w =
+    record {
+      count = w .count;
+      used = w .used;
+      done = w .done;
+      persistent = w .persistent;
+      stable = w .stable;
+      restoring = w .restoring;
+      reserved = w .reserved;
+      histories = histories;
+      persisted = persisted;
+      stabilised = stabilised;
+      queue = w .queue;
+      finished = w .finished;
+    }
+
+-- .. which is the site itself, when they are the same
+pub same-book : (w : Whole) {hs : List History} {ps ss : List ℕ} → hs ≡ w .histories → ps ≡ w .persisted → ss ≡ w .stabilised → w ≡ withBook hs ps ss w
+same-book w h p s = λ i. withBook (sym h i) (sym p i) (sym s i) w
+
 -- ### What a call does
 
 -- A site with its tables after a call, and the reply.
@@ -80,6 +103,13 @@ pub record Accepts (old : List ℕ) (x : Reply) (r : Taken) (new : List ℕ) : T
   pub state : stateOf (r .site) new ≡ next
   pub past : drop (r .site .used) new ≡ drop (r .site .used) old
 
+-- .. so too with these histories and versions, when they are the same
+pub accepts-book : (old : List ℕ) (x : Reply) (w : Whole) (reply : ReplyLine) (new : List ℕ) {hs : List History} {ps ss : List ℕ} →
+    hs ≡ w .histories → ps ≡ w .persisted → ss ≡ w .stabilised →
+    Accepts old x (record { site = w; reply = reply }) new → Accepts old x (record { site = withBook hs ps ss w; reply = reply }) new
+accepts-book old x w reply new h p s a =
+    subst (λ (z : Whole). Accepts old x (record { site = z; reply = reply }) new) (same-book w h p s) a
+
 -- .. and so it does what the rule book replies.
 pub does : (s : Site) (old : Lent) (x : Reply) (r : Called) (new : Lent) → Accepts (old .log) x (record { site = whole (r .site) new; reply = r .reply }) (new .log) →
     Does s old x r new
@@ -93,9 +123,9 @@ refuses s old reply q r e says same = subst (λ (x : Reply). Does s old x r old)
 
 -- .. the log too, where the writer found no room
 pub refuses-full : (s : Site) (old : Lent) (new : List ℕ) (reply : Reply) (q : Refusal) (r : Called) → reply ≡ refused q → new ≡ old .log →
-    Says (r .reply) (Refused q) → r .site ≡ s → Does s old reply r (lent new (old .queue) (old .done))
+    Says (r .reply) (Refused q) → r .site ≡ s → Does s old reply r (lent new (old .queue) (old .done) (old .book))
 refuses-full s old new reply q r e f says same =
-    subst (λ (b : List ℕ). Does s old reply r (lent b (old .queue) (old .done))) (sym f) (refuses s old reply q r e says same)
+    subst (λ (b : List ℕ). Does s old reply r (lent b (old .queue) (old .done) (old .book))) (sym f) (refuses s old reply q r e says same)
 
 -- A call that the rule book accepts: the site after it holds the next state.
 pub accepts : (old : List ℕ) (reply : Reply) (st : State) (a : Answer) (r : Taken) (new : List ℕ) → reply ≡ ok st a →

@@ -2,6 +2,7 @@
 use Prim.Native.Nat.{ℕ, _+_, _<_}
 use mathlib.Core.Path.{_≡_}
 use mathlib.Core.Bool.{Bool}
+use mathlib.Core.List.{List}
 use mathlib.Core.Option.{Option, none}
 use lib.ListN.{length}
 use Rattle.forms.specs.Lists.{sum}
@@ -11,17 +12,18 @@ use Rattle.rules.specs.Book.{cell}
 use Rattle.rules.specs.Checks.{check}
 use Rattle.rules.specs.State.{State, logBytes, lineBytes}
 use Rattle.rules.specs.Calls.{idPending, idDone, tableFull}
+use Rattle.history.specs.declared.History.{History}
 use Rattle.history.specs.Entries.{cellsOf}
 use Rattle.site.specs.declared.seen.Seen.{Seen}
 
--- What was read is so in the state st, for the id i.
-pub record Sees (x : Seen) (i : ℕ) (st : State) : Type 0 where
+-- What was read is so in the state st, for the id i, and the histories hold its book.
+pub record Sees (x : Seen) (hs : List History) (i : ℕ) (st : State) : Type 0 where
   pub restoring : x .restoring ≡ st .restoring
   pub count : x .count ≡ st .histories
   pub pending : x .pending ≡ idPending i st
   pub done : x .done ≡ idDone i st
   pub full : x .full ≡ tableFull st
-  pub book : (h : ℕ) → h < 16 → cellsOf (x .histories) h ≡ cell h (st .log)
+  pub book : (h : ℕ) → h < 16 → cellsOf hs h ≡ cell h (st .log)
 
 -- So many bytes of the log buffer are neither in use nor reserved.
 abbrev pub Leaves : ℕ → State → Type 0

@@ -69,7 +69,7 @@ live-is s bytes c = omega (arith, go (s .restoring), done)
 -- what is read of a valid site is so in its stateOf
 pub site-sees : (s : Whole) (bytes : List ℕ) → Sound s bytes → (i : ℕ) (pending done full : Bool) → pending ≡ any (hasId i) (queueOf (s .queue)) →
     done ≡ any (doneHasId i) (doneOf (s .finished)) → full ≡ leb 64 (s .queue .count + s .finished .count) →
-    Sees (record { restoring = s .restoring; count = s .count; pending = pending; done = done; full = full; histories = s .histories }) i (stateOf s bytes)
+    Sees (record { restoring = s .restoring; count = s .count; pending = pending; done = done; full = full }) (s .histories) i (stateOf s bytes)
 unfolding Sound tableFull
 site-sees s bytes v i pending done full p d f =
     record {

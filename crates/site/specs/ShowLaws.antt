@@ -20,6 +20,7 @@ use Rattle.rules.specs.State.{State, Reply, refused, ok, versionAt}
 use Rattle.rules.specs.LogLaws.{histories-most}
 use Rattle.rules.specs.Calls.{Call, unless, writable, perform, step, show}
 use Rattle.table.specs.Lists.{IsNumbers}
+use Rattle.history.specs.declared.History.{History}
 use Rattle.history.specs.Entries.{cellsOf, noHistory}
 use Rattle.site.specs.Whole.{Whole, stateOf, Carries, Holds, Sound}
 use Rattle.site.specs.declared.Called.{Called}
@@ -63,27 +64,30 @@ show-accepted s bytes h v le below =
     stabilised : versionAt (s .stable .0) h (stateOf s bytes) ≡ getD (s .stabilised) h 0
     stabilised = sym (c .stabilised h few)
 
--- the reply that shows history h of a site
-abbrev pub shownOf : Whole → ℕ → Numbers → Numbers → ReplyLine
-shownOf s h a b =
+-- the reply that shows history h: what it holds, and its persistent and its stable version
+abbrev pub shownOf : ℕ → History → ℕ → ℕ → Numbers → Numbers → ReplyLine
+shownOf h x p q a b =
     record {
       form = ReplyForm.Shows (record {
         history = h;
-        version = getD (s .histories) h noHistory .version;
-        persistent = record { 0 = getD (s .persisted) h 0 };
-        stable = record { 0 = getD (s .stabilised) h 0 };
-        place = getD (s .histories) h noHistory .place;
-        profile = getD (s .histories) h noHistory .profile;
+        version = x .version;
+        persistent = record { 0 = p };
+        stable = record { 0 = q };
+        place = x .place;
+        profile = x .profile;
       });
       first = a;
       second = b;
     }
 
-pub show-does : (s : Whole) (bytes : List ℕ) (h : ℕ) → Sound s bytes → h ≤ top → h < s .count → (a b : Numbers) → IsNumbers a [] → IsNumbers b [] →
-    Accepts bytes (step (Call.Show h) (stateOf s bytes)) (record { site = s; reply = shownOf s h a b }) bytes
+pub show-does : (s : Whole) (bytes : List ℕ) (h : ℕ) → Sound s bytes → h ≤ top → h < s .count →
+    (x : History) → x ≡ getD (s .histories) h noHistory → (p : ℕ) → p ≡ getD (s .persisted) h 0 → (q : ℕ) → q ≡ getD (s .stabilised) h 0 →
+    (a b : Numbers) → IsNumbers a [] → IsNumbers b [] →
+    Accepts bytes (step (Call.Show h) (stateOf s bytes)) (record { site = s; reply = shownOf h x p q a b }) bytes
 unfolding outcomeWith Sound
-show-does s bytes h v le below a b none-a none-b =
-    accepts bytes (step (Call.Show h) (stateOf s bytes)) (stateOf s bytes)
-    (Shown h (cellsOf (s .histories) h .version) (getD (s .persisted) h 0) (getD (s .stabilised) h 0) (cellsOf (s .histories) h .place) (cellsOf (s .histories) h .profile))
-    (record { site = s; reply = shownOf s h a b }) bytes (show-accepted s bytes h v le below)
-    (says-lists (shownOf s h a b) [] [] none-a none-b) v refl
+show-does s bytes h v le below x is p persisted q stabilised a b none-a none-b =
+    accepts bytes (step (Call.Show h) (stateOf s bytes)) (stateOf s bytes) (Shown h (x .version .0) p q (x .place .0) (x .profile))
+    (record { site = s; reply = shownOf h x p q a b }) bytes
+    (show-accepted s bytes h v le below
+    ∙ sym (λ i. ok (stateOf s bytes) (Shown h (is i .version .0) (persisted i) (stabilised i) (is i .place .0) (is i .profile))))
+    (says-lists (shownOf h x p q a b) [] [] none-a none-b) v refl

@@ -8,16 +8,17 @@ use super::refusal;
 use forms::Refusal;
 use forms::ReplyForm;
 use forms::ReplyLine;
+use history::book::BookWords;
 use table::Queue;
 use table::slots::DoneWords;
 use table::slots::QueueWords;
 
 impl Site {
     // "Ending restoring drops and names those still waiting, in order of delivery."
-    pub fn end(self, log: &[u8], queued: &QueueWords, done: &DoneWords) -> Called
-        requires { ⌜ Valid self (lent (now log) (now queued) (now done)) ⌝ }
-        ensures { λ r. ⌜ Steps self (lent (now (log .entry)) (now (queued .entry)) (now (done .entry))) Call.End r
-            (lent (now (log .entry)) (now (queued .entry)) (now (done .entry))) ⌝ }
+    pub fn end(self, log: &[u8], queued: &QueueWords, done: &DoneWords, book: &BookWords) -> Called
+        requires { ⌜ Valid self (lent (now log) (now queued) (now done) (now book)) ⌝ }
+        ensures { λ r. ⌜ Steps self (lent (now (log .entry)) (now (queued .entry)) (now (done .entry)) (now (book .entry))) Call.End r
+            (lent (now (log .entry)) (now (queued .entry)) (now (done .entry)) (now (book .entry))) ⌝ }
     {
         let restoring = self.restoring;
         if restoring {

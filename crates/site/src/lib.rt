@@ -1,4 +1,4 @@
-// One site: its histories, and, in what is lent to it, its table of live operations and its log.
+// One site: its counters, and, in what is lent to it, its histories, its table of live operations and its log.
 ghost use mathlib.Core.Path.{_≡_};
 ghost use mathlib.Core.List.{[]};
 ghost use Prim.Native.Nat.{max};
@@ -11,7 +11,6 @@ use forms::Numbers;
 use forms::Refusal;
 use forms::ReplyForm;
 use forms::ReplyLine;
-use history::History;
 use table::DoneList;
 use table::Queue;
 
@@ -28,8 +27,8 @@ pub mod show;
 pub mod stable;
 pub mod withdraw;
 
-// A site by value. What the caller lends to each call: a buffer whose first `used` bytes are its log, and two arrays of numbers with the entries of its
-// table.
+// A site by value. What the caller lends to each call: a buffer whose first `used` bytes are its log, two arrays of numbers with the entries of its
+// table, and one with its histories.
 pub struct Site {
     // how many histories there are
     pub count: usize,
@@ -42,10 +41,6 @@ pub struct Site {
     pub restoring: bool,
     // bytes that the waiting redo lines will take in the log
     pub reserved: usize,
-    pub histories: [History; 16],
-    // each history's persistent and stable version
-    pub persisted: [u64; 16],
-    pub stabilised: [u64; 16],
     // operations that are not done; while restoring, the redo lines that wait
     pub queue: Queue,
     // done operations that are not yet stable

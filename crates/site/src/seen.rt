@@ -3,10 +3,9 @@ ghost use mathlib.Core.Path.{_≡_};
 ghost use Rattle.history.specs.Asking.{verdictOf};
 ghost use Rattle.site.specs.Seen.{conflicts};
 use forms::Refusal;
-use history::History;
 use history::Verdict;
 
-// What the checks of an operation or of a did line read of a site.
+// What the checks of an operation or of a did line read of a site, beside its histories.
 pub struct Seen {
     pub restoring: bool,
     // how many histories there are
@@ -16,7 +15,6 @@ pub struct Seen {
     pub done: bool,
     // whether as many operations are live as may be
     pub full: bool,
-    pub histories: [History; 16],
 }
 
 // The checks 7 to 12, by what each has found.

@@ -10,15 +10,26 @@ use forms::ReplyForm;
 use forms::ReplyLine;
 use forms::Shown;
 use forms::Version;
+use history::book::BookWords;
+use history::book::PERSISTED;
+use history::book::STABILISED;
+use history::book::history_at;
 use table::slots::DoneWords;
 use table::slots::QueueWords;
 
 impl Site {
     // "Show: history, version, persistent, stable, place, profile."
-    pub fn show(self, log: &[u8], queued: &QueueWords, done: &DoneWords, h: u64) -> Called
-        requires { ⌜ Valid self (lent (now log) (now queued) (now done)) ⌝ }
-        ensures { λ r. ⌜ Steps self (lent (now (log .entry)) (now (queued .entry)) (now (done .entry))) (Call.Show h) r
-            (lent (now (log .entry)) (now (queued .entry)) (now (done .entry))) ⌝ }
+    pub fn show(
+        self,
+        log: &[u8],
+        queued: &QueueWords,
+        done: &DoneWords,
+        book: &BookWords,
+        h: u64,
+    ) -> Called
+        requires { ⌜ Valid self (lent (now log) (now queued) (now done) (now book)) ⌝ }
+        ensures { λ r. ⌜ Steps self (lent (now (log .entry)) (now (queued .entry)) (now (done .entry)) (now (book .entry))) (Call.Show h) r
+            (lent (now (log .entry)) (now (queued .entry)) (now (done .entry)) (now (book .entry))) ⌝ }
     {
         let n = self.count;
         if n as u64 <= h {
@@ -28,14 +39,14 @@ impl Site {
             };
         }
         let i = h as usize;
-        let c = self.histories[i];
+        let c = history_at(book, i);
         let version = c.version;
         let place = c.place;
         let shown = Shown {
             history: h,
             version,
-            persistent: Version(self.persisted[i]),
-            stable: Version(self.stabilised[i]),
+            persistent: Version(book[PERSISTED + i]),
+            stable: Version(book[STABILISED + i]),
             place,
             profile: c.profile as u64,
         };

@@ -13,10 +13,12 @@ use Rattle.forms.specs.Lists.{any}
 use Rattle.forms.specs.ListLaws.{mem-along}
 use Rattle.history.specs.declared.DoneEntry.{DoneEntry}
 use Rattle.history.specs.Tests.{four-eq}
+use Rattle.history.specs.Words.{within}
+use Rattle.history.specs.WordLaws.{within-of}
 use Rattle.table.specs.Arrays.{Says}
 use Rattle.table.specs.Dones.{Finished, doneOf, UsableDone, UsableDones, IsDone, pastDone, doneTouches, stampedTo, versionFrom}
-use Rattle.table.specs.Slots.{within, doneFrom, donesIn}
-use Rattle.table.specs.SlotLaws.{done-in, dones-put, puts, stores-first, stores-at, stores-kept, within-of, four-whole}
+use Rattle.table.specs.Slots.{doneFrom, donesIn}
+use Rattle.table.specs.SlotLaws.{done-in, dones-put, puts, stores-first, stores-at, stores-kept, four-whole}
 use Rattle.table.specs.LoopLaws.{take-next, take-push, push-each, take-none, mem-take, drop-take, drop-past, slice-next, any-snoc}
 use Rattle.table.specs.ArrayLaws.{says-like, says-store}
 

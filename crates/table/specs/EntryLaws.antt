@@ -1,17 +1,19 @@
 -- Laws of entries against the rule book's operations and did lines: their histories, and whether a line can run.
 use Prim.Native.Nat.{ℕ, zero, suc, _≤_, _<_}
 use native.Mathlib.Omega.{arith}
-use mathlib.Core.Path.{_≡_, refl, ap, _∙_}
+use mathlib.Core.Path.{_≡_, refl, sym, ap, _∙_}
 use mathlib.Core.Logic.{_⊎_, inl, inr}
+use mathlib.Core.Bool.{Bool}
 use mathlib.Core.List.{List, [], _∷_, map}
 use mathlib.Core.List.{List·Memᴰ as Mem, List·Memᴰ·not-nil, List·Memᴰ·cases-cons}
 use lib.ListN.{length, getD, take}
 use Rattle.forms.specs.Forms.{Update, Change, Did}
+use Rattle.rules.specs.Rules.{mayRun}
 use Rattle.rules.specs.Book.{Cell, cell, runsAt, canRun}
 use Rattle.history.specs.declared.History.{History}
 use Rattle.history.specs.declared.Item.{Item}
 use Rattle.history.specs.declared.Entry.{Entry}
-use Rattle.history.specs.Entries.{cellsOf, noItem, itemUpdate, itemChange, operationOf, didOfEntry, canRunIn, UsableEntry}
+use Rattle.history.specs.Entries.{noHistory, cellOf, cellsOf, noItem, itemUpdate, itemChange, operationOf, didOfEntry, canRunIn, mayRunIn, UsableEntry}
 use Rattle.history.specs.Tests.{all-agree}
 use Rattle.table.specs.Queues.{canRunEntry}
 use Rattle.table.specs.Tries.{updatesOf}
@@ -42,3 +44,14 @@ unfolding canRunIn canRun didOfEntry
 can-run-is log hs e same w =
     all-agree _ _ (didOfEntry e .changes)
     (λ x m. ap (λ (c : Cell). runsAt c x) (same (x .history) (item-low itemChange (λ (y : Change). y .history) (λ y. refl) e w x m)))
+
+-- What is found for an item and its history, as they were read, holds of the item against the cells of the histories.
+module _ (hs : List History) (y : Item) {h : History} {b : Bool} where
+  pub runs-read : {x : Item} → x ≡ y → h ≡ getD hs (x .history) noHistory → b ≡ runsAt (cellOf h) (itemChange x)
+      → runsAt (cellsOf hs (y .history)) (itemChange y) ≡ b
+  runs-read {x} e f g =
+      sym (g ∙ ap (λ (k : History). runsAt (cellOf k) (itemChange x)) f ∙ ap (λ (z : Item). runsAt (cellsOf hs (z .history)) (itemChange z)) e)
+
+  pub may-read : h ≡ getD hs (y .history) noHistory → b ≡ mayRun (y .rule) (h .version .0) (y .version .0) → mayRunIn (cellsOf hs) (itemUpdate y) ≡ b
+  unfolding mayRunIn
+  may-read f g = sym (g ∙ ap (λ (k : History). mayRun (y .rule) (k .version .0) (y .version .0)) f)

@@ -5,12 +5,12 @@ use native.Mathlib.Omega.{arith}
 use mathlib.Core.Path.{_≡_, refl, sym, ap, _∙_}
 use mathlib.Core.Logic.{_⊎_, inl, inr}
 use mathlib.Core.Bool.{Bool, true, false}
-use mathlib.Core.List.{List, [], _∷_, _++_, map, map-append}
-use borrow.Author.Tests.{lt-ltb, ltb-true, ltb-false, eqb-true, eqb-false}
+use mathlib.Core.List.{List, [], _∷_, map}
+use borrow.Author.Tests.{ltb-true, ltb-false}
 use lib.Arith.{lt-of-le-ne}
 use lib.Dec.{eqb, ltb}
-use lib.ListN.{length, getD, set, length-append, length-map, length-set, List·getD-append}
-use lib.Seq.{ext-getD, getD-at, getD-set-same, getD-set-other}
+use lib.ListN.{length, getD, set, length-set}
+use lib.Seq.{ext-getD, getD-set-same}
 use Rattle.forms.specs.Lists.{below}
 use Rattle.forms.specs.Held.{firstFour}
 use Rattle.forms.specs.declared.Rule.{Rule}
@@ -20,55 +20,11 @@ use Rattle.history.specs.declared.Entry.{Entry}
 use Rattle.history.specs.declared.DoneEntry.{DoneEntry}
 use Rattle.history.specs.Entries.{noItem}
 use Rattle.history.specs.Tests.{four-eq, four-at}
+use Rattle.history.specs.Words.{within, Kept}
+use Rattle.history.specs.WordLaws.{within-of, made-long, made-at, made-set, Same, kept-same, kept-wide, kept-then, kept-set}
 use Rattle.table.specs.Queues.{pastEntry}
 use Rattle.table.specs.Dones.{pastDone}
-use Rattle.table.specs.Slots.{ruleNumber, ruleNamed, within, itemAt, Kept, PutItem, entryFrom, entriesIn, doneFrom, donesIn, begun}
-
--- ### Lists made by index
-
-below-long : (n : ℕ) → length (below n) ≡ n
-unfolding below
-below-long zero = refl
-below-long (suc n) = let e = below-long n in omega (arith, length-append (below n) (n ∷ []))
-
-module _ {A : Type 0} (f : ℕ → A) where
-  made-long : (n : ℕ) → length (map f (below n)) ≡ n
-  made-long n = length-map (below n) f ∙ below-long n
-
-  -- the element at an index is made of that index
-  made-at : (n i : ℕ) (d : A) → i < n → getD (map f (below n)) i d ≡ f i
-  unfolding below
-  made-at zero i d h = absurd (let z : suc i ≤ 0 = h in omega arith)
-  made-at (suc n) i d h =
-      ap (λ (l : List A). getD l i d) (map-append f (below n) (n ∷ [])) ∙ go (ltb i n) refl (λ g. made-at n i d g)
-    where
-      go : (b : Bool) → ltb i n ≡ b → (i < n → getD (map f (below n)) i d ≡ f i) → getD (map f (below n) ++ (f n ∷ [])) i d ≡ f i
-      go true e more = List·getD-append (map f (below n)) (f n ∷ []) d i (omega (arith, ltb-true i n e, made-long n)) ∙ more (ltb-true i n e)
-      go false e more =
-          let q : i ≡ n = omega (arith, ltb-false i n e) in
-          getD-at (map f (below n)) (f n) [] d i (made-long n ∙ sym q) ∙ ap f (sym q)
-
--- A list made by index after a store: the element stored, and the others as they were.
-pub made-set : {A : Type 0} (f g : ℕ → A) (n i : ℕ) (a d : A) → i < n → f i ≡ a → ((j : ℕ) → j < n → (j ≡ i → ⊥) → f j ≡ g j)
-    → map f (below n) ≡ set (map g (below n)) i a
-made-set {A} f g n i a d h same other =
-    ext-getD d (map f (below n)) (set (map g (below n)) i a) (made-long f n ∙ sym (long i a)) (λ j k. go j (omega (arith, made-long f n)) (eqb j i) refl)
-  where
-    long : (i : ℕ) (a : A) → length (set (map g (below n)) i a) ≡ n
-    long i a = length-set (map g (below n)) i a ∙ made-long g n
-
-    go : (j : ℕ) → j < n → (b : Bool) → eqb j i ≡ b → getD (map f (below n)) j d ≡ getD (set (map g (below n)) i a) j d
-    go j k true e =
-        made-at f n j d k
-        ∙ ap f (eqb-true j i e)
-        ∙ same
-        ∙ sym (getD-set-same (map g (below n)) i a d (omega (arith, made-long g n)))
-        ∙ ap (λ (m : ℕ). getD (set (map g (below n)) i a) m d) (sym (eqb-true j i e))
-    go j k false e =
-        made-at f n j d k
-        ∙ other j k (eqb-false j i e)
-        ∙ sym (made-at g n j d k)
-        ∙ sym (getD-set-other (map g (below n)) i j a d (eqb-false j i e))
+use Rattle.table.specs.Slots.{ruleNumber, ruleNamed, itemAt, PutItem, entryFrom, entriesIn, doneFrom, donesIn, begun}
 
 -- ### Items and entries, read field by field
 
@@ -97,6 +53,25 @@ pub entry-id : (ws : List ℕ) (i : ℕ) → i < 64 → getD (entriesIn ws) i pa
 unfolding entryFrom
 entry-id ws i h = ap (λ (e : Entry). e .id) (entry-in ws i h)
 
+pub entry-runs : (ws : List ℕ) (i : ℕ) → i < 64 → getD (entriesIn ws) i pastEntry .running ≡ eqb (getD ws (i * 23 + 1) 0) 1
+unfolding entryFrom
+entry-runs ws i h = ap (λ (e : Entry). e .running) (entry-in ws i h)
+
+pub entry-count : (ws : List ℕ) (i : ℕ) → i < 64 → getD (entriesIn ws) i pastEntry .count ≡ getD ws (i * 23 + 2) 0
+unfolding entryFrom
+entry-count ws i h = ap (λ (e : Entry). e .count) (entry-in ws i h)
+
+item-from : (ws : List ℕ) (at j : ℕ) → j < 4 → getD (entryFrom ws at .items) j noItem ≡ itemAt ws (at + 3 + j * 5)
+unfolding entryFrom
+item-from ws at zero h = ap (itemAt ws) (omega arith)
+item-from ws at (suc zero) h = ap (itemAt ws) (omega arith)
+item-from ws at (suc (suc zero)) h = ap (itemAt ws) (omega arith)
+item-from ws at (suc (suc (suc zero))) h = ap (itemAt ws) (omega arith)
+item-from ws at (suc (suc (suc (suc j)))) h = absurd (omega arith)
+
+pub entry-item : (ws : List ℕ) (i j : ℕ) → i < 64 → j < 4 → getD (getD (entriesIn ws) i pastEntry .items) j noItem ≡ itemAt ws (i * 23 + 3 + j * 5)
+entry-item ws i j h l = ap (λ (e : Entry). getD (e .items) j noItem) (entry-in ws i h) ∙ item-from ws (i * 23) j l
+
 pub dones-long : (ws : List ℕ) → length (donesIn ws) ≡ 64
 unfolding donesIn
 dones-long ws = made-long (λ (i : ℕ). doneFrom ws (i * 10)) 64
@@ -110,21 +85,6 @@ unfolding doneFrom
 done-id ws i h = ap (λ (e : DoneEntry). e .id) (done-in ws i h)
 
 -- ### What stays as it was
-
--- the words from `at` to `at + n` are the same
-abbrev Same : ℕ → ℕ → List ℕ → List ℕ → Type 0
-Same at n old new = (k : ℕ) → at ≤ k → k < at + n → getD new k 0 ≡ getD old k 0
-
--- n words that do not meet those that changed
-kept-same : (at n : ℕ) {a w : ℕ} {old new : List ℕ} → Kept a w old new → (at + n ≤ a) ⊎ (a + w ≤ at) → Same at n old new
-kept-same at n q (inl h) k l m = q .before k (omega arith)
-kept-same at n q (inr h) k l m = q .behind k (omega arith)
-
-pub kept-wide : (at n : ℕ) {a w : ℕ} {old new : List ℕ} → Kept a w old new → at ≤ a → a + w ≤ at + n → Kept at n old new
-kept-wide at n q h g = record { before = λ k l. q .before k (omega arith); behind = λ k l. q .behind k (omega arith) }
-
-pub kept-then : {at n : ℕ} {x y z : List ℕ} → Kept at n x y → Kept at n y z → Kept at n x z
-kept-then q r = record { before = λ k l. r .before k l ∙ q .before k l; behind = λ k l. r .behind k l ∙ q .behind k l }
 
 module _ (old new : List ℕ) where
   item-same : (at : ℕ) → Same at 5 old new → itemAt new at ≡ itemAt old at
@@ -201,13 +161,6 @@ abbrev pub puts : List ℕ → ℕ → ℕ → List ℕ → List ℕ
 puts ws at k [] = ws
 puts ws at k (v ∷ vs) = puts (set ws (at + k) v) at (suc k) vs
 
-pub kept-set : (ws : List ℕ) (at v : ℕ) → Kept at 1 ws (set ws at v)
-kept-set ws at v =
-    record {
-      before = λ k l. getD-set-other ws at k v 0 (λ e. omega (arith, e));
-      behind = λ k l. getD-set-other ws at k v 0 (λ e. omega (arith, e));
-    }
-
 pub puts-kept : (ws : List ℕ) (at k : ℕ) (vs : List ℕ) → Kept (at + k) (length vs) ws (puts ws at k vs)
 puts-kept ws at k [] = record { before = λ j l. refl; behind = λ j l. refl }
 puts-kept ws at k (v ∷ vs) =
@@ -242,11 +195,6 @@ module _ (ws : List ℕ) (at v : ℕ) (vs : List ℕ) (room : at + suc (length v
       (kept-wide at (suc (length vs)) (puts-kept (set ws at v) at 1 vs) (omega arith) (omega arith))
 
 -- ### Writing an item and an entry
-
--- a number below the limit
-pub within-of : (limit n : ℕ) → n < limit → within limit n ≡ n
-unfolding within
-within-of limit n h = rw (lt-ltb n limit h)
 
 named-number : (r : Rule) → ruleNamed (ruleNumber r) ≡ r
 unfolding ruleNamed ruleNumber

@@ -1,9 +1,9 @@
 -- Entries in words: how the entries of the table stand in the arrays of numbers that are lent to it.
-use Prim.Native.Nat.{ℕ, _+_, _*_, _≤_, _<_}
+use Prim.Native.Nat.{ℕ, _+_, _*_}
 use mathlib.Core.Path.{_≡_}
 use mathlib.Core.Bool.{true, cond}
 use mathlib.Core.List.{List, [], _∷_, map}
-use lib.Dec.{eqb, ltb}
+use lib.Dec.{eqb}
 use lib.ListN.{getD}
 use Rattle.forms.specs.Lists.{below}
 use Rattle.forms.specs.declared.Rule.{Rule}
@@ -11,6 +11,7 @@ use Rattle.forms.specs.declared.Rule.the-variants.{Inc, Set, Not, Unk}
 use Rattle.history.specs.declared.Item.{Item}
 use Rattle.history.specs.declared.Entry.{Entry}
 use Rattle.history.specs.declared.DoneEntry.{DoneEntry}
+use Rattle.history.specs.Words.{within, Kept}
 use Rattle.table.specs.declared.Queue.{Queue}
 use Rattle.table.specs.declared.DoneList.{DoneList}
 use Rattle.table.specs.Queues.{Queued}
@@ -26,10 +27,6 @@ ruleNumber Unk = 3
 unfoldable pub ruleNamed : ℕ → Rule
 ruleNamed n = cond (eqb n 0) Inc (cond (eqb n 1) Set (cond (eqb n 2) Not Unk))
 
--- a number below a limit, and 0 for any other
-unfoldable pub within : ℕ → ℕ → ℕ
-within limit n = cond (ltb n limit) n 0
-
 -- the item whose five words begin at `at`
 unfoldable pub itemAt : List ℕ → ℕ → Item
 itemAt ws at =
@@ -40,11 +37,6 @@ itemAt ws at =
       place = record { 0 = getD ws (at + 3) 0 };
       operand = within 4294967296 (getD ws (at + 4) 0);
     }
-
--- Outside the n words that begin at `at`, the words are as they were.
-pub record Kept (at n : ℕ) (old new : List ℕ) : Type 0 where
-  pub before : (k : ℕ) → k < at → getD new k 0 ≡ getD old k 0
-  pub behind : (k : ℕ) → at + n ≤ k → getD new k 0 ≡ getD old k 0
 
 -- The item's five words begin at `at` now; the other words are as they were.
 pub record PutItem (at : ℕ) (x : Item) (old new : List ℕ) : Type 0 where

@@ -9,26 +9,32 @@ ghost use Rattle.forms.specs.Lists.{any, all, keep, below};
 ghost use Rattle.forms.specs.Held.{numbersOf};
 ghost use Rattle.rules.specs.State.{asks};
 ghost use Rattle.history.specs.Entries.{UsableEntry, UsableItem, cellsOf, canRunIn, didOfEntry, operationOf, itemUpdate};
+ghost use Rattle.history.specs.Words.{historiesIn};
 ghost use Rattle.table.specs.Lists.{firstAt, omit, IsNumbers};
 ghost use Rattle.table.specs.Arrays.{Says, rises, ceases};
 ghost use Rattle.table.specs.Dones.{doneOf, UsableDone, UsableDones, IsDone, doneHasId, doneTouches, stampedTo, versionFrom};
 ghost use Rattle.table.specs.Tries.{updatesOf, heldOf, gather, Marked, More, freeBy, readyBy, startsBy, operationsOf, Tries};
-ghost use Rattle.table.specs.Slots.{stored, storedDone};
-ghost use Rattle.table.specs.Queues.{queueOf, UsableQueue, IsQueue, hasId, isEntry, idOf, canRunEntry};
+ghost use Rattle.table.specs.Slots.{stored, storedDone, entriesIn};
+ghost use Rattle.table.specs.Queues.{queueOf, UsableQueue, IsQueue, hasId, isEntry, idOf, pastEntry, canRunEntry};
 use forms::Numbers;
 use history::DoneEntry;
 use history::Entry;
-use history::History;
 use history::Item;
-use history::can_run;
+use history::book::BookWords;
+use history::book::history_at;
+use history::is_next;
 use history::is_strong;
 use history::may_run;
 use slots::DoneWords;
 use slots::QueueWords;
+use slots::count_at;
 use slots::done_at;
 use slots::entry_at;
+use slots::id_at;
+use slots::item_in;
 use slots::put_done;
 use slots::put_entry;
+use slots::runs_at;
 use slots::start_entry;
 
 pub mod slots;
@@ -69,15 +75,36 @@ pub fn push_number(ns: Numbers, x: u64) -> Numbers
     next
 }
 
-// Whether an entry has this id, and is in progress (or future, as asked).
-pub fn is_entry(e: Entry, id: u64, running: bool) -> bool
-    ensures { λ r. ⌜ r ≡ isEntry id running e ⌝ }
+// Whether the entry at `i` has this id, and is in progress (or future, as asked).
+pub fn is_entry(words: &QueueWords, i: usize, id: u64, running: bool) -> bool
+    requires { ⌜ i < 64 ⌝ }
+    ensures { λ r. ⌜ r ≡ isEntry id running (getD (entriesIn (now (words .entry))) i pastEntry) ⌝ }
 {
-    if e.id == id {
-        if running { e.running } else { !e.running }
+    if id_at(words, i) == id {
+        let runs = runs_at(words, i);
+        if running { runs } else { !runs }
     } else {
         false
     }
+}
+
+// Whether the line at `i` can run: in each of its histories its place is next and the update may run.
+pub fn can_run_at(words: &QueueWords, i: usize, book: &BookWords) -> bool
+    requires { ⌜ (i < 64) × UsableEntry (getD (entriesIn (now words)) i pastEntry) ⌝ }
+    ensures { λ r. ⌜ r ≡ canRunEntry (cellsOf (historiesIn (now (book .entry)))) (getD (entriesIn (now (words .entry))) i pastEntry) ⌝ }
+{
+    let n = count_at(words, i);
+    let mut j: usize = 0;
+    while j < n {
+        let x = item_in(words, i, j);
+        let at = x.history as usize;
+        let h = history_at(book, at);
+        if !is_next(h, x) {
+            return false;
+        }
+        j += 1;
+    }
+    true
 }
 
 pub fn either(a: bool, b: bool) -> bool
@@ -134,16 +161,16 @@ pub fn is_free(m: Marks, x: Item) -> bool
 }
 
 // Whether each update of an operation may run and is not blocked.
-pub fn all_ready(histories: [History; 16], m: Marks, e: Entry) -> bool
+pub fn all_ready(book: &BookWords, m: Marks, e: Entry) -> bool
     requires { ⌜ UsableEntry e ⌝ }
-    ensures { λ r. ⌜ r ≡ all (readyBy (cellsOf histories) m) (updatesOf e) ⌝ }
+    ensures { λ r. ⌜ r ≡ all (readyBy (cellsOf (historiesIn (now (book .entry)))) m) (updatesOf e) ⌝ }
 {
     let n = e.count;
     let mut i = 0;
     while i < n {
         let x = e.items[i];
         let at = x.history as usize;
-        let h = histories[at];
+        let h = history_at(book, at);
         let rule = x.rule;
         let u = x.version;
         let c = h.version;
@@ -159,14 +186,14 @@ pub fn all_ready(histories: [History; 16], m: Marks, e: Entry) -> bool
 }
 
 // Whether an entry is a future operation that is ready.
-pub fn may_start(histories: [History; 16], m: Marks, e: Entry) -> bool
+pub fn may_start(book: &BookWords, m: Marks, e: Entry) -> bool
     requires { ⌜ UsableEntry e ⌝ }
-    ensures { λ r. ⌜ r ≡ startsBy (cellsOf histories) m (operationOf e) ⌝ }
+    ensures { λ r. ⌜ r ≡ startsBy (cellsOf (historiesIn (now (book .entry)))) m (operationOf e) ⌝ }
 {
     if e.running {
         false
     } else {
-        all_ready(histories, m, e)
+        all_ready(book, m, e)
     }
 }
 
@@ -215,7 +242,7 @@ impl Queue {
         let n = self.count;
         let mut i = 0;
         while i < n {
-            if words[i * 23] == id {
+            if id_at(words, i) == id {
                 return true;
             }
             i += 1;
@@ -231,8 +258,7 @@ impl Queue {
         let n = self.count;
         let mut i = 0;
         while i < n {
-            let e = entry_at(words, i);
-            if is_entry(e, id, running) {
+            if is_entry(words, i, id, running) {
                 return Found::At(i);
             }
             i += 1;
@@ -252,7 +278,7 @@ impl Queue {
         };
         let mut i = 0;
         while i < n {
-            ns = push_number(ns, words[i * 23]);
+            ns = push_number(ns, id_at(words, i));
             i += 1;
         }
         ns
@@ -297,15 +323,14 @@ impl Queue {
     }
 
     // The first entry that can run as a did line.
-    pub fn first_ready_line(self, words: &QueueWords, histories: [History; 16]) -> Found
+    pub fn first_ready_line(self, words: &QueueWords, book: &BookWords) -> Found
         requires { ⌜ UsableQueue (stored self (now words)) ⌝ }
-        ensures { λ r. ⌜ r ≡ firstAt (canRunEntry (cellsOf histories)) (queueOf (stored self (now (words .entry)))) ⌝ }
+        ensures { λ r. ⌜ r ≡ firstAt (canRunEntry (cellsOf (historiesIn (now (book .entry))))) (queueOf (stored self (now (words .entry)))) ⌝ }
     {
         let n = self.count;
         let mut i = 0;
         while i < n {
-            let e = entry_at(words, i);
-            if can_run(histories, e) {
+            if can_run_at(words, i, book) {
                 return Found::At(i);
             }
             i += 1;
@@ -314,9 +339,9 @@ impl Queue {
     }
 
     // One pass over the future operations: each is examined once, oldest first. The answer has the ids made ready.
-    pub fn try_all(self, words: &mut QueueWords, histories: [History; 16]) -> Numbers
+    pub fn try_all(self, words: &mut QueueWords, book: &BookWords) -> Numbers
         requires { ⌜ UsableQueue (stored self (now words)) ⌝ }
-        ensures { λ r. ⌜ Tries (cellsOf histories) (queueOf (stored self (now (words .entry)))) (stored self (now (words .exit))) r ⌝ }
+        ensures { λ r. ⌜ Tries (cellsOf (historiesIn (now (book .entry)))) (queueOf (stored self (now (words .entry)))) (stored self (now (words .exit))) r ⌝ }
     {
         let n = self.count;
         let mut m = self.marks(words);
@@ -327,7 +352,7 @@ impl Queue {
         let mut i = 0;
         while i < n {
             let e = entry_at(words, i);
-            if may_start(histories, m, e) {
+            if may_start(book, m, e) {
                 m = marked(m, e);
                 start_entry(words, i);
                 ready = push_number(ready, e.id);

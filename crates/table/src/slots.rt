@@ -5,13 +5,16 @@ ghost use Prim.Native.Nat.{_+_, _*_, _≤_, _<_};
 ghost use lib.ListN.{getD, set};
 ghost use Rattle.table.specs.Queues.{pastEntry};
 ghost use Rattle.table.specs.Dones.{pastDone};
-ghost use Rattle.table.specs.Slots.{ruleNumber, ruleNamed, within, itemAt, PutItem, entriesIn, donesIn, begun};
+ghost use Rattle.history.specs.Entries.{noItem};
+ghost use Rattle.history.specs.Words.{within};
+ghost use Rattle.table.specs.Slots.{ruleNumber, ruleNamed, itemAt, PutItem, entriesIn, donesIn, begun};
 use forms::Place;
 use forms::Rule;
 use forms::Version;
 use history::DoneEntry;
 use history::Entry;
 use history::Item;
+use history::book::small_half;
 
 // 64 entries that are not done, of 23 words: id, whether it is in progress, count, and for each of four updates rule, history, version, place and operand.
 pub type QueueWords = [u64; 1472];
@@ -50,13 +53,6 @@ fn small_byte(n: u64) -> u8
     if n < 256 { n as u8 } else { 0 }
 }
 
-// A number below 2^32, and 0 for any other.
-fn small_half(n: u64) -> u32
-    ensures { λ r. ⌜ r ≡ within 4294967296 n ⌝ }
-{
-    if n < 4294967296 { n as u32 } else { 0 }
-}
-
 // The item whose words begin at `at`.
 fn item_at(words: &QueueWords, at: usize) -> Item
     requires { ⌜ at + 5 ≤ 1472 ⌝ }
@@ -88,6 +84,39 @@ pub fn entry_at(words: &QueueWords, i: usize) -> Entry
         count: words[at + 2] as usize,
         items: [a, b, c, d],
     }
+}
+
+// The id of the entry at `i`.
+pub fn id_at(words: &QueueWords, i: usize) -> u64
+    requires { ⌜ i < 64 ⌝ }
+    ensures { λ r. ⌜ r ≡ getD (entriesIn (now (words .entry))) i pastEntry .id ⌝ }
+{
+    words[i * 23]
+}
+
+// Whether the entry at `i` is in progress.
+pub fn runs_at(words: &QueueWords, i: usize) -> bool
+    requires { ⌜ i < 64 ⌝ }
+    ensures { λ r. ⌜ r ≡ getD (entriesIn (now (words .entry))) i pastEntry .running ⌝ }
+{
+    words[i * 23 + 1] == 1
+}
+
+// How many items the entry at `i` has.
+pub fn count_at(words: &QueueWords, i: usize) -> usize
+    requires { ⌜ i < 64 ⌝ }
+    ensures { λ r. ⌜ r ≡ getD (entriesIn (now (words .entry))) i pastEntry .count ⌝ }
+{
+    words[i * 23 + 2] as usize
+}
+
+// Item j of the entry at `i`.
+pub fn item_in(words: &QueueWords, i: usize, j: usize) -> Item
+    requires { ⌜ (i < 64) × (j < 4) ⌝ }
+    ensures { λ r. ⌜ r ≡ getD (getD (entriesIn (now (words .entry))) i pastEntry .items) j noItem ⌝ }
+{
+    let at = i * 23 + 3;
+    item_at(words, at + j * 5)
 }
 
 // Writes an item to the words that begin at `at`.

@@ -1,7 +1,9 @@
+use denote.Ref.{now}
 use mathlib.Core.Path.{_≡_, refl, sym, ap, _∙_}
 use mathlib.Core.Bool.{not}
 use Rattle.history.specs.Entries.{cellsOf}
 use Rattle.history.specs.CellLaws.{ran-updates}
+use Rattle.history.specs.Words.{historiesIn}
 use borrow.Author.Needs.{needs}
 use Rattle.history.proofs.already_done.Statement.{statement}
 use Rattle.history.proofs.already_done.Tie as tie
@@ -15,7 +17,7 @@ some-item-requires c κs = search needs
 
 -- src/lib.rt:269:1
 returns : tie.Need-returns
-returns c = (c .some-item .ensures) ∙ ran-updates (cellsOf (c .before .args .histories)) (c .before .args .e)
+returns c = (c .some-item .ensures) ∙ ran-updates (cellsOf (historiesIn (now (c .before .args .book)))) (c .before .args .e)
 
 pub already-done-spec : {M : Type 1} → statement M
 already-done-spec = tie.close (tie.spec some-item-requires returns)

@@ -1,28 +1,34 @@
+use denote.Ref.{now}
 use Prim.Native.Nat.{ℕ, _≤_, _-_, _<_, _+_}
 use native.Mathlib.Omega.{arith}
 use mathlib.Core.Path.{_≡_, refl, sym, ap, subst, _∙_}
-use mathlib.Core.Bool.{false}
-use lib.ListN.{take, getD, set, length, length-set}
-use Rattle.rules.specs.Book.{enterAll}
-use Rattle.history.specs.declared.Entry.{Entry}
-use Rattle.history.specs.Entries.{cellsOf, noItem, didOfEntry, UsableEntry, UsableItem}
+use mathlib.Core.List.{List}
+use lib.ListN.{getD}
+use Rattle.rules.specs.Rules.{loggedAs}
+use Rattle.rules.specs.Book.{entered, enterAll}
+use Rattle.history.specs.declared.History.{History}
+use Rattle.history.specs.Entries.{cellOf, noItem, didOfEntry}
 use Rattle.history.specs.CellLaws.{Entered, low-place, entered-next}
+use Rattle.history.specs.Words.{historiesIn, Kept}
+use Rattle.history.specs.WordLaws.{histories-long, kept-then}
 use Rattle.history.proofs.apply.Statement.{statement}
 use Rattle.history.proofs.apply.Tie as tie
 use Rattle.history.proofs.apply.Reads as reads
 use Rattle.history.proofs.apply.Lts as lts
+use Rattle.history.proofs.book.history_at.Reads as history-at-reads
+use Rattle.history.proofs.book.put_history.Reads as put-history-reads
 use Rattle.history.proofs.apply_item.Reads as apply-item-reads
 
 abbrev Inv-loop : tie.InvT-loop
-Inv-loop out₀ n items i₀ out i = (i ≤ n) × (length out ≡ 16) × Entered out₀ out items i
+Inv-loop book₀ n items i₀ book i = (i ≤ n) × Entered (historiesIn book₀) (historiesIn book) items i × Kept 0 48 book₀ book
 
 abbrev μ-loop : tie.MeasureT-loop
-μ-loop out₀ n items i₀ out i = n - i
+μ-loop book₀ n items i₀ book i = n - i
 
 -- src/lib.rt:310:5
 loop-holds : tie.Need-loop-holds Inv-loop μ-loop
 unfolding enterAll
-loop-holds c = (omega arith, c .before .pre .1, λ h lt. refl)
+loop-holds c = (omega arith, (λ h lt. refl), record { before = λ k l. refl; behind = λ k l. refl })
 
 -- src/lib.rt:311:17
 mul-x : tie.Need-mul-x Inv-loop μ-loop
@@ -40,50 +46,29 @@ cast-at c = record {
 }
 
 -- src/lib.rt:313:17
-mul-h : tie.Need-mul-h Inv-loop μ-loop
-mul-h c = omega (
-  arith,
-  c .before .before .before .before .before .pre .0 .each (c .before .before .before .loop .i)
-      (c .before .before .loop-test .taken) .history,
-)
-
--- src/lib.rt:313:17
-array-copy-out-h : tie.Need-array-copy-out-h Inv-loop μ-loop
-array-copy-out-h c = omega
-    (arith, c .before .before .before .before .before .pre .0 .each (c .before .before .before .loop .i) (c .before .before .loop-test .taken) .history)
+history-at-requires : tie.Need-history-at-requires Inv-loop μ-loop
+history-at-requires c κs =
+    c .before .before .before .before .before .before .pre .0 .each (c .before .before .before .before .loop .i) (c .before .before .before .loop-test .taken) .history
 
 -- src/lib.rt:314:19
 apply-item-requires : tie.Need-apply-item-requires Inv-loop μ-loop
 apply-item-requires c κs =
-    let x = c .before .before .before .before .before .before .pre .0 .each (c .before .before .before .before .loop .i)
-    (c .before .before .before .loop-test .taken) in
-    let l = c .before .before .before .before .loop in (
-      x,
-      low-place (c .before .before .before .before .before .before .args .histories) (l .out)
-          (c .before .before .before .before .before .before .args .e .items) (l .i) (l .inv .2)
-          (c .before .before .before .before .before .before .pre .2) (omega (arith, c .before .before .before .before .before .before .pre .0 .few)) _
-          (x .history),
-    )
+    let e = c .before .before .before .before .before .before .before .before in
+    let l = c .before .before .before .before .before .before .loop in
+    let x = e .pre .0 .each (l .i) (c .before .before .before .before .before .loop-test .taken) in
+    let low =
+    low-place (historiesIn (now (e .args .book))) (historiesIn (l .book)) (e .args .e .items) (l .i) (l .inv .1) (e .pre .1)
+    (omega (arith, e .pre .0 .few)) _ (x .history) in
+    (x, subst (λ (h : History). h .place .0 < 18446744073709551615) (sym (c .before .history-at .ensures)) low)
 
 -- src/lib.rt:314:9
-mul-out : tie.Need-mul-out Inv-loop μ-loop
-mul-out c = omega (
-  arith,
-  c .before .before .before .before .before .before .before .pre .0 .each (c .before .before .before .before .before .loop .i)
-      (c .before .before .before .before .loop-test .taken) .history,
-)
-
--- src/lib.rt:314:9
-array-set-from-out : tie.Need-array-set-from-out Inv-loop μ-loop
-array-set-from-out c = omega (
-  arith,
-  c .before .before .before .before .before .before .before .pre .0 .each (c .before .before .before .before .before .loop .i)
-      (c .before .before .before .before .loop-test .taken) .history,
-)
+put-history-requires : tie.Need-put-history-requires Inv-loop μ-loop
+put-history-requires c κs =
+    c .before .before .before .before .before .before .before .before .before .pre .0 .each (c .before .before .before .before .before .before .before .loop .i) (c .before .before .before .before .before .before .loop-test .taken) .history
 
 -- src/lib.rt:315:9
 add-i : tie.Need-add-i Inv-loop μ-loop
-add-i c = omega (arith, c .before .before .before .before .before .before .before .pre .0 .few)
+add-i c = omega (arith, c .before .before .before .before .before .before .before .before .before .before .pre .0 .few)
 
 -- src/lib.rt:310:5
 loop-less : tie.Need-loop-less Inv-loop μ-loop
@@ -92,13 +77,20 @@ loop-less c = omega arith
 -- src/lib.rt:310:5
 loop-again : tie.Need-loop-again Inv-loop μ-loop
 loop-again c =
-    let l = c .before .before .before .before .before .loop in
-    let a = c .before .before .before .before .before .before .before .args in
-    let v = c .before .before .before .before .before .before .before .pre .0 in (
+    let l = c .before .before .before .before .before .before .before .before .loop in
+    let a = c .before .before .before .before .before .before .before .before .before .before .args in
+    let v = c .before .before .before .before .before .before .before .before .before .before .pre .0 in
+    let p = c .put-history .ensures in
+    let x = getD (a .e .items) (l .i) noItem in
+    let y = c .before .apply-item .result in
+    let made =
+    c .before .apply-item .ensures
+    ∙ ap (λ (h : History). entered (loggedAs (x .rule)) (x .version .0) (x .operand) (cellOf h)) (c .before .before .before .history-at .ensures) in (
       omega arith,
-      length-set (l .out) (getD (a .e .items) (l .i) noItem .history) (c .apply-item .result) ∙ l .inv .1,
-      entered-next (a .histories) (l .out) (a .e .items) (l .i) (l .inv .2) (c .apply-item .result) (omega (arith, v .few, v .long)) (l .inv .1)
-          (v .each (l .i) (c .before .before .before .before .loop-test .taken) .history) (c .apply-item .ensures),
+      subst (λ (hs : List History). Entered (historiesIn (now (a .book))) hs (a .e .items) (l .i + 1)) (sym (p .histories))
+          (entered-next (historiesIn (now (a .book))) (historiesIn (l .book)) (a .e .items) (l .i) (l .inv .1) y (omega (arith, v .few, v .long))
+          (histories-long (l .book)) (v .each (l .i) (c .before .before .before .before .before .before .before .loop-test .taken) .history) made),
+      kept-then (l .inv .2) (p .rest),
     )
 
 -- src/lib.rt:302:1
@@ -108,7 +100,14 @@ returns c =
     let l = c .before .loop in
     let a = c .before .before .before .args in
     let q : l .i ≡ a .e .count = omega arith in
-    record { long = l .inv .1; cells = subst (Entered (a .histories) (l .out) (a .e .items)) q (l .inv .2) }
+    record {
+      applies =
+          record {
+            long = histories-long (l .book);
+            cells = subst (Entered (historiesIn (now (a .book))) (historiesIn (l .book)) (a .e .items)) q (l .inv .1);
+          };
+      rest = l .inv .2;
+    }
 
 pub apply-spec : {M : Type 1} → statement M
 apply-spec =
@@ -120,11 +119,9 @@ apply-spec =
     mul-x
     array-copy-out-x
     cast-at
-    mul-h
-    array-copy-out-h
+    history-at-requires
     apply-item-requires
-    mul-out
-    array-set-from-out
+    put-history-requires
     add-i
     loop-less
     loop-again

@@ -1,7 +1,9 @@
+use denote.Ref.{now}
 use mathlib.Core.Path.{_≡_, refl, sym, ap, _∙_}
 use mathlib.Core.Bool.{not}
 use Rattle.history.specs.Entries.{cellsOf}
 use Rattle.history.specs.CellLaws.{waits-can-run}
+use Rattle.history.specs.Words.{historiesIn}
 use borrow.Author.Needs.{needs}
 use Rattle.history.proofs.can_run.Statement.{statement}
 use Rattle.history.proofs.can_run.Tie as tie
@@ -15,7 +17,7 @@ some-item-requires c κs = search needs
 
 -- src/lib.rt:253:1
 returns : tie.Need-returns
-returns c = ap not (c .some-item .ensures) ∙ waits-can-run (cellsOf (c .before .args .histories)) (c .before .args .e)
+returns c = ap not (c .some-item .ensures) ∙ waits-can-run (cellsOf (historiesIn (now (c .before .args .book)))) (c .before .args .e)
 
 pub can-run-spec : {M : Type 1} → statement M
 can-run-spec = tie.close (tie.spec some-item-requires returns)

@@ -1,23 +1,27 @@
+use denote.Ref.{now}
 use Prim.Native.Nat.{ℕ, _≤_, _-_, _<_, _+_}
 use native.Mathlib.Omega.{arith}
 use mathlib.Core.Path.{_≡_, refl, sym, ap, _∙_}
 use mathlib.Core.Bool.{false}
 use lib.ListN.{take, getD, length}
 use Rattle.forms.specs.Lists.{any}
-use Rattle.history.specs.Entries.{cellsOf, noItem}
-use Rattle.history.specs.Cells.{testIn}
+use Rattle.history.specs.Entries.{cellOf, cellsOf, noItem}
+use Rattle.history.specs.declared.History.{History}
+use Rattle.history.specs.Cells.{itemTest, testIn}
+use Rattle.history.specs.Words.{historiesIn}
 use Rattle.history.specs.Tests.{any-next, any-hit}
 use Rattle.history.proofs.some_item.Statement.{statement}
 use Rattle.history.proofs.some_item.Tie as tie
 use Rattle.history.proofs.some_item.Reads as reads
 use Rattle.history.proofs.some_item.Lts as lts
+use Rattle.history.proofs.book.history_at.Reads as history-at-reads
 use Rattle.history.proofs.item_test.Reads as item-test-reads
 
 abbrev Inv-loop : tie.InvT-loop
-Inv-loop t histories n items i₀ i = (i ≤ n) × (any (testIn t (cellsOf histories)) (take i items) ≡ false)
+Inv-loop t book n items i₀ i = (i ≤ n) × (any (testIn t (cellsOf (historiesIn book))) (take i items) ≡ false)
 
 abbrev μ-loop : tie.MeasureT-loop
-μ-loop t histories n items i₀ i = n - i
+μ-loop t book n items i₀ i = n - i
 
 -- src/lib.rt:240:5
 loop-holds : tie.Need-loop-holds Inv-loop μ-loop
@@ -39,13 +43,9 @@ cast-at c = record {
 }
 
 -- src/lib.rt:243:17
-mul-h : tie.Need-mul-h Inv-loop μ-loop
-mul-h c = omega (arith, c .before .before .before .before .before .pre .each (c .before .before .before .loop .i) (c .before .before .loop-test .taken) .history)
-
--- src/lib.rt:243:17
-array-copy-out-h : tie.Need-array-copy-out-h Inv-loop μ-loop
-array-copy-out-h c = omega
-    (arith, c .before .before .before .before .before .pre .each (c .before .before .before .loop .i) (c .before .before .loop-test .taken) .history)
+history-at-requires : tie.Need-history-at-requires Inv-loop μ-loop
+history-at-requires c κs =
+    c .before .before .before .before .before .pre .each (c .before .before .before .loop .i) (c .before .before .loop-test .taken) .history
 
 -- src/lib.rt:244:12
 item-test-requires : tie.Need-item-test-requires Inv-loop μ-loop
@@ -56,9 +56,9 @@ returns : tie.Need-returns Inv-loop μ-loop
 returns c =
     let a = c .before .before .before .before .before .before .before .before .args in
     let v = c .before .before .before .before .before .before .before .before .pre in
-    sym (any-hit (testIn (a .t) (cellsOf (a .t2))) (a .e .items) noItem (c .before .before .before .before .before .before .loop .i) (a .e .count)
+    sym (any-hit (testIn (a .t) (cellsOf (historiesIn (now (a .book))))) (a .e .items) noItem (c .before .before .before .before .before .before .loop .i) (a .e .count)
     (c .before .before .before .before .before .loop-test .taken)
-    (omega (arith, v .few, v .long)) (sym (c .before .item-test .ensures) ∙ c .if1 .taken))
+    (omega (arith, v .few, v .long)) (sym (c .before .item-test .ensures ∙ ap (λ (h : History). itemTest (a .t) (cellOf h) (getD (a .e .items) (c .before .before .before .before .before .before .loop .i) noItem)) (c .before .before .history-at .ensures)) ∙ c .if1 .taken))
 
 -- src/lib.rt:247:9
 add-i : tie.Need-add-i Inv-loop μ-loop
@@ -74,16 +74,16 @@ loop-again c =
     let a = c .before .before .before .before .before .before .before .before .args in
     let v = c .before .before .before .before .before .before .before .before .pre in (
       omega arith,
-      any-next (testIn (a .t) (cellsOf (a .t2))) (a .e .items) noItem (c .before .before .before .before .before .before .loop .i)
+      any-next (testIn (a .t) (cellsOf (historiesIn (now (a .book))))) (a .e .items) noItem (c .before .before .before .before .before .before .loop .i)
           (omega (arith, v .few, v .long))
-          (c .before .before .before .before .before .before .loop .inv .1) (sym (c .before .item-test .ensures) ∙ c .if1 .left),
+          (c .before .before .before .before .before .before .loop .inv .1) (sym (c .before .item-test .ensures ∙ ap (λ (h : History). itemTest (a .t) (cellOf h) (getD (a .e .items) (c .before .before .before .before .before .before .loop .i) noItem)) (c .before .before .history-at .ensures)) ∙ c .if1 .left),
     )
 
 -- src/lib.rt:233:1
 returns-2 : tie.Need-returns-2 Inv-loop μ-loop
 returns-2 c =
     let q : c .before .loop .i ≡ c .before .before .before .args .e .count = omega arith in
-    sym (ap (λ (k : ℕ). any (testIn (c .before .before .before .args .t) (cellsOf (c .before .before .before .args .t2)))
+    sym (ap (λ (k : ℕ). any (testIn (c .before .before .before .args .t) (cellsOf (historiesIn (now (c .before .before .before .args .book)))))
     (take k (c .before .before .before .args .e .items))) (sym q) ∙ c .before .loop .inv .1)
 
 pub some-item-spec : {M : Type 1} → statement M
@@ -96,8 +96,7 @@ some-item-spec =
     mul-x
     array-copy-out-x
     cast-at
-    mul-h
-    array-copy-out-h
+    history-at-requires
     item-test-requires
     returns
     add-i

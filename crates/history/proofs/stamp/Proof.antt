@@ -1,6 +1,8 @@
+use denote.Ref.{now}
 use Rattle.history.specs.Entries.{cellsOf}
 use Rattle.history.specs.Tests.{four-eq}
 use Rattle.history.specs.EntryLaws.{stamps}
+use Rattle.history.specs.Words.{historiesIn}
 use borrow.Author.Needs.{needs}
 use Rattle.history.proofs.stamp.Statement.{statement}
 use Rattle.history.proofs.stamp.Tie as tie
@@ -27,7 +29,7 @@ stamp-at-requires-4 c κs = search needs
 -- src/lib.rt:440:1
 returns : tie.Need-returns
 returns c =
-    stamps (cellsOf (c .before .before .before .before .args .histories)) (c .before .before .before .before .args .e)
+    stamps (cellsOf (historiesIn (now (c .before .before .before .before .args .book)))) (c .before .before .before .before .args .e)
     (c .before .before .before .before .pre .0) _
     (four-eq (c .before .before .before .stamp-at .ensures) (c .before .before .stamp-at2 .ensures) (c .before .stamp-at3 .ensures) (c .stamp-at4 .ensures))
 

@@ -1,6 +1,8 @@
+use denote.Ref.{now}
 use mathlib.Core.Path.{refl}
 use Rattle.history.specs.Entries.{cellsOf}
 use Rattle.history.specs.EntryLaws.{values-held}
+use Rattle.history.specs.Words.{historiesIn}
 use borrow.Author.Needs.{needs}
 use Rattle.history.proofs.values_after.Statement.{statement}
 use Rattle.history.proofs.values_after.Tie as tie
@@ -44,7 +46,7 @@ array-write-values-4 c = search needs
 returns : tie.Need-returns
 returns c =
     values-held (c .before .before .before .before .args .e) (c .before .before .before .before .pre)
-    (cellsOf (c .before .before .before .before .args .histories)) _ refl
+    (cellsOf (historiesIn (now (c .before .before .before .before .args .book)))) _ refl
     (c .before .before .before .profile-at .ensures) (c .before .before .profile-at2 .ensures) (c .before .profile-at3 .ensures) (c .profile-at4 .ensures)
 
 pub values-after-spec : {M : Type 1} → statement M

@@ -96,32 +96,32 @@ reply-short r vs p h =
     (reply-few (r .form) _ (numbersOf (r .first)) (numbersOf (r .second)) (p .1 .1 .0) (numbers-few (r .first) _ (p .1 .1 .1 .0) (h .first))
     (numbers-few (r .second) _ (p .1 .1 .1 .1 .0) (h .second)))
 
--- src/lib.rt:129:11
+-- src/lib.rt:132:11
 write-reply-requires : tie.Need-write-reply-requires
 write-reply-requires c κs = in-range (c .before .before .args .r) (c .before .before .pre .0)
 
--- src/lib.rt:130:21
+-- src/lib.rt:133:21
 enum-known-next : tie.Need-enum-known-next
 enum-known-next c = search needs
 
--- src/lib.rt:131:28
+-- src/lib.rt:134:28
 enum-told : tie.Need-enum-told
 enum-told c = search needs
 
--- src/lib.rt:124:1
+-- src/lib.rt:127:1
 same-length : tie.Need-same-length
 same-length c = search needs
 
--- src/lib.rt:124:1
+-- src/lib.rt:127:1
 returns : tie.Need-returns
 unfolding ended
 returns c = wrote-at (now (c .before .before .before .before .before .before .before .before .args .out)) (c .before .before .before .before .before .before .before .before .args .at) _ (c .before .before .before .before .before .write-reply .result) _ (c .before .next .given .0 .0) (c .before .before .before .before .before .write-reply .ensures) (c .before .next .given .1)
 
--- src/lib.rt:124:1
+-- src/lib.rt:127:1
 same-length-2 : tie.Need-same-length-2
 same-length-2 c = search needs
 
--- src/lib.rt:124:1
+-- src/lib.rt:127:1
 returns-2 : tie.Need-returns-2
 returns-2 c =
     let e = c .before .before .before .before .before .before .before in

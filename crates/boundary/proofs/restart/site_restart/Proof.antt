@@ -1,5 +1,7 @@
 use denote.Ref.{now}
-use mathlib.Core.List.{[]}
+use Prim.Native.Nat.{ℕ}
+use mathlib.Core.List.{List, []}
+use lib.ListN.{replicate}
 use borrow.Author.Needs.{needs}
 use Rattle.rules.specs.Calls.{restart}
 use Rattle.site.specs.Model.{lent}
@@ -13,19 +15,23 @@ use Rattle.boundary.proofs.restart.code.Reads as code-reads
 use Rattle.site.proofs.Site.restart.Reads as restart-reads
 use Rattle.writer.proofs.write_reply.Reads as write-reply-reads
 
--- src/restart.rt:25:9
+-- the words of the histories before the restart
+abbrev bs : List ℕ
+bs = replicate 80 0
+
+-- src/restart.rt:26:9
 restart-requires : tie.Need-restart-requires
 restart-requires c κs = search needs
 
--- src/restart.rt:27:9
+-- src/restart.rt:28:9
 write-reply-requires : tie.Need-write-reply-requires
 write-reply-requires c κs =
-    let e = c .before .before .before .before .before in
+    let e = c .before .before .before .before .before .before in
     let bytes = now (e .args .log) in
-    let m = lent bytes [] [] in
-    does-prints blankSite m (restart bytes (e .args .k)) (c .before .before .restart .result) m (c .before .before .restart .ensures [] [])
+    let r = c .before .before .restart in
+    does-prints blankSite (lent bytes [] [] bs) (restart bytes (e .args .k)) (r .result) (lent bytes [] [] (r .last .1 .0)) (r .ensures [] [])
 
--- src/restart.rt:28:5
+-- src/restart.rt:29:5
 code-requires : tie.Need-code-requires
 code-requires c κs = search needs
 
@@ -36,12 +42,12 @@ same-length c = search needs
 -- src/restart.rt:21:1
 returns : tie.Need-returns
 returns c =
-    let e = c .before .before .before .before .before .before .before .before .before in
+    let e = c .before .before .before .before .before .before .before .before .before .before in
     let bytes = now (e .args .log) in
-    let m = lent bytes [] [] in
-    puts-reply blankSite m (restart bytes (e .args .k)) (c .before .before .before .before .before .before .restart .result) m (now (e .args .out))
-    (c .before .before .before .write-reply .last .0) (c .before .before .before .write-reply .result) (c .code .result)
-    (c .before .before .before .before .before .before .restart .ensures [] []) (c .before .before .before .write-reply .ensures) (c .code .ensures)
+    let r = c .before .before .before .before .before .before .restart in
+    let w = c .before .before .before .write-reply in
+    puts-reply blankSite (lent bytes [] [] bs) (restart bytes (e .args .k)) (r .result) (lent bytes [] [] (r .last .1 .0)) (now (e .args .out)) (w .last .0)
+    (w .result) (c .code .result) (r .ensures [] []) (w .ensures) (c .code .ensures)
 
 pub site-restart-spec : {M : Type 1} → statement M
 site-restart-spec =

@@ -22,13 +22,13 @@ refuse-requires c κs = search needs
 returns : tie.Need-returns
 returns c = λ us h w.
     let e = c .before .before .before .before .before .before in
-    adds (e .args .self) (lent (now (e .args .log)) (now (e .args .queued)) (now (e .args .done))) (e .args .id) (omega (arith, e .fits .id)) (e .args .asked) us _ _ _
+    adds (e .args .self) (lent (now (e .args .log)) (now (e .args .queued)) (now (e .args .done)) (now (e .args .book))) (e .args .id) (omega (arith, e .fits .id)) (e .args .asked) us _ _ _
     (c .before .before .before .before .if1 .taken) (e .pre) h w (c .before .add .ensures) (c .called .ensures)
 
 returns-2 : tie.Need-returns-2
 returns-2 c = λ us h w.
     let e = c .before .before .before in
-    calls-closed (e .args .self) (lent (now (e .args .log)) (now (e .args .queued)) (now (e .args .done))) (Call.Add (e .args .id) us) _ (c .before .if1 .left) (e .pre) (c .refuse .ensures)
+    calls-closed (e .args .self) (lent (now (e .args .log)) (now (e .args .queued)) (now (e .args .done)) (now (e .args .book))) (Call.Add (e .args .id) us) _ (c .before .if1 .left) (e .pre) (c .refuse .ensures)
 
 pub add-spec : {M : Type 1} → statement M
 add-spec = tie.close (tie.spec add-requires called-requires refuse-requires returns returns-2)

@@ -23,8 +23,8 @@ same-length-2 c = search needs
 
 returns : tie.Need-returns
 returns c =
-    let e = c .before .before .before .before .before .before .before .before .before .before .before .before .before .before .before in
-    answers (e .args .self) (lent (now (e .args .log)) (now (e .args .queued)) (now (e .args .done))) _ (c .before .before .before .before .before .before .before .before .turn .result) _ _ (now (e .args .out)) _
+    let e = c .before .before .before .before .before .before .before .before .before .before .before .before .before .before .before .before in
+    answers (e .args .self) (lent (now (e .args .log)) (now (e .args .queued)) (now (e .args .done)) (now (e .args .book))) _ (c .before .before .before .before .before .before .before .before .turn .result) _ _ (now (e .args .out)) _
     (c .before .before .before .before .before .before .before .before .turn .ensures) (c .before .before .write-reply .ensures)
 
 pub answer-spec : {M : Type 1} → statement M

@@ -14,7 +14,7 @@ refuse-requires c κs = search needs
 returns : tie.Need-returns
 returns c =
     let e = c .before .before .before in
-    opens-twice (e .args .self) (lent (now (e .args .log)) (now (e .args .queued)) (now (e .args .done))) (e .args .n) _ (c .before .if1 .taken) (e .pre) (c .refuse .ensures)
+    opens-twice (e .args .self) (lent (now (e .args .log)) (now (e .args .queued)) (now (e .args .done)) (now (e .args .book))) (e .args .n) _ (c .before .if1 .taken) (e .pre) (c .refuse .ensures)
 
 open-requires : tie.Need-open-requires
 open-requires c κs = search needs
@@ -28,8 +28,8 @@ same-length c = search needs
 returns-2 : tie.Need-returns-2
 returns-2 c =
     let o = c .before .before .before .before .before .before in
-    let e = o .before .before .before .before in
-    opens-not (e .args .self) (lent (now (e .args .log)) (now (e .args .queued)) (now (e .args .done))) (e .args .n) _ _ (o .before .before .if1 .left) (e .pre) (o .«open» .ensures (now (e .args .queued)) (now (e .args .done))) (c .if2 .taken)
+    let e = o .before .before .before .before .before in
+    opens-not (e .args .self) (lent (now (e .args .log)) (now (e .args .queued)) (now (e .args .done)) (now (e .args .book))) (e .args .n) _ _ (o .before .before .before .if1 .left) (e .pre) (o .«open» .ensures (now (e .args .queued)) (now (e .args .done))) (c .if2 .taken)
 
 same-length-2 : tie.Need-same-length-2
 same-length-2 c = search needs
@@ -37,8 +37,8 @@ same-length-2 c = search needs
 returns-3 : tie.Need-returns-3
 returns-3 c =
     let o = c .before .before .before .before .before .before .before in
-    let e = o .before .before .before .before in
-    opens (e .args .self) (lent (now (e .args .log)) (now (e .args .queued)) (now (e .args .done))) (e .args .n) _ _ _ (o .before .before .if1 .left) (o .«open» .ensures (now (e .args .queued)) (now (e .args .done))) (omega (arith, c .before .if2 .left)) (c .called .ensures)
+    let e = o .before .before .before .before .before in
+    opens (e .args .self) (lent (now (e .args .log)) (now (e .args .queued)) (now (e .args .done)) (now (e .args .book))) (e .args .n) _ _ _ (o .before .before .before .if1 .left) (o .«open» .ensures (now (e .args .queued)) (now (e .args .done))) (omega (arith, c .before .if2 .left)) (c .called .ensures)
 
 pub open-site-spec : {M : Type 1} → statement M
 open-site-spec =

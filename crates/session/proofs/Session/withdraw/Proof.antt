@@ -20,13 +20,13 @@ refuse-requires c κs = search needs
 returns : tie.Need-returns
 returns c =
     let e = c .before .before .before .before .before .before in
-    calls (e .args .self) (lent (now (e .args .log)) (now (e .args .queued)) (now (e .args .done))) (Call.Withdraw (e .args .id)) _ _ _
+    calls (e .args .self) (lent (now (e .args .log)) (now (e .args .queued)) (now (e .args .done)) (now (e .args .book))) (Call.Withdraw (e .args .id)) _ _ _
     (c .before .before .before .before .if1 .taken) (e .pre) (c .before .withdraw .ensures) (c .called .ensures)
 
 returns-2 : tie.Need-returns-2
 returns-2 c =
     let e = c .before .before .before in
-    calls-closed (e .args .self) (lent (now (e .args .log)) (now (e .args .queued)) (now (e .args .done))) (Call.Withdraw (e .args .id)) _ (c .before .if1 .left) (e .pre) (c .refuse .ensures)
+    calls-closed (e .args .self) (lent (now (e .args .log)) (now (e .args .queued)) (now (e .args .done)) (now (e .args .book))) (Call.Withdraw (e .args .id)) _ (c .before .if1 .left) (e .pre) (c .refuse .ensures)
 
 pub withdraw-spec : {M : Type 1} → statement M
 withdraw-spec = tie.close (tie.spec withdraw-requires called-requires refuse-requires returns returns-2)

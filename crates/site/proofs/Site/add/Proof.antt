@@ -34,18 +34,18 @@ use Rattle.table.proofs.Queue.try_all.Reads as try-all-reads
 -- what the rule book says of the operation
 abbrev ruled : tie.After-add-refusal → Option Refusal
 ruled r =
-    let a = r .before .before .before .before .before .before .before .before .before .before .before .args in
-    addRefusal (a .id) (updatesHeld (a .asked)) (view (a .self) (lent (now (a .log)) (now (a .queued)) (now (a .done))))
+    let a = r .before .before .before .before .before .before .before .before .before .before .args in
+    addRefusal (a .id) (updatesHeld (a .asked)) (view (a .self) (lent (now (a .log)) (now (a .queued)) (now (a .done)) (now (a .book))))
 
 -- what the checks said is what the rule book says
 said : (r : tie.After-add-refusal) → r .add-refusal .result ≡ verdictOf (ruled r)
 said r =
-    let e = r .before .before .before .before .before .before .before .before .before .before .before in
+    let e = r .before .before .before .before .before .before .before .before .before .before in
     let a = e .args in
-    let s = whole (a .self) (lent (now (a .log)) (now (a .queued)) (now (a .done))) in
+    let s = whole (a .self) (lent (now (a .log)) (now (a .queued)) (now (a .done)) (now (a .book))) in
     let waits = r .before .before .has-id .ensures in
     let stands = r .before .has-id2 .ensures in
-    r .add-refusal .ensures _ (r .before .before .before .before .before .before .before .before .before .trimmed-asked .ensures .is)
+    r .add-refusal .ensures _ (r .before .before .before .before .before .before .before .before .trimmed-asked .ensures .is)
     _ (site-sees s (now (a .log)) (e .pre) (a .id) _ _ _ waits stands refl)
 
 -- .. and nothing where they passed
@@ -60,24 +60,24 @@ trimmed-asked-requires c κs = search needs
 add-live : tie.Need-add-live
 unfolding Sound
 add-live c =
-    let k = c .before .before .before .before .before .before .before .pre .carries in
+    let k = c .before .before .before .before .before .before .pre .carries in
     omega (arith, k .usable .few, k .finished .usable .few)
 
 -- src/add.rt:125:22
 has-id-requires : tie.Need-has-id-requires
 unfolding Sound
-has-id-requires c κs = c .before .before .before .before .before .before .before .before .pre .carries .usable
+has-id-requires c κs = c .before .before .before .before .before .before .before .pre .carries .usable
 
 -- src/add.rt:126:19
 has-id-requires-2 : tie.Need-has-id-requires-2
 unfolding Sound
-has-id-requires-2 c κs = c .before .before .before .before .before .before .before .before .before .pre .carries .finished .usable
+has-id-requires-2 c κs = c .before .before .before .before .before .before .before .before .pre .carries .finished .usable
 
 -- src/add.rt:130:15
 add-refusal-requires : tie.Need-add-refusal-requires
 add-refusal-requires c κs = (
-  count-most _ _ (c .before .before .before .before .before .before .before .before .before .before .pre),
-  (_, c .before .before .before .before .before .before .before .before .trimmed-asked .ensures .is),
+  count-most _ _ (c .before .before .before .before .before .before .before .before .before .pre),
+  (_, c .before .before .before .before .before .before .before .trimmed-asked .ensures .is),
 )
 
 -- src/add.rt:131:30
@@ -95,25 +95,25 @@ enum-told c = search needs
 -- src/add.rt:136:47
 entry-of-asked-requires : tie.Need-entry-of-asked-requires
 entry-of-asked-requires c κs =
-    let e = c .before .before .before .before .before .before .before .before .before .before .before .before .before .before in
+    let e = c .before .before .before .before .before .before .before .before .before .before .before .before .before in
     let a = e .args in
-    let s = whole (a .self) (lent (now (a .log)) (now (a .queued)) (now (a .done))) in
-    let t = c .before .before .before .before .before .before .before .before .before .before .before .before .trimmed-asked .ensures in
+    let s = whole (a .self) (lent (now (a .log)) (now (a .queued)) (now (a .done)) (now (a .book))) in
+    let t = c .before .before .before .before .before .before .before .before .before .before .before .trimmed-asked .ensures in
     passed-usable s (now (a .log)) (e .pre) (a .id) _ (free (c .before)) _ (t .is)
 
 -- src/add.rt:136:21
 push-requires : tie.Need-push-requires
 unfolding Sound
 push-requires c κs =
-    let e = c .before .before .before .before .before .before .before .before .before .before .before .before .before .before .before in
+    let e = c .before .before .before .before .before .before .before .before .before .before .before .before .before .before in
     let a = e .args in
-    let s = whole (a .self) (lent (now (a .log)) (now (a .queued)) (now (a .done))) in
+    let s = whole (a .self) (lent (now (a .log)) (now (a .queued)) (now (a .done)) (now (a .book))) in
     let room = add-room s (now (a .log)) (e .pre) (a .id) _ (free (c .before .before)) in
     (e .pre .carries .usable, (room, (c .entry-of-asked .ensures .usable)))
 
 -- src/add.rt:137:21
 try-all-requires : tie.Need-try-all-requires
-try-all-requires c κs = (c .before .push .ensures .usable)
+try-all-requires c κs = c .before .push .ensures .usable
 
 -- src/add.rt:145:33
 no-numbers-requires : tie.Need-no-numbers-requires
@@ -123,10 +123,10 @@ no-numbers-requires c κs = search needs
 returns : tie.Need-returns
 returns c =
     let r = c .before .before .before .before in
-    let e = r .before .before .before .before .before .before .before .before .before .before .before in
+    let e = r .before .before .before .before .before .before .before .before .before .before in
     let a = e .args in
-    let m = lent (now (a .log)) (now (a .queued)) (now (a .done)) in
-    let t = r .before .before .before .before .before .before .before .before .before .trimmed-asked .ensures in
+    let m = lent (now (a .log)) (now (a .queued)) (now (a .done)) (now (a .book)) in
+    let t = r .before .before .before .before .before .before .before .before .trimmed-asked .ensures in
     let le : a .id ≤ top = omega (arith, e .fits .id) in
     refuses (a .self) m _ _ _
     (add-refused (a .id) _ (view (a .self) m) le (updates-writable _ (t .writable)) _
@@ -136,18 +136,18 @@ returns c =
 returns-2 : tie.Need-returns-2
 returns-2 c =
     let r = c .before .before .before .before .before .before .before .before in
-    let e = r .before .before .before .before .before .before .before .before .before .before .before in
+    let e = r .before .before .before .before .before .before .before .before .before .before in
     let a = e .args in
-    let m = lent (now (a .log)) (now (a .queued)) (now (a .done)) in
+    let m = lent (now (a .log)) (now (a .queued)) (now (a .done)) (now (a .book)) in
     let s = whole (a .self) m in
-    let t = r .before .before .before .before .before .before .before .before .before .trimmed-asked .ensures in
+    let t = r .before .before .before .before .before .before .before .before .trimmed-asked .ensures in
     let le : a .id ≤ top = omega (arith, e .fits .id) in
     let f = free (c .before .before .before .before .before .before) in
     let push = c .before .before .before .push in
     let pushed = push .last .1 .0 in
     let try = c .before .try-all in
     let words = try .last .1 .0 in
-    does (a .self) m _ _ (lent (now (a .log)) words (now (a .done)))
+    does (a .self) m _ _ (lent (now (a .log)) words (now (a .done)) (now (a .book)))
     (add-does s (now (a .log)) (e .pre) (a .id) _ le (updates-writable _ (t .writable)) f _
     (passed-enters s (now (a .log)) (e .pre) (a .id) _ f _ (t .is) _ (c .before .before .before .before .entry-of-asked .ensures))
     (stored (push .result) pushed) (push .ensures) (stored (push .result) words) _ (try .ensures) _ (c .no-numbers .ensures))

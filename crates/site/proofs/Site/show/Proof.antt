@@ -1,9 +1,10 @@
 use denote.Ref.{now}
-use mathlib.Core.Path.{refl}
-use Prim.Native.Nat.{_≤_}
+use mathlib.Core.Path.{refl, sym}
+use Prim.Native.Nat.{_≤_, _<_}
 use native.Mathlib.Omega.{arith}
 use Rattle.forms.specs.Decimal.{top}
 use Rattle.forms.specs.declared.Refusal.the-variants.{NoSuchHistory}
+use Rattle.history.specs.WordLaws.{row-in}
 use Rattle.site.specs.Model.{lent, whole}
 use Rattle.site.specs.ModelLaws.{refuses, does}
 use Rattle.site.specs.ShowLaws.{count-most, show-refused, show-does}
@@ -12,69 +13,82 @@ use Rattle.site.proofs.Site.show.Statement.{statement}
 use Rattle.site.proofs.Site.show.Tie as tie
 use Rattle.site.proofs.Site.show.Reads as reads
 use Rattle.site.proofs.Site.show.Lts as lts
-use Rattle.site.proofs.refusal.Reads as refusal-reads
+use Rattle.history.proofs.book.history_at.Reads as history-at-reads
 use Rattle.site.proofs.no_numbers.Reads as no-numbers-reads
+use Rattle.site.proofs.refusal.Reads as refusal-reads
 
--- src/show.rt:24:13
+-- src/show.rt:38:24
 refusal-requires : tie.Need-refusal-requires
 refusal-requires c κs = search needs
 
--- src/show.rt:24:13
+-- src/show.rt:36:13
 returns : tie.Need-returns
 returns c =
     let e = c .before .before .before in
     let a = e .args in
-    let m = lent (now (a .log)) (now (a .queued)) (now (a .done)) in
+    let m = lent (now (a .log)) (now (a .queued)) (now (a .done)) (now (a .book)) in
     let le : a .h ≤ top = omega (arith, e .fits .h) in
-    refuses (a .t1) m _ NoSuchHistory _ (show-refused (whole (a .t1) m) (now (a .log)) (a .h) le (c .before .if1 .taken))
+    refuses (a .self) m _ NoSuchHistory _ (show-refused (whole (a .self) m) (now (a .log)) (a .h) le (c .before .if1 .taken))
     (c .refusal .ensures) refl
 
--- src/show.rt:27:17
-mul-c : tie.Need-mul-c
-mul-c c = omega (arith, c .if1 .left, count-most _ _ (c .before .before .pre))
+-- A history that there is, is one of sixteen.
+few : (e : tie.Else1) → e .before .before .args .h < 16
+few e = omega (arith, e .if1 .left, count-most _ _ (e .before .before .pre))
 
--- src/show.rt:27:17
-element-copy-out-c : tie.Need-element-copy-out-c
-element-copy-out-c c = omega (arith, c .if1 .left, count-most _ _ (c .before .before .pre))
+-- src/show.rt:42:13
+history-at-requires : tie.Need-history-at-requires
+history-at-requires c κs =
+    few c
 
--- src/show.rt:33:33
+-- src/show.rt:48:38
+add-t17 : tie.Need-add-t17
+add-t17 c = omega (arith, few (c .before .before .before))
+
+-- src/show.rt:48:33
 mul-t18 : tie.Need-mul-t18
-mul-t18 c = omega (arith, c .before .before .before .if1 .left, count-most _ _ (c .before .before .before .before .before .pre))
+mul-t18 c = omega (arith, few (c .before .before .before))
 
--- src/show.rt:33:33
+-- src/show.rt:48:33
 element-copy-out-t13 : tie.Need-element-copy-out-t13
-element-copy-out-t13 c = omega (arith, c .before .before .before .if1 .left, count-most _ _ (c .before .before .before .before .before .pre))
+element-copy-out-t13 c = omega (arith, few (c .before .before .before))
 
--- src/show.rt:34:29
-mul-t25 : tie.Need-mul-t25
-mul-t25 c = omega (arith, c .before .before .before .before .if1 .left, count-most _ _ (c .before .before .before .before .before .before .pre))
+-- src/show.rt:49:34
+add-t22 : tie.Need-add-t22
+add-t22 c = omega (arith, few (c .before .before .before .before))
 
--- src/show.rt:34:29
-element-copy-out-t28 : tie.Need-element-copy-out-t28
-element-copy-out-t28 c =
-    omega (arith, c .before .before .before .before .if1 .left, count-most _ _ (c .before .before .before .before .before .before .pre))
+-- src/show.rt:49:29
+mul-t23 : tie.Need-mul-t23
+mul-t23 c = omega (arith, few (c .before .before .before .before))
 
--- src/show.rt:36:22
-cast-t30 : tie.Need-cast-t30
-cast-t30 c = search needs
+-- src/show.rt:49:29
+element-copy-out-t26 : tie.Need-element-copy-out-t26
+element-copy-out-t26 c = omega (arith, few (c .before .before .before .before))
 
--- src/show.rt:42:24
+-- src/show.rt:51:22
+cast-t28 : tie.Need-cast-t28
+cast-t28 c = search needs
+
+-- src/show.rt:57:24
 no-numbers-requires : tie.Need-no-numbers-requires
 no-numbers-requires c κs = search needs
 
--- src/show.rt:43:25
+-- src/show.rt:58:25
 no-numbers-requires-2 : tie.Need-no-numbers-requires-2
 no-numbers-requires-2 c κs = search needs
 
--- src/show.rt:17:5
+-- src/show.rt:22:5
 returns-2 : tie.Need-returns-2
 returns-2 c =
-    let e = c .before .before .before .before .before .before .before .before .before .before in
+    let i = c .before .before .before .before .before .before .before .before in
+    let e = i .before .before in
     let a = e .args in
-    let m = lent (now (a .log)) (now (a .queued)) (now (a .done)) in
-    let left = c .before .before .before .before .before .before .before .before .if1 .left in
-    does (a .t1) m _ _ m
-    (show-does (whole (a .t1) m) (now (a .log)) (a .h) (e .pre) (omega (arith, e .fits .h)) (omega arith)
+    let book = now (a .book) in
+    let m = lent (now (a .log)) (now (a .queued)) (now (a .done)) book in
+    let few-h = few i in
+    does (a .self) m _ _ m
+    (show-does (whole (a .self) m) (now (a .log)) (a .h) (e .pre) (omega (arith, e .fits .h)) (i .if1 .left)
+    _ (c .before .before .before .before .before .before .before .history-at .ensures) _ (sym (row-in 48 book (a .h) few-h))
+    _ (sym (row-in 64 book (a .h) few-h))
     _ _ (c .before .no-numbers .ensures) (c .no-numbers2 .ensures))
 
 pub show-spec : {M : Type 1} → statement M
@@ -83,13 +97,14 @@ show-spec =
     (tie.spec
     refusal-requires
     returns
-    mul-c
-    element-copy-out-c
+    history-at-requires
+    add-t17
     mul-t18
     element-copy-out-t13
-    mul-t25
-    element-copy-out-t28
-    cast-t30
+    add-t22
+    mul-t23
+    element-copy-out-t26
+    cast-t28
     no-numbers-requires
     no-numbers-requires-2
     returns-2)

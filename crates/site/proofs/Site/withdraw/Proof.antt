@@ -30,7 +30,7 @@ returns : tie.Need-returns
 returns c =
     let e = c .before .before .before in
     let a = e .args in
-    let m = lent (now (a .log)) (now (a .queued)) (now (a .done)) in
+    let m = lent (now (a .log)) (now (a .queued)) (now (a .done)) (now (a .book)) in
     refuses (a .self) m _ OutOfTurn _
     (withdraw-refused-turn (whole (a .self) m) (now (a .log)) (a .id) (omega (arith, e .fits .id)) (c .before .if1 .taken))
     (c .refusal .ensures) refl
@@ -38,7 +38,7 @@ returns c =
 -- src/withdraw.rt:27:15
 find-requires : tie.Need-find-requires
 unfolding Sound
-find-requires c κs = (c .before .before .before .before .pre .carries .usable)
+find-requires c κs = c .before .before .before .before .pre .carries .usable
 
 -- src/withdraw.rt:28:44
 enum-told : tie.Need-enum-told
@@ -62,7 +62,7 @@ unfolding Sound
 busy-requires c κs =
     let e = c .before .before .before .before .before .before .before .before .before .before .before in
     let a = e .args in
-    let s = whole (a .self) (lent (now (a .log)) (now (a .queued)) (now (a .done))) in
+    let s = whole (a .self) (lent (now (a .log)) (now (a .queued)) (now (a .done)) (now (a .book))) in
     (e .pre .carries .usable, (e .pre .carries .finished .usable, volatile-few s (now (a .log)) (e .pre)))
 
 -- src/withdraw.rt:33:21
@@ -82,7 +82,7 @@ unfolding Sound
 busy-requires-2 c κs =
     let e = c .before .before .before .before .before .before .before .before .before .before .before .before .before .before .before in
     let a = e .args in
-    let s = whole (a .self) (lent (now (a .log)) (now (a .queued)) (now (a .done))) in
+    let s = whole (a .self) (lent (now (a .log)) (now (a .queued)) (now (a .done)) (now (a .book))) in
     (c .before .remove .ensures .usable, (e .pre .carries .finished .usable, volatile-few s (now (a .log)) (e .pre)))
 
 -- src/withdraw.rt:35:21
@@ -101,7 +101,7 @@ returns-2 c =
     let f = c .before .before .before in
     let e = f .before .before .before .before .before in
     let a = e .args in
-    let m = lent (now (a .log)) (now (a .queued)) (now (a .done)) in
+    let m = lent (now (a .log)) (now (a .queued)) (now (a .done)) (now (a .book)) in
     refuses (a .self) m _ WrongState _
     (withdraw-refused-state (whole (a .self) m) (now (a .log)) (a .id) (omega (arith, e .fits .id))
     (f .before .before .before .if1 .left) (sym (f .find .ensures) ∙ c .before .enum-told .given .1))
@@ -114,10 +114,10 @@ returns-3 c =
     let f = b .before .before .before .before .before in
     let e = f .before .before .before .before .before .before .before in
     let a = e .args in
-    let m = lent (now (a .log)) (now (a .queued)) (now (a .done)) in
+    let m = lent (now (a .log)) (now (a .queued)) (now (a .done)) (now (a .book)) in
     let left = c .before .before .before .before .remove in
     let words = left .last .1 .0 in
-    does (a .self) m _ _ (lent (now (a .log)) words (now (a .done)))
+    does (a .self) m _ _ (lent (now (a .log)) words (now (a .done)) (now (a .book)))
     (withdraw-does (whole (a .self) m) (now (a .log)) (a .id) (f .at .given .0 .0) (e .pre) (omega (arith, e .fits .id))
     (f .before .before .before .before .before .if1 .left) (sym (f .before .before .find .ensures) ∙ f .at .given .1)
     (stored (left .result) words) _ _ _ _ (left .ensures) (b .busy .ensures) (c .before .before .busy2 .ensures)

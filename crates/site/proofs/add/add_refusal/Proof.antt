@@ -43,7 +43,7 @@ back t us h = asked-back _ us (start t .args .seen .count) h (passes-is _ (passe
 
 -- src/add.rt:83:9
 returns : tie.Need-returns
-returns c = λ us h st s. out-of-turn _ _ _ _ (add-refusal-is _ _ us st s) (c .if1 .taken)
+returns c = λ us h st s. out-of-turn _ _ _ _ (add-refusal-is _ _ _ us st s) (c .if1 .taken)
 
 -- src/add.rt:86:11
 asked-refusal-requires : tie.Need-asked-refusal-requires
@@ -67,7 +67,7 @@ entry-of-asked-requires c κs = usable (c .before .before)
 
 -- src/add.rt:94:46
 already-done-requires : tie.Need-already-done-requires
-already-done-requires c κs = search needs
+already-done-requires c κs = c .entry-of-asked .ensures .usable
 
 -- src/add.rt:94:21
 either-requires : tie.Need-either-requires
@@ -75,7 +75,7 @@ either-requires c κs = search needs
 
 -- src/add.rt:95:21
 read-overtaken-requires : tie.Need-read-overtaken-requires
-read-overtaken-requires c κs = search needs
+read-overtaken-requires c κs = c .before .before .entry-of-asked .ensures .usable
 
 -- src/add.rt:96:17
 conflict-requires : tie.Need-conflict-requires
@@ -85,25 +85,25 @@ conflict-requires c κs = search needs
 returns-2 : tie.Need-returns-2
 returns-2 c =
     λ us h st s.
-    misformed _ _ _ _ (add-refusal-is _ _ us st s) (c .before .before .before .before .if1 .left) _ (sym (c .before .q .given .1)
+    misformed _ _ _ _ (add-refusal-is _ _ _ us st s) (c .before .before .before .before .if1 .left) _ (sym (c .before .q .given .1)
     ∙ c .before .before .before .asked-refusal .ensures us h)
 
 -- src/add.rt:77:1
 returns-3 : tie.Need-returns-3
 returns-3 c =
     λ us h st s.
-    formed-then _ _ _ _ (add-refusal-is _ _ us st s) (c .before .before .before .before .before .if1 .left) (passed (c .before .before) us h) _
-    (nothing-orders-is _ _ us st s (ap nothingOrders (sym (back (c .before .before) us h)) ∙ sym (c .before .nothing-orders .ensures) ∙ c .if2 .taken))
+    formed-then _ _ _ _ (add-refusal-is _ _ _ us st s) (c .before .before .before .before .before .if1 .left) (passed (c .before .before) us h) _
+    (nothing-orders-is _ _ _ us st s (ap nothingOrders (sym (back (c .before .before) us h)) ∙ sym (c .before .nothing-orders .ensures) ∙ c .if2 .taken))
 
 -- src/add.rt:77:1
 returns-4 : tie.Need-returns-4
 returns-4 c =
     λ us h st s.
-    let t = c .before .before .before .before .before .before .before .before in
-    formed-then _ _ _ _ (add-refusal-is _ _ us st s) (t .before .before .before .if1 .left) (passed t us h) _
-    (conflict-is _ _ us st s (ap nothingOrders (sym (back t us h)) ∙ sym
-    (c .before .before .before .before .before .before .before .nothing-orders .ensures) ∙ c .before .before .before .before .before .before .if2 .left)
-    _ (asked-enters _ _ us (back t us h) _ (c .before .before .before .before .before .entry-of-asked .ensures)) _ _
+    let t = c .before .before .before .before .before .before .before in
+    formed-then _ _ _ _ (add-refusal-is _ _ _ us st s) (t .before .before .before .if1 .left) (passed t us h) _
+    (conflict-is _ _ _ us st s (ap nothingOrders (sym (back t us h)) ∙ sym
+    (c .before .before .before .before .before .before .nothing-orders .ensures) ∙ c .before .before .before .before .before .if2 .left)
+    _ (asked-enters _ _ us (back t us h) _ (c .before .before .before .before .entry-of-asked .ensures)) _ _
     (c .before .before .either .ensures ∙ ap (_||_ (start t .args .seen .done)) (c .before .before .before .already-done .ensures))
     (c .before .read-overtaken .ensures) _ (c .conflict .ensures))
 

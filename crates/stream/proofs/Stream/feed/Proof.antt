@@ -18,12 +18,12 @@ use Rattle.stream.proofs.take_line.Reads as take-line-reads
 use Rattle.stream.proofs.with_bytes.Reads as with-bytes-reads
 
 abbrev Inv-loop : tie.InvT-loop
-Inv-loop log₀ queued₀ done₀ chunk out₀ session₀ begun₀ at₀ n₀ log queued done out session begun at n =
-    Along (record { session = session₀; begun = begun₀ }) (lent log₀ queued₀ done₀) chunk
-    (record { stream = record { session = session; begun = begun }; used = at; written = n }) (lent log queued done) out₀ out
+Inv-loop log₀ queued₀ done₀ book₀ chunk out₀ session₀ begun₀ at₀ n₀ log queued done book out session begun at n =
+    Along (record { session = session₀; begun = begun₀ }) (lent log₀ queued₀ done₀ book₀) chunk
+    (record { stream = record { session = session; begun = begun }; used = at; written = n }) (lent log queued done book) out₀ out
 
 abbrev μ-loop : tie.MeasureT-loop
-μ-loop log₀ queued₀ done₀ chunk out₀ session₀ begun₀ at₀ n₀ log queued done out session begun at n = length chunk - at
+μ-loop log₀ queued₀ done₀ book₀ chunk out₀ session₀ begun₀ at₀ n₀ log queued done book out session begun at n = length chunk - at
 
 -- the line end that was found
 ended : (c : tie.After-known-told Inv-loop μ-loop) →
@@ -31,140 +31,140 @@ ended : (c : tie.After-known-told Inv-loop μ-loop) →
     (c .before .before .before .before .loop .at) (c .before .e .given .0 .0)
 ended c = rw (c .before .e .given .1) at (c .before .before .before .find-end .ensures)
 
--- src/lib.rt:162:9
+-- src/lib.rt:166:9
 loop-holds : tie.Need-loop-holds Inv-loop μ-loop
 loop-holds c =
     let a = c .before .before .before .before .before .args in
-    let m = lent (now (a .log)) (now (a .queued)) (now (a .done)) in
+    let m = lent (now (a .log)) (now (a .queued)) (now (a .done)) (now (a .book)) in
     along-start (a .self) m (now (a .chunk)) (now (a .out)) (c .before .before .before .before .before .pre)
 
--- src/lib.rt:163:30
+-- src/lib.rt:167:30
 find-end-requires : tie.Need-find-end-requires Inv-loop μ-loop
 find-end-requires c κs = c .loop .inv .within
 
--- src/lib.rt:163:25
+-- src/lib.rt:167:25
 enum-known-e : tie.Need-enum-known-e Inv-loop μ-loop
 enum-known-e c = search needs
 
--- src/lib.rt:164:46
+-- src/lib.rt:168:46
 enum-told : tie.Need-enum-told Inv-loop μ-loop
 enum-told c = search needs
 
--- src/lib.rt:164:46
+-- src/lib.rt:168:46
 sub-with-bytes : tie.Need-sub-with-bytes Inv-loop μ-loop
 sub-with-bytes c = c .before .before .before .loop .inv .within
 
--- src/lib.rt:164:46
+-- src/lib.rt:168:46
 part-with-bytes-start : tie.Need-part-with-bytes-start Inv-loop μ-loop
 part-with-bytes-start c = let w = c .before .before .before .loop .inv .within in search needs
 
--- src/lib.rt:164:46
+-- src/lib.rt:168:46
 part-with-bytes-end : tie.Need-part-with-bytes-end Inv-loop μ-loop
 part-with-bytes-end c = let w = c .before .before .before .loop .inv .within in search needs
 
--- src/lib.rt:164:21
+-- src/lib.rt:168:21
 with-bytes-requires : tie.Need-with-bytes-requires Inv-loop μ-loop
 with-bytes-requires c κs = c .before .before .before .before .loop .inv .valid .begun
 
--- src/lib.rt:169:17
+-- src/lib.rt:173:17
 same-length : tie.Need-same-length Inv-loop μ-loop
 same-length c = c .before .before .before .before .before .loop .inv .room
 
--- src/lib.rt:169:17
+-- src/lib.rt:173:17
 same-length-2 : tie.Need-same-length-2 Inv-loop μ-loop
 same-length-2 c = c .before .before .before .before .before .loop .inv .long
 
--- src/lib.rt:169:17
+-- src/lib.rt:173:17
 returns : tie.Need-returns Inv-loop μ-loop
 returns c =
     let i = c .before .before .before .before .before .loop .inv in
     let none = rw (c .before .before .enum-told .given .1) at (c .before .before .before .before .find-end .ensures) in
     along-feeds _ _ _ _ _ _ _ (along-rest _ _ _ _ _ _ _ i (c .with-bytes .result) none (c .with-bytes .ensures)) (λ lt. absurd (omega (arith, lt)))
 
--- src/lib.rt:175:16
+-- src/lib.rt:179:16
 sub-if1 : tie.Need-sub-if1 Inv-loop μ-loop
 sub-if1 c =
     let i = c .before .before .before .before .loop .inv in
     let f = along-fits _ _ _ _ _ _ _ i in
     omega (arith, f, i .long)
 
--- src/lib.rt:177:17
+-- src/lib.rt:181:17
 same-length-3 : tie.Need-same-length-3 Inv-loop μ-loop
 same-length-3 c = c .before .before .before .before .before .loop .inv .room
 
--- src/lib.rt:177:17
+-- src/lib.rt:181:17
 same-length-4 : tie.Need-same-length-4 Inv-loop μ-loop
 same-length-4 c = c .before .before .before .before .before .loop .inv .long
 
--- src/lib.rt:177:17
+-- src/lib.rt:181:17
 returns-2 : tie.Need-returns-2 Inv-loop μ-loop
 returns-2 c =
     let i = c .before .before .before .before .before .loop .inv in
     along-feeds _ _ _ _ _ _ _ i (λ lt. let l = i .long in let f = along-fits _ _ _ _ _ _ _ i in omega (arith, l, f, c .if1 .taken))
 
--- src/lib.rt:183:66
+-- src/lib.rt:187:72
 sub-take-line : tie.Need-sub-take-line Inv-loop μ-loop
-sub-take-line c = ended (c .before .before .before .before) .from
+sub-take-line c = ended (c .before .before .before .before .before) .from
 
--- src/lib.rt:183:66
+-- src/lib.rt:187:72
 part-take-line-start : tie.Need-part-take-line-start Inv-loop μ-loop
 part-take-line-start c =
-    let x = ended (c .before .before .before .before) in
+    let x = ended (c .before .before .before .before .before) in
     let f = x .from in
     let b = x .before in
     search needs
 
--- src/lib.rt:183:66
+-- src/lib.rt:187:72
 part-take-line-end : tie.Need-part-take-line-end Inv-loop μ-loop
 part-take-line-end c =
-    let x = ended (c .before .before .before .before) in
+    let x = ended (c .before .before .before .before .before) in
     let f = x .from in
     let b = x .before in
     search needs
 
--- src/lib.rt:183:17
+-- src/lib.rt:187:17
 take-line-requires : tie.Need-take-line-requires Inv-loop μ-loop
-take-line-requires c κs = let v = c .before .before .before .before .before .before .before .before .before .loop .inv .valid in (v .session, v .begun)
+take-line-requires c κs = let v = c .before .before .before .before .before .before .before .before .before .before .loop .inv .valid in (v .session, v .begun)
 
--- src/lib.rt:186:13
+-- src/lib.rt:190:13
 no-line-requires : tie.Need-no-line-requires Inv-loop μ-loop
 no-line-requires c κs = search needs
 
--- src/lib.rt:187:13
+-- src/lib.rt:191:13
 put-reply-requires : tie.Need-put-reply-requires Inv-loop μ-loop
 put-reply-requires c κs =
-    let found = c .before .before .before .before .before .before .before .before .before .before .before .before in
+    let found = c .before .before .before .before .before .before .before .before .before .before .before .before .before in
     let i = found .before .before .before .before .loop .inv in
     let t = c .before .before .before .before .before .before .take-line in
-    let new = lent (t .last .1 .1 .0) (t .last .1 .1 .1 .0) (t .last .1 .1 .1 .1 .0) in
+    let new = lent (t .last .1 .1 .0) (t .last .1 .1 .1 .0) (t .last .1 .1 .1 .1 .0) (t .last .1 .1 .1 .1 .1 .0) in
     let f = along-fits _ _ _ _ _ _ _ i in
-    let room = c .before .before .before .before .before .before .before .before .before .before .before .if1 .left in
+    let room = c .before .before .before .before .before .before .before .before .before .before .before .before .if1 .left in
     (line-printable _ _ _ _ _ _ _ i (found .before .e .given .0 .0) (ended found) (t .result) new (t .ensures), omega (arith, i .long, f, room))
 
--- src/lib.rt:188:18
+-- src/lib.rt:192:18
 add-at : tie.Need-add-at Inv-loop μ-loop
 add-at c =
-    let found = c .before .before .before .before .before .before .before .before .before .before .before .before .before .before .before in
+    let found = c .before .before .before .before .before .before .before .before .before .before .before .before .before .before .before .before in
     let entry = found .before .before .before .before .before .before .before .before .before .before in
     let b = ended found .before in
-    let g : length (now (entry .args .chunk)) < 18446744073709551616 = entry .good .1 .1 .1 .1 .0 .0 in
+    let g : length (now (entry .args .chunk)) < 18446744073709551616 = entry .good .1 .1 .1 .1 .1 .0 .0 in
     omega (arith, b, g)
 
--- src/lib.rt:162:9
+-- src/lib.rt:166:9
 loop-less : tie.Need-loop-less Inv-loop μ-loop
 loop-less c =
-    let x = ended (c .before .before .before .before .before .before .before .before .before .before .before .before .before .before .before) in
+    let x = ended (c .before .before .before .before .before .before .before .before .before .before .before .before .before .before .before .before) in
     omega (arith, x .before, x .from)
 
--- src/lib.rt:162:9
+-- src/lib.rt:166:9
 loop-again : tie.Need-loop-again Inv-loop μ-loop
 loop-again c =
-    let found = c .before .before .before .before .before .before .before .before .before .before .before .before .before .before .before in
+    let found = c .before .before .before .before .before .before .before .before .before .before .before .before .before .before .before .before in
     let l = found .before .before .before .before .loop in
     let t = c .before .before .before .before .before .before .before .before .before .take-line in
     let b = c .before .before .before .before .no-line in
     let p = c .before .before .put-reply in
-    let new = lent (t .last .1 .1 .0) (t .last .1 .1 .1 .0) (t .last .1 .1 .1 .1 .0) in
+    let new = lent (t .last .1 .1 .0) (t .last .1 .1 .1 .0) (t .last .1 .1 .1 .1 .0) (t .last .1 .1 .1 .1 .1 .0) in
     let same : length (t .last .1 .1 .0) ≡ length (l .log) = search needs in
     let long : length (p .last .0) ≡ length (l .out) = search needs in
     along-line _ _ _ _ _ _ _ (l .inv) (found .before .e .given .0 .0) (ended found) (t .result) new (t .ensures)

@@ -7,15 +7,15 @@ use Rattle.stream.proofs.Stream.start.Lts as lts
 use Rattle.session.proofs.Session.start.Reads as start-reads
 use Rattle.session.proofs.no_line.Reads as no-line-reads
 
--- src/lib.rt:140:13
+-- src/lib.rt:143:13
 start-requires : tie.Need-start-requires
 start-requires c κs = search needs
 
--- src/lib.rt:141:13
+-- src/lib.rt:144:13
 no-line-requires : tie.Need-no-line-requires
 no-line-requires c κs = search needs
 
--- src/lib.rt:137:5
+-- src/lib.rt:140:5
 returns : tie.Need-returns
 returns c = λ m. starts-stream (c .before .start .result) (c .no-line .result) m (c .before .start .ensures m) (c .no-line .ensures)
 

@@ -1,6 +1,6 @@
 use Prim.Native.Nat.{_≤_, _-_}
 use native.Mathlib.Omega.{arith}
-use mathlib.Core.Path.{_≡_, sym, ap, _∙_}
+use mathlib.Core.Path.{_≡_, sym, _∙_}
 use lib.ListN.{take}
 use Rattle.table.specs.declared.Found.the-variants.{Nothing}
 use Rattle.table.specs.Lists.{firstAt}
@@ -19,20 +19,17 @@ abbrev μ-loop : tie.MeasureT-loop
 loop-holds : tie.Need-loop-holds Inv-loop μ-loop
 loop-holds c = (omega arith, c .pre .few, first-none _)
 
-entry-at-requires : tie.Need-entry-at-requires Inv-loop μ-loop
-entry-at-requires c κs = omega arith
-
 is-entry-requires : tie.Need-is-entry-requires Inv-loop μ-loop
-is-entry-requires c κs = tt
+is-entry-requires c κs = omega arith
 
 returns : tie.Need-returns Inv-loop μ-loop
 returns c =
-    let a = c .before .before .before .before .before .args in
-    let u = c .before .before .before .before .before .pre in
-    let l = c .before .before .before .before .loop in
+    let a = c .before .before .before .before .args in
+    let u = c .before .before .before .before .pre in
+    let l = c .before .before .before .loop in
     let p = isEntry (a .id) (a .running) in
     sym (first-hit p (entriesIn (a .words .now)) pastEntry (l .i) (a .self .count) (omega arith) (omega (arith, u .few, u .long)) (l .inv .2)
-    (ap p (sym (c .before .before .entry-at .ensures)) ∙ sym (c .before .is-entry .ensures) ∙ c .if1 .taken))
+    (sym (c .before .is-entry .ensures) ∙ c .if1 .taken))
 
 add-i : tie.Need-add-i Inv-loop μ-loop
 add-i c = omega arith
@@ -42,14 +39,14 @@ loop-less c = omega arith
 
 loop-again : tie.Need-loop-again Inv-loop μ-loop
 loop-again c =
-    let a = c .before .before .before .before .before .args in
-    let u = c .before .before .before .before .before .pre in
-    let l = c .before .before .before .before .loop in
+    let a = c .before .before .before .before .args in
+    let u = c .before .before .before .before .pre in
+    let l = c .before .before .before .loop in
     let p = isEntry (a .id) (a .running) in (
       omega arith,
       l .inv .1,
       first-next p (entriesIn (a .words .now)) pastEntry (l .i) (omega (arith, u .few, u .long)) (l .inv .2)
-          (ap p (sym (c .before .before .entry-at .ensures)) ∙ sym (c .before .is-entry .ensures) ∙ c .if1 .left),
+          (sym (c .before .is-entry .ensures) ∙ c .if1 .left),
     )
 
 returns-2 : tie.Need-returns-2 Inv-loop μ-loop
@@ -58,4 +55,4 @@ returns-2 c =
     sym (rw e at (c .before .loop .inv .2))
 
 pub find-spec : {M : Type 1} → statement M
-find-spec = tie.close (tie.spec Inv-loop μ-loop loop-holds entry-at-requires is-entry-requires returns add-i loop-less loop-again returns-2)
+find-spec = tie.close (tie.spec Inv-loop μ-loop loop-holds is-entry-requires returns add-i loop-less loop-again returns-2)

@@ -1,8 +1,9 @@
 use Prim.Native.Nat.{_≤_, _-_}
 use native.Mathlib.Omega.{arith}
-use mathlib.Core.Path.{_≡_, sym, ap, subst, _∙_}
+use mathlib.Core.Path.{_≡_, sym, _∙_}
 use lib.ListN.{take}
-use Rattle.history.specs.Entries.{cellsOf, UsableEntry}
+use Rattle.history.specs.Entries.{cellsOf}
+use Rattle.history.specs.Words.{historiesIn}
 use Rattle.table.specs.declared.Found.the-variants.{Nothing}
 use Rattle.table.specs.Lists.{firstAt}
 use Rattle.table.specs.Queues.{canRunEntry, pastEntry}
@@ -13,31 +14,28 @@ use Rattle.table.proofs.Queue.first_ready_line.Statement.{statement}
 use Rattle.table.proofs.Queue.first_ready_line.Tie as tie
 
 abbrev Inv-loop : tie.InvT-loop
-Inv-loop words histories n i₀ i = (i ≤ n) × (n ≤ 64) × (firstAt (canRunEntry (cellsOf histories)) (take i (entriesIn words)) ≡ Nothing)
+Inv-loop words book n i₀ i = (i ≤ n) × (n ≤ 64) × (firstAt (canRunEntry (cellsOf (historiesIn book))) (take i (entriesIn words)) ≡ Nothing)
 
 abbrev μ-loop : tie.MeasureT-loop
-μ-loop words histories n i₀ i = n - i
+μ-loop words book n i₀ i = n - i
 
 loop-holds : tie.Need-loop-holds Inv-loop μ-loop
 loop-holds c = (omega arith, c .pre .few, first-none _)
 
-entry-at-requires : tie.Need-entry-at-requires Inv-loop μ-loop
-entry-at-requires c κs = omega arith
-
-can-run-requires : tie.Need-can-run-requires Inv-loop μ-loop
-can-run-requires c κs =
-    let a = c .before .before .before .args in
-    let l = c .before .before .loop in
-    subst UsableEntry (sym (c .entry-at .ensures)) (usable-at (stored (a .self) (a .words .now)) (c .before .before .before .pre) (l .i) (omega arith))
+can-run-at-requires : tie.Need-can-run-at-requires Inv-loop μ-loop
+can-run-at-requires c κs =
+    let a = c .before .before .args in
+    let l = c .before .loop in
+    (omega arith, usable-at (stored (a .self) (a .words .now)) (c .before .before .pre) (l .i) (omega arith))
 
 returns : tie.Need-returns Inv-loop μ-loop
 returns c =
-    let a = c .before .before .before .before .before .args in
-    let u = c .before .before .before .before .before .pre in
-    let l = c .before .before .before .before .loop in
-    let p = canRunEntry (cellsOf (a .histories)) in
+    let a = c .before .before .before .before .args in
+    let u = c .before .before .before .before .pre in
+    let l = c .before .before .before .loop in
+    let p = canRunEntry (cellsOf (historiesIn (a .book .now))) in
     sym (first-hit p (entriesIn (a .words .now)) pastEntry (l .i) (a .self .count) (omega arith) (omega (arith, u .few, u .long)) (l .inv .2)
-    (ap p (sym (c .before .before .entry-at .ensures)) ∙ sym (c .before .can-run .ensures) ∙ c .if1 .taken))
+    (sym (c .before .can-run-at .ensures) ∙ c .if1 .taken))
 
 add-i : tie.Need-add-i Inv-loop μ-loop
 add-i c = omega arith
@@ -47,14 +45,14 @@ loop-less c = omega arith
 
 loop-again : tie.Need-loop-again Inv-loop μ-loop
 loop-again c =
-    let a = c .before .before .before .before .before .args in
-    let u = c .before .before .before .before .before .pre in
-    let l = c .before .before .before .before .loop in
-    let p = canRunEntry (cellsOf (a .histories)) in (
+    let a = c .before .before .before .before .args in
+    let u = c .before .before .before .before .pre in
+    let l = c .before .before .before .loop in
+    let p = canRunEntry (cellsOf (historiesIn (a .book .now))) in (
       omega arith,
       l .inv .1,
       first-next p (entriesIn (a .words .now)) pastEntry (l .i) (omega (arith, u .few, u .long)) (l .inv .2)
-          (ap p (sym (c .before .before .entry-at .ensures)) ∙ sym (c .before .can-run .ensures) ∙ c .if1 .left),
+          (sym (c .before .can-run-at .ensures) ∙ c .if1 .left),
     )
 
 returns-2 : tie.Need-returns-2 Inv-loop μ-loop
@@ -64,4 +62,4 @@ returns-2 c =
 
 pub first-ready-line-spec : {M : Type 1} → statement M
 first-ready-line-spec =
-    tie.close (tie.spec Inv-loop μ-loop loop-holds entry-at-requires can-run-requires returns add-i loop-less loop-again returns-2)
+    tie.close (tie.spec Inv-loop μ-loop loop-holds can-run-at-requires returns add-i loop-less loop-again returns-2)

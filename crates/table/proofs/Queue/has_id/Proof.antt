@@ -8,7 +8,6 @@ use Rattle.forms.specs.Lists.{any}
 use Rattle.history.specs.Tests.{any-next, any-hit}
 use Rattle.table.specs.Queues.{hasId, pastEntry}
 use Rattle.table.specs.Slots.{entriesIn}
-use Rattle.table.specs.SlotLaws.{entry-id}
 use Rattle.table.proofs.Queue.has_id.Statement.{statement}
 use Rattle.table.proofs.Queue.has_id.Tie as tie
 
@@ -21,14 +20,8 @@ abbrev μ-loop : tie.MeasureT-loop
 loop-holds : tie.Need-loop-holds Inv-loop μ-loop
 loop-holds c = (omega arith, c .pre .few, refl)
 
-mul-if1 : tie.Need-mul-if1 Inv-loop μ-loop
-mul-if1 c = omega arith
-
-mul-if1-2 : tie.Need-mul-if1-2 Inv-loop μ-loop
-mul-if1-2 c = omega arith
-
-element-copy-out-if1 : tie.Need-element-copy-out-if1 Inv-loop μ-loop
-element-copy-out-if1 c = omega arith
+id-at-requires : tie.Need-id-at-requires Inv-loop μ-loop
+id-at-requires c κs = omega arith
 
 returns : tie.Need-returns Inv-loop μ-loop
 returns c =
@@ -37,7 +30,7 @@ returns c =
     let l = c .before .before .before .loop in
     let ws = a .words .now in
     sym (any-hit (hasId (a .id)) (entriesIn ws) pastEntry (l .i) (a .self .count) (omega arith) (omega (arith, u .few, u .long))
-    (eq-eqb _ _ (entry-id ws (l .i) (omega arith) ∙ c .if1 .taken)))
+    (eq-eqb _ _ (sym (c .before .id-at .ensures) ∙ c .if1 .taken)))
 
 add-i : tie.Need-add-i Inv-loop μ-loop
 add-i c = omega arith
@@ -54,7 +47,7 @@ loop-again c =
       omega arith,
       l .inv .1,
       any-next (hasId (a .id)) (entriesIn ws) pastEntry (l .i) (omega (arith, u .few, u .long)) (l .inv .2)
-          (ne-eqb _ _ (λ e. c .if1 .left (sym (entry-id ws (l .i) (omega arith)) ∙ e))),
+          (ne-eqb _ _ (λ e. c .if1 .left (c .before .id-at .ensures ∙ e))),
     )
 
 returns-2 : tie.Need-returns-2 Inv-loop μ-loop
@@ -63,4 +56,4 @@ returns-2 c =
     sym (rw e at (c .before .loop .inv .2))
 
 pub has-id-spec : {M : Type 1} → statement M
-has-id-spec = tie.close (tie.spec Inv-loop μ-loop loop-holds mul-if1 mul-if1-2 element-copy-out-if1 returns add-i loop-less loop-again returns-2)
+has-id-spec = tie.close (tie.spec Inv-loop μ-loop loop-holds id-at-requires returns add-i loop-less loop-again returns-2)

@@ -1,12 +1,11 @@
 use Prim.Native.Nat.{ℕ, _≤_, _-_}
 use native.Mathlib.Omega.{arith}
-use mathlib.Core.Path.{_≡_, refl, ap, _∙_}
+use mathlib.Core.Path.{_≡_, refl, sym, ap, _∙_}
 use mathlib.Core.List.{[], _∷_, _++_, map}
 use lib.ListN.{take}
 use Rattle.table.specs.Lists.{IsNumbers}
 use Rattle.table.specs.Queues.{idOf, pastEntry}
 use Rattle.table.specs.Slots.{entriesIn}
-use Rattle.table.specs.SlotLaws.{entry-id}
 use Rattle.table.specs.LoopLaws.{map-next}
 use Rattle.table.specs.QueueLaws.{no-numbers, numbers-next}
 use Rattle.table.proofs.Queue.ids.Statement.{statement}
@@ -21,14 +20,8 @@ abbrev μ-loop : tie.MeasureT-loop
 loop-holds : tie.Need-loop-holds Inv-loop μ-loop
 loop-holds c = (omega arith, c .pre .few, refl, no-numbers)
 
-mul-push-number : tie.Need-mul-push-number Inv-loop μ-loop
-mul-push-number c = omega arith
-
-mul-push-number-2 : tie.Need-mul-push-number-2 Inv-loop μ-loop
-mul-push-number-2 c = omega arith
-
-element-copy-out-push-number : tie.Need-element-copy-out-push-number Inv-loop μ-loop
-element-copy-out-push-number c = omega arith
+id-at-requires : tie.Need-id-at-requires Inv-loop μ-loop
+id-at-requires c κs = omega arith
 
 push-number-requires : tie.Need-push-number-requires Inv-loop μ-loop
 push-number-requires c κs = let l = c .before .before .loop in (l .inv .3 .long, omega arith)
@@ -49,7 +42,7 @@ loop-again c =
       omega (arith, c .push-number .ensures .1),
       numbers-next (l .ns) (c .push-number .result) _ _ _ (l .inv .3) (c .push-number .ensures .0)
           (map-next idOf (entriesIn ws) pastEntry (l .i) (omega (arith, u .few, u .long))
-          ∙ ap (λ (x : ℕ). map idOf (take (l .i) (entriesIn ws)) ++ (x ∷ [])) (entry-id ws (l .i) (omega arith))),
+          ∙ ap (λ (x : ℕ). map idOf (take (l .i) (entriesIn ws)) ++ (x ∷ [])) (sym (c .before .id-at .ensures))),
     )
 
 returns : tie.Need-returns Inv-loop μ-loop
@@ -60,4 +53,4 @@ returns c =
 pub ids-spec : {M : Type 1} → statement M
 ids-spec =
     tie.close
-    (tie.spec Inv-loop μ-loop loop-holds mul-push-number mul-push-number-2 element-copy-out-push-number push-number-requires add-i loop-less loop-again returns)
+    (tie.spec Inv-loop μ-loop loop-holds id-at-requires push-number-requires add-i loop-less loop-again returns)

@@ -4,6 +4,7 @@ use mathlib.Core.Path.{refl, sym, ap, _∙_}
 use mathlib.Core.Logic.{⊎-elim}
 use lib.ListN.{take}
 use Rattle.history.specs.Entries.{cellsOf}
+use Rattle.history.specs.Words.{historiesIn}
 use Rattle.table.specs.Queues.{queueOf}
 use Rattle.table.specs.Slots.{entriesIn, stored}
 use Rattle.table.specs.SlotLaws.{entries-long}
@@ -13,11 +14,11 @@ use Rattle.table.proofs.Queue.try_all.Statement.{statement}
 use Rattle.table.proofs.Queue.try_all.Tie as tie
 
 abbrev Inv-loop : tie.InvT-loop
-Inv-loop words₀ histories n m₀ ready₀ i₀ words m ready i =
-    (i ≤ n) × (n ≤ 64) × Passed (cellsOf histories) (take n (entriesIn words₀)) (take n (entriesIn words)) m ready i
+Inv-loop words₀ book n m₀ ready₀ i₀ words m ready i =
+    (i ≤ n) × (n ≤ 64) × Passed (cellsOf (historiesIn book)) (take n (entriesIn words₀)) (take n (entriesIn words)) m ready i
 
 abbrev μ-loop : tie.MeasureT-loop
-μ-loop words₀ histories n m₀ ready₀ i₀ words m ready i = n - i
+μ-loop words₀ book n m₀ ready₀ i₀ words m ready i = n - i
 
 marks-requires : tie.Need-marks-requires Inv-loop μ-loop
 marks-requires c κs = c .before .pre
@@ -35,14 +36,14 @@ may-start-requires : tie.Need-may-start-requires Inv-loop μ-loop
 may-start-requires c κs =
     let a = c .before .before .before .before .before .before .args in
     let l = c .before .before .before .loop in
-    tried-usable (cellsOf (a .histories)) (entriesIn (a .words .now)) (entriesIn (l .words)) (a .self .count) (l .m) (l .ready) (l .i) _
+    tried-usable (cellsOf (historiesIn (a .book .now))) (entriesIn (a .words .now)) (entriesIn (l .words)) (a .self .count) (l .m) (l .ready) (l .i) _
     (c .entry-at .ensures) (l .inv .2) (omega arith) (omega (arith, entries-long (l .words)))
 
 marked-requires : tie.Need-marked-requires Inv-loop μ-loop
 marked-requires c κs =
     let a = c .before .before .before .before .before .before .before .before .args in
     let l = c .before .before .before .before .before .loop in (
-      tried-usable (cellsOf (a .histories)) (entriesIn (a .words .now)) (entriesIn (l .words)) (a .self .count) (l .m) (l .ready) (l .i) _
+      tried-usable (cellsOf (historiesIn (a .book .now))) (entriesIn (a .words .now)) (entriesIn (l .words)) (a .self .count) (l .m) (l .ready) (l .i) _
           (c .before .before .entry-at .ensures) (l .inv .2) (omega arith) (omega (arith, entries-long (l .words))),
       (l .inv .2 .marks .each .long, l .inv .2 .marks .strongs .long),
     )
@@ -66,7 +67,7 @@ loop-again c =
     let a = c .before .before .before .before .before .before .before .before .args in
     let l = c .before .before .before .before .before .loop in
     let n = a .self .count in
-    let cells = cellsOf (a .histories) in
+    let cells = cellsOf (historiesIn (a .book .now)) in
     let es₀ = entriesIn (a .words .now) in
     let es = entriesIn (l .words) in
     let e = c .before .before .entry-at .result in

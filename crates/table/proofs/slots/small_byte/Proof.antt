@@ -1,6 +1,6 @@
 use borrow.Author.Needs.{needs}
 use borrow.Author.Tests.{lt-ltb, le-ltb}
-use Rattle.table.specs.Slots.{within}
+use Rattle.history.specs.Words.{within}
 use Rattle.table.proofs.slots.small_byte.Statement.{statement}
 use Rattle.table.proofs.slots.small_byte.Tie as tie
 

@@ -1,8 +1,8 @@
 use borrow.Author.Needs.{needs}
 use borrow.Author.Tests.{lt-ltb, le-ltb}
-use Rattle.table.specs.Slots.{within}
-use Rattle.table.proofs.slots.small_half.Statement.{statement}
-use Rattle.table.proofs.slots.small_half.Tie as tie
+use Rattle.history.specs.Words.{within}
+use Rattle.history.proofs.book.small_half.Statement.{statement}
+use Rattle.history.proofs.book.small_half.Tie as tie
 
 cast-result : tie.Need-cast-result
 cast-result c = search needs

@@ -1,0 +1,21 @@
+use denote.Ref.{now}
+use mathlib.Core.Path.{sym}
+use borrow.Author.Needs.{needs}
+use Rattle.table.specs.SlotLaws.{entry-id}
+use Rattle.table.proofs.slots.id_at.Statement.{statement}
+use Rattle.table.proofs.slots.id_at.Tie as tie
+
+mul-result : tie.Need-mul-result
+mul-result c = search needs
+
+mul-result-2 : tie.Need-mul-result-2
+mul-result-2 c = search needs
+
+element-copy-out-result : tie.Need-element-copy-out-result
+element-copy-out-result c = search needs
+
+returns : tie.Need-returns
+returns c = let e = c .before in sym (entry-id (now (e .args .words)) (e .args .i) (e .pre))
+
+pub id-at-spec : {M : Type 1} → statement M
+id-at-spec = tie.close (tie.spec mul-result mul-result-2 element-copy-out-result returns)
