@@ -24,6 +24,7 @@ pub extern "C" fn site_restart(log: &[u8], k: usize, out: &mut [u8]) -> usize
     let mut book = [0u64; 80];
     let c = Site::restart(log, &mut book, k);
     let reply = c.reply;
-    let w = write_reply(out, 0, reply);
+    let form = reply.form;
+    let w = write_reply(out, 0, form, &[], &[]);
     code(w)
 }

@@ -9,6 +9,7 @@ ghost use Rattle.site.specs.Trim.{updatesHeld};
 ghost use Rattle.boundary.specs.Rounds.{Reaches, incOf, workCalls, markCalls, roundCalls, Rounds};
 use forms::Asked;
 use forms::AskedHeld;
+use forms::ListWords;
 use forms::Rule;
 use forms::Version;
 use history::book::BookWords;
@@ -39,16 +40,18 @@ fn one_operation(
     queued: &mut QueueWords,
     done: &mut DoneWords,
     book: &mut BookWords,
+    first: &mut ListWords,
+    second: &mut ListWords,
     id: u64,
 ) -> Site
-    requires { ⌜ Valid site (lent (now log) (now queued) (now done) (now book)) ⌝ }
-    ensures { λ r. ⌜ Reaches site (lent (now (log .entry)) (now (queued .entry)) (now (done .entry)) (now (book .entry))) (workCalls id) r
-        (lent (now (log .exit)) (now (queued .exit)) (now (done .exit)) (now (book .exit))) ⌝ }
+    requires { ⌜ Valid site (lent (now log) (now queued) (now done) (now book) [] []) ⌝ }
+    ensures { λ r. ⌜ Reaches site (lent (now (log .entry)) (now (queued .entry)) (now (done .entry)) (now (book .entry)) (now (first .entry)) (now (second .entry))) (workCalls id) r
+        (lent (now (log .exit)) (now (queued .exit)) (now (done .exit)) (now (book .exit)) (now (first .exit)) (now (second .exit))) ⌝ }
 {
     let asked = asked_inc(id % 4, id / 4 + 1);
-    let a = site.add(log, queued, done, book, id, asked);
+    let a = site.add(log, queued, done, book, first, id, asked);
     let added = a.site;
-    let f = added.finish(log, queued, done, book, id);
+    let f = added.finish(log, queued, done, book, first, second, id);
     f.site
 }
 
@@ -59,15 +62,17 @@ fn mark(
     queued: &QueueWords,
     done: &mut DoneWords,
     book: &mut BookWords,
+    first: &mut ListWords,
+    second: &mut ListWords,
     n: u64,
 ) -> Site
-    requires { ⌜ Valid site (lent (now log) (now queued) (now done) (now book)) ⌝ }
-    ensures { λ r. ⌜ Reaches site (lent (now (log .entry)) (now (queued .entry)) (now (done .entry)) (now (book .entry))) (markCalls n) r
-        (lent (now (log .entry)) (now (queued .entry)) (now (done .exit)) (now (book .exit))) ⌝ }
+    requires { ⌜ Valid site (lent (now log) (now queued) (now done) (now book) [] []) ⌝ }
+    ensures { λ r. ⌜ Reaches site (lent (now (log .entry)) (now (queued .entry)) (now (done .entry)) (now (book .entry)) (now (first .entry)) (now (second .entry))) (markCalls n) r
+        (lent (now (log .entry)) (now (queued .entry)) (now (done .exit)) (now (book .exit)) (now (first .exit)) (now (second .exit))) ⌝ }
 {
-    let p = site.persistent(log, queued, done, book, n);
+    let p = site.persistent(log, queued, done, book, first, second, n);
     let kept = p.site;
-    let s = kept.stable(log, queued, done, book, n);
+    let s = kept.stable(log, queued, done, book, first, n);
     s.site
 }
 
@@ -78,16 +83,18 @@ fn round(
     queued: &mut QueueWords,
     done: &mut DoneWords,
     book: &mut BookWords,
+    first: &mut ListWords,
+    second: &mut ListWords,
     id: u64,
 ) -> Site
-    requires { ⌜ Valid site (lent (now log) (now queued) (now done) (now book)) ⌝ }
+    requires { ⌜ Valid site (lent (now log) (now queued) (now done) (now book) [] []) ⌝ }
     requires { ⌜ id < 18446744073709551615 ⌝ }
-    ensures { λ r. ⌜ Reaches site (lent (now (log .entry)) (now (queued .entry)) (now (done .entry)) (now (book .entry))) (roundCalls id) r
-        (lent (now (log .exit)) (now (queued .exit)) (now (done .exit)) (now (book .exit))) ⌝ }
+    ensures { λ r. ⌜ Reaches site (lent (now (log .entry)) (now (queued .entry)) (now (done .entry)) (now (book .entry)) (now (first .entry)) (now (second .entry))) (roundCalls id) r
+        (lent (now (log .exit)) (now (queued .exit)) (now (done .exit)) (now (book .exit)) (now (first .exit)) (now (second .exit))) ⌝ }
 {
-    let worked = one_operation(site, log, queued, done, book, id);
+    let worked = one_operation(site, log, queued, done, book, first, second, id);
     if id % 32 == 31 {
-        return mark(worked, log, queued, done, book, id + 1);
+        return mark(worked, log, queued, done, book, first, second, id + 1);
     }
     worked
 }
@@ -105,9 +112,20 @@ pub extern "C" fn site_add_and_finish(log: &mut [u8], n: u64) -> usize
     }
     let mut queued = [0u64; 1472];
     let mut done = [0u64; 640];
+    let mut first = [0u64; 64];
+    let mut second = [0u64; 64];
     let mut id: u64 = 0;
     while id < n {
-        site = round(site, log, &mut queued, &mut done, &mut book, id);
+        site = round(
+            site,
+            log,
+            &mut queued,
+            &mut done,
+            &mut book,
+            &mut first,
+            &mut second,
+            id,
+        );
         id += 1;
     }
     site.used

@@ -78,11 +78,8 @@ pub enum Refusal {
     BadLog,
 }
 
-// A list of at most 64 numbers: ids, histories or profiles.
-pub struct Numbers {
-    pub count: usize,
-    pub values: [u64; 64],
-}
+// Room for a list of at most 64 numbers: ids, histories or profiles.
+pub type ListWords = [u64; 64];
 
 // A history as `show` gives it.
 pub struct Shown {
@@ -94,7 +91,7 @@ pub struct Shown {
     pub profile: u64,
 }
 
-// Which form a reply has, with its single numbers. Its lists stand beside it, in `ReplyLine`.
+// Which form a reply has, with its single numbers. Its lists stand beside it.
 pub enum ReplyForm {
     Refused(Refusal),
     Opened,
@@ -109,9 +106,10 @@ pub enum ReplyForm {
     Ended,
 }
 
-// A reply: its form and the lists that the form has, in their printed order. `outcomeOf` in specs/Held.antt says what it means.
+// A reply: its form, and how many numbers the lists have that the form has, in their printed order. The numbers stand in arrays that are lent.
+// `outcomeOf` in specs/Held.antt says what it means.
 pub struct ReplyLine {
     pub form: ReplyForm,
-    pub first: Numbers,
-    pub second: Numbers,
+    pub first: usize,
+    pub second: usize,
 }

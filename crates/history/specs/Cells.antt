@@ -6,8 +6,7 @@ use mathlib.Core.List.{List, [], _∷_, map}
 use lib.Dec.{leb, ltb}
 use lib.ListN.{length, getD}
 use Rattle.forms.specs.Forms.{Update, Change, Did}
-use Rattle.forms.specs.Held.{numbersOf}
-use Rattle.forms.specs.declared.Numbers.{Numbers}
+use Rattle.forms.specs.Held.{numbersOf, Numbers}
 use Rattle.rules.specs.Rules.{strong, ordered, ruleOf, loggedAs, versionAfter}
 use Rattle.rules.specs.Book.{Cell, runsAt, enterAll}
 use Rattle.rules.specs.State.{Operation}

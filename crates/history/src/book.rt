@@ -28,7 +28,7 @@ pub fn small_half(n: u64) -> u32
 }
 
 // Words lent whole: there are as many as their type says.
-fn counted(_words: &[u64]) {}
+pub fn counted(_words: &[u64]) {}
 
 // History i.
 pub fn history_at(words: &BookWords, i: usize) -> History

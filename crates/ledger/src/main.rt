@@ -1,9 +1,11 @@
 // The fitting ledger: a session's forms from standard input, as they come, and its replies to standard output.
+ghost use mathlib.Core.List.{[]};
 ghost use Prim.Native.Nat.{_≤_};
 ghost use lib.ListN.{length};
 ghost use Rattle.session.specs.Feeding.{UsableBegun};
 ghost use Rattle.site.specs.Model.{lent};
 ghost use Rattle.stream.specs.Model.{ValidStream};
+use forms::ListWords;
 use history::book::BookWords;
 use libc::STDIN_FILENO;
 use libc::STDOUT_FILENO;
@@ -25,17 +27,19 @@ fn answer(
     queued: &mut QueueWords,
     done: &mut DoneWords,
     book: &mut BookWords,
+    first: &mut ListWords,
+    second: &mut ListWords,
     chunk: &[u8],
     out: &mut [u8],
 ) -> Going
-    requires { ⌜ ValidStream start (lent (now log) (now queued) (now done) (now book)) ⌝ }
+    requires { ⌜ ValidStream start (lent (now log) (now queued) (now done) (now book) [] []) ⌝ }
     requires { ⌜ 2730 ≤ length (now out) ⌝ }
-    ensures { λ r. ⌜ ValidStream (r .stream) (lent (now (log .exit)) (now (queued .exit)) (now (done .exit)) (now (book .exit))) ⌝ }
+    ensures { λ r. ⌜ ValidStream (r .stream) (lent (now (log .exit)) (now (queued .exit)) (now (done .exit)) (now (book .exit)) [] []) ⌝ }
 {
     let mut stream = start;
     let mut at: usize = 0;
     while at < chunk.len() {
-        let f = stream.feed(log, queued, done, book, &chunk[at..], out);
+        let f = stream.feed(log, queued, done, book, first, second, &chunk[at..], out);
         let n = f.written;
         at += f.used;
         stream = f.stream;
@@ -62,12 +66,14 @@ fn step(
     queued: &mut QueueWords,
     done: &mut DoneWords,
     book: &mut BookWords,
+    first: &mut ListWords,
+    second: &mut ListWords,
     chunk: &mut [u8],
     out: &mut [u8],
 ) -> Going
-    requires { ⌜ ValidStream stream (lent (now log) (now queued) (now done) (now book)) ⌝ }
+    requires { ⌜ ValidStream stream (lent (now log) (now queued) (now done) (now book) [] []) ⌝ }
     requires { ⌜ 2730 ≤ length (now out) ⌝ }
-    ensures { λ r. ⌜ ValidStream (r .stream) (lent (now (log .exit)) (now (queued .exit)) (now (done .exit)) (now (book .exit))) ⌝ }
+    ensures { λ r. ⌜ ValidStream (r .stream) (lent (now (log .exit)) (now (queued .exit)) (now (done .exit)) (now (book .exit)) [] []) ⌝ }
 {
     let got = libc::read(STDIN_FILENO, chunk);
     if got < 0 {
@@ -78,7 +84,17 @@ fn step(
         return Going { stream, on: false };
     }
     let n = io::count(got, chunk);
-    answer(stream, log, queued, done, book, &chunk[..n], out)
+    answer(
+        stream,
+        log,
+        queued,
+        done,
+        book,
+        first,
+        second,
+        &chunk[..n],
+        out,
+    )
 }
 
 // A proved loop has to end, and nothing says that the input does: it counts its turns down, from a number that no run uses up.
@@ -87,6 +103,8 @@ fn serve(
     queued: &mut QueueWords,
     done: &mut DoneWords,
     book: &mut BookWords,
+    first: &mut ListWords,
+    second: &mut ListWords,
     chunk: &mut [u8],
     out: &mut [u8],
 )
@@ -95,7 +113,7 @@ fn serve(
     let mut stream = Stream::start();
     let mut turns = u64::MAX;
     while turns > 0 {
-        let s = step(stream, log, queued, done, book, chunk, out);
+        let s = step(stream, log, queued, done, book, first, second, chunk, out);
         let on = s.on;
         stream = s.stream;
         if on {
@@ -111,6 +129,8 @@ fn main() {
     let mut queued = [0u64; 1472];
     let mut done = [0u64; 640];
     let mut book = [0u64; 80];
+    let mut first = [0u64; 64];
+    let mut second = [0u64; 64];
     let mut chunk = io::large_buffer();
     let mut out = io::large_buffer();
     serve(
@@ -118,6 +138,8 @@ fn main() {
         &mut queued,
         &mut done,
         &mut book,
+        &mut first,
+        &mut second,
         &mut chunk,
         &mut out,
     );

@@ -1,56 +1,23 @@
 // Replies of every form.
 use super::again::say_front;
-use super::say;
 use forms::LogNumber;
-use forms::Numbers;
 use forms::Place;
 use forms::Refusal;
 use forms::ReplyForm;
-use forms::ReplyLine;
 use forms::Shown;
 use forms::Version;
 ghost use Prim.Native.Nat.{_≤_};
 ghost use lib.ListN.{length};
-ghost use Rattle.writer.specs.Write.{NumbersInRange, ReplyInRange};
 
 // The greatest number that a line can have.
 const MOST: u64 = 18446744073709551615;
-
-// A list of numbers, as a reply has it.
-fn listed(ns: &[u64]) -> Numbers
-    requires { ⌜ length (now ns) ≤ 64 ⌝ }
-    ensures { λ r. ⌜ NumbersInRange r ⌝ }
-{
-    let mut values = [0u64; 64];
-    let mut i: usize = 0;
-    while i < ns.len() {
-        values[i] = ns[i];
-        i += 1;
-    }
-    Numbers { count: i, values }
-}
-
-// A reply with its lists.
-pub fn reply(form: ReplyForm, xs: &[u64], ys: &[u64]) -> ReplyLine
-    requires { ⌜ (length (now xs) ≤ 64) × (length (now ys) ≤ 64) ⌝ }
-    ensures { λ r. ⌜ ReplyInRange r ⌝ }
-{
-    let first = listed(xs);
-    let second = listed(ys);
-    ReplyLine {
-        form,
-        first,
-        second,
-    }
-}
 
 // Writes a reply and prints it.
 fn say_reply(form: ReplyForm, xs: &[u64], ys: &[u64])
     requires { ⌜ (length (now xs) ≤ 64) × (length (now ys) ≤ 64) ⌝ }
 {
-    let r = reply(form, xs, ys);
     let mut buf = [b'.'; 2730];
-    let w = writer::write_reply(&mut buf, 0, r);
+    let w = writer::write_reply(&mut buf, 0, form, xs, ys);
     say_front(w, &buf);
 }
 

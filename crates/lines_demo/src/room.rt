@@ -1,12 +1,12 @@
 // Lines written where there is room, and where there is one byte too little: then no byte changes.
-use super::replies::reply;
 use super::say;
 use super::say_number;
 use forms::DidLine;
 use forms::ReplyForm;
-use forms::ReplyLine;
 use writer::Written;
-ghost use Rattle.writer.specs.Write.{HeldInRange, ReplyInRange};
+ghost use Prim.Native.Nat.{_≤_};
+ghost use lib.ListN.{length};
+ghost use Rattle.writer.specs.Write.{HeldInRange};
 
 // The answer, and the whole buffer as it is now.
 fn say_whole(r: Written, buf: &[u8]) {
@@ -31,10 +31,10 @@ fn try_site(buf: &mut [u8], at: usize, n: u64) {
     say_whole(r, buf);
 }
 
-fn try_reply(buf: &mut [u8], at: usize, r: ReplyLine)
-    requires { ⌜ ReplyInRange r ⌝ }
+fn try_ready(buf: &mut [u8], at: usize, ids: &[u64])
+    requires { ⌜ length (now ids) ≤ 64 ⌝ }
 {
-    let w = writer::write_reply(buf, at, r);
+    let w = writer::write_reply(buf, at, ReplyForm::Added, ids, &[]);
     say_whole(w, buf);
 }
 
@@ -82,15 +82,15 @@ pub fn say_site_room() {
 
 // A reply of 23 bytes with its end, in buffers of 22, 23 and 30 bytes.
 pub fn say_reply_room() {
-    let r = reply(ReplyForm::Added, &[5, 6, 7, 8, 9], &[]);
+    let ids = [5, 6, 7, 8, 9];
     let mut short = [b'.'; 22];
     let mut just = [b'.'; 23];
     let mut long = [b'.'; 30];
-    try_reply(&mut short, 0, r);
-    try_reply(&mut just, 1, r);
-    try_reply(&mut just, 0, r);
-    try_reply(&mut long, 8, r);
-    try_reply(&mut long, 7, r);
-    try_reply(&mut long, 2, r);
-    try_reply(&mut long, 31, r);
+    try_ready(&mut short, 0, &ids);
+    try_ready(&mut just, 1, &ids);
+    try_ready(&mut just, 0, &ids);
+    try_ready(&mut long, 8, &ids);
+    try_ready(&mut long, 7, &ids);
+    try_ready(&mut long, 2, &ids);
+    try_ready(&mut long, 31, &ids);
 }

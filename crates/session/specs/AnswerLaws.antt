@@ -5,17 +5,15 @@ use mathlib.Core.Path.{_≡_, refl, sym, ap, subst, _∙_}
 use mathlib.Core.Bool.{Bool, true, false}
 use mathlib.Core.List.{List}
 use Rattle.forms.specs.Forms.{Outcome, outcomeText}
-use Rattle.forms.specs.Held.{outcomeOf}
-use Rattle.forms.specs.declared.ReplyLine.{ReplyLine}
+use Rattle.forms.specs.Held.{replied, outcomeOf}
 use Rattle.rules.specs.Session.{Turn}
-use Rattle.site.specs.Model.{Lent, Says}
+use Rattle.site.specs.Model.{Lent}
 use Rattle.writer.specs.declared.Written.{Written}
-use Rattle.writer.specs.Write.{Writes, withEnd, ReplyInRange}
+use Rattle.writer.specs.Write.{Writes, withEnd}
 use Rattle.session.specs.declared.Session.{Session}
 use Rattle.session.specs.declared.Turned.{Turned}
 use Rattle.session.specs.declared.Answered.{Answered}
 use Rattle.session.specs.Model.{viewIf, sessionView, ValidSession, Turns, Starts, Answers}
-use Rattle.session.specs.TurnLaws.{in-range}
 
 -- A session that is not open is "before site".
 pub starts : (s : Session) → s .opened ≡ false → (bytes : Lent) → Starts s bytes
@@ -25,13 +23,9 @@ starts s e bytes =
       valid = record { site = λ o. absurd (let z : _≡_ {A = Bool} true false = sym o ∙ e in let k : _≡_ {A = ℕ} 0 1 = cc in omega arith) };
     }
 
--- The reply of a turn can be written.
-pub turn-prints : (s : Session) (old : Lent) (t : Turn) (r : Turned) (new : Lent) → Turns s old t r new → ReplyInRange (r .reply)
-turn-prints s old t r new h = in-range (r .reply) (h .answer .printable)
-
 -- What is written of a turn's reply is the rule book's reply.
 pub answers : (s : Session) (old : Lent) (t : Turn) (r : Turned) (new : Lent) (n : Written) (out written : List ℕ) → Turns s old t r new →
-    Writes out 0 (withEnd (outcomeText (outcomeOf (r .reply)))) n written → Answers s old t (record { session = r .session; next = n }) new out written
+    Writes out 0 (withEnd (outcomeText (outcomeOf (replied (r .reply) (new .first) (new .second))))) n written → Answers s old t (record { session = r .session; next = n }) new out written
 answers s old t r new n out written h w =
     record {
       turned = r;

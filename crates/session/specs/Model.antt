@@ -6,6 +6,7 @@ use mathlib.Core.List.{List, []}
 use mathlib.Core.Option.{Option, none, some}
 use lib.ListN.{length, drop}
 use Rattle.forms.specs.Forms.{Update, Did, Outcome, Refused, Accepted, didText, outcomeText}
+use Rattle.forms.specs.Held.{replied}
 use Rattle.forms.specs.declared.Refusal.{Refusal}
 use Rattle.forms.specs.declared.Refusal.the-variants.{Unreadable}
 use Rattle.rules.specs.State.{State, refused}
@@ -14,7 +15,8 @@ use Rattle.rules.specs.Session.{Turn, turnOf, opening, calling, turn}
 use Rattle.reader.specs.declared.CommandForm.{CommandForm}
 use Rattle.site.specs.declared.Site.{Site}
 use Rattle.site.specs.declared.Called.{Called}
-use Rattle.site.specs.Model.{Lent, view, Valid, Says}
+use Rattle.site.specs.Whole.{Whole, Sound}
+use Rattle.site.specs.Model.{Lent, whole, view, Says}
 use Rattle.writer.specs.Write.{Writes, withEnd}
 use Rattle.session.specs.declared.Session.{Session}
 use Rattle.session.specs.declared.Turned.{Turned}
@@ -31,8 +33,11 @@ abbrev pub sessionView : Session → Lent → Option State
 sessionView s bytes = viewIf (s .opened) (s .site) bytes
 
 -- The invariant: a site that is open is valid.
-pub record ValidSession (s : Session) (bytes : Lent) : Type 0 where
-  pub site : s .opened ≡ true → Valid (s .site) bytes
+pub record ValidOpened (opened : Bool) (w : Whole) (log : List ℕ) : Type 0 where
+  pub site : opened ≡ true → Sound w log
+
+abbrev pub ValidSession : Session → Lent → Type 0
+ValidSession s m = ValidOpened (s .opened) (whole (s .site) m) (m .log)
 
 -- how many bytes of the log buffer are in use
 abbrev pub usedIf : Bool → Site → ℕ
@@ -56,7 +61,7 @@ Keeps (Accepted a) s old r new = PastKept old r new
 
 -- The session s, to which `old` was lent and is `new` after it, takes the turn t of the rule book.
 pub record Turns (s : Session) (old : Lent) (t : Turn) (r : Turned) (new : Lent) : Type 0 where
-  pub answer : Says (r .reply) (t .reply)
+  pub answer : Says (replied (r .reply) (new .first) (new .second)) (t .reply)
   pub after : sessionView (r .session) new ≡ t .after
   pub valid : ValidSession (r .session) new
   pub keeps : Keeps (t .reply) s old r new
@@ -70,7 +75,7 @@ TurnsLine s old line r new = Turns s old (turn (length (old .log)) line (session
 
 -- The line is refused with q, and the session is as it was.
 pub record Refuses (s : Session) (q : Refusal) (r : Turned) : Type 0 where
-  pub answer : Says (r .reply) (Refused q)
+  pub answer : (xs ys : List ℕ) → Says (replied (r .reply) xs ys) (Refused q)
   pub session : r .session ≡ s
 
 -- what a call of the site hands back, as a turn

@@ -1,38 +1,41 @@
 -- A call of the site as a turn of the session, and a line's form as the rule book obeys it.
-use Prim.Native.Nat.{ℕ, _<_}
+use Prim.Native.Nat.{ℕ, _≤_, _<_}
+use native.Mathlib.Omega.{arith}
 use mathlib.Core.Path.{_≡_, refl, sym, ap, subst, _∙_}
 use mathlib.Core.Bool.{Bool, true, false}
 use mathlib.Core.List.{List, []}
 use mathlib.Core.Option.{Option, none, some}
 use lib.Dec.{leb}
 use lib.ListN.{length, drop}
+use lib.Seq.{length-take-le}
 use borrow.Author.Tests.{lt-leb}
 use Rattle.forms.specs.Decimal.{Step}
 use Rattle.forms.specs.Decimal.Step.{got, bad}
 use Rattle.forms.specs.Forms.{Command, SiteOf, Add, Finish, Withdraw, Persistent, Stable, Show, Cut, Redo, End, Update, Did, Refused}
 use Rattle.forms.specs.Reading.{readWhole, readCommand}
-use Rattle.forms.specs.Held.{heldUpdates, heldDid}
+use Rattle.forms.specs.Held.{heldUpdates, heldDid, Numbers, numbersOf, Replied}
 use Rattle.forms.specs.declared.Refusal.{Refusal}
 use Rattle.forms.specs.declared.Refusal.the-variants.{Unreadable, OutOfTurn}
-use Rattle.forms.specs.declared.ReplyLine.{ReplyLine}
 use Rattle.rules.specs.State.{State, Reply, refused, ok}
 use Rattle.rules.specs.Calls.{Call, step}
 use Rattle.rules.specs.Session.{Turn, turnOf, opening, calling, obey, onCommand, turn}
 use Rattle.reader.specs.Read.{updatesIn, didIn, noDid, commandAnswer}
 use Rattle.site.specs.declared.Called.{Called}
 use Rattle.site.specs.Model.{Lent, view, Valid, Says, Does, Printable, Few}
-use Rattle.writer.specs.Write.{ReplyInRange}
 use Rattle.session.specs.declared.Session.{Session}
 use Rattle.session.specs.declared.Turned.{Turned}
 use Rattle.session.specs.Model.{viewIf, sessionView, ValidSession, Unchanged, PastKept, Refuses, Turns, turnedOf, obeyed}
 
--- A reply that a call gives can be written.
-pub in-range : (r : ReplyLine) → Printable r → ReplyInRange r
-in-range r p =
-    record {
-      first = record { count = p .first .few; values = p .first .long };
-      second = record { count = p .second .few; values = p .second .long };
-    }
+numbers-count : (n : Numbers) → Few n → length (numbersOf n) ≡ n .count
+unfolding numbersOf
+numbers-count n f = length-take-le (n .count) (n .values) (f .within)
+
+-- The lists of a reply that a call gives can be written.
+pub lists-short : (r : Replied) → Printable r → (length (numbersOf (r .first)) ≤ 64) × (length (numbersOf (r .second)) ≤ 64)
+lists-short r p = (short (r .first) (p .first), short (r .second) (p .second))
+  where
+    short : (n : Numbers) → Few n → length (numbersOf n) ≤ 64
+    short n f = omega (arith, numbers-count n f, f .few)
 
 -- ### A refused line
 
@@ -43,7 +46,7 @@ unfolding turnOf
 turn-refused s old t q r v e h =
     subst (λ (x : Turn). Turns s old x r old) (sym e)
     (record {
-      answer = h .answer;
+      answer = h .answer (old .first) (old .second);
       after = ap (λ (x : Session). sessionView x old) (h .session);
       valid = subst (λ (x : Session). ValidSession x old) (sym (h .session)) v;
       keeps = record { session = h .session; kept = refl };

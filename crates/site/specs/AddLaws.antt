@@ -12,10 +12,9 @@ use Rattle.forms.specs.Decimal.{top}
 use Rattle.forms.specs.Lists.{all, any}
 use Rattle.forms.specs.ListLaws.{T-true}
 use Rattle.forms.specs.Forms.{Update, Added}
-use Rattle.forms.specs.Held.{outcomeWith, heldUpdates, updatesOf}
+use Rattle.forms.specs.Held.{outcomeWith, heldUpdates, updatesOf, Numbers, listed}
 use Rattle.forms.specs.HeldLaws.{updates-back}
 use Rattle.forms.specs.declared.AskedHeld.{AskedHeld}
-use Rattle.forms.specs.declared.Numbers.{Numbers}
 use Rattle.forms.specs.declared.ReplyForm.{ReplyForm}
 use Rattle.forms.specs.declared.Refusal.{Refusal}
 use Rattle.forms.specs.declared.Refusal.the-variants.{NothingOrders, IdPending, AlreadyDone, ReadOvertaken, TableFull, OutOfTurn}
@@ -39,7 +38,7 @@ use Rattle.table.specs.Tries.{Tries, tryAllIn, operationsOf}
 use Rattle.table.specs.TryLaws.{try-all-is}
 use Rattle.site.specs.declared.seen.Seen.{Seen}
 use Rattle.site.specs.Whole.{Whole, stateOf, pendingIn, waitingIn, Sound}
-use Rattle.site.specs.ModelLaws.{Accepts, step-performs, accepts-step, says-lists}
+use Rattle.site.specs.ModelLaws.{Accepts, step-performs, accepts-step, says-lists, means, means-none}
 use Rattle.site.specs.QueueLaws.{withQueue, carries-queue}
 use Rattle.site.specs.ShowLaws.{count-most}
 use Rattle.site.specs.Seen.{Sees, conflicts}
@@ -158,14 +157,14 @@ module _ (s : Whole) (bytes : List ℕ) (v : Sound s bytes) (i : ℕ) (us : List
   abbrev after : Whole
   after = withQueue tq (s .restoring) (s .reserved) s
 
-  pub add-does : (b : Numbers) → IsNumbers b [] →
-      Accepts bytes (step (Call.Add i us) st) (record { site = after; reply = record { form = ReplyForm.Added; first = ns; second = b } }) bytes
+  pub add-does : (ys : List ℕ) →
+      Accepts bytes (step (Call.Add i us) st) (record { site = after; reply = record { form = ReplyForm.Added; first = ns; second = listed 0 ys } }) bytes
   unfolding Sound outcomeWith
-  add-does b nothing =
+  add-does ys =
       accepts-step s bytes (Call.Add i us) (withPending (tryAll (st .log) (arrived i us st)) st)
       (Added (madeReady (arrived i us st) (tryAll (st .log) (arrived i us st)))) _ bytes v
       (add-accepted i us st le w free)
-      (says-lists _ (madeReady (arrived i us st) (tryAll (st .log) (arrived i us st))) [] ready nothing)
+      (says-lists _ (madeReady (arrived i us st) (tryAll (st .log) (arrived i us st))) [] (means ready) (means-none ys))
       (carries-queue s bytes st (v .carries) tq (s .restoring) (s .reserved) (tryAll (st .log) (arrived i us st)) (st .waiting) (tries .usable)
       (ap (λ (z : Bool). pendingIn z after) idle ∙ tries .queue ∙ tried)
       (ap (λ (z : Bool). waitingIn z after) idle ∙ sym (ap (λ (z : Bool). waitingIn z s) idle))

@@ -4,11 +4,9 @@ use mathlib.Core.Path.{_≡_, refl, sym, ap, subst, _∙_}
 use mathlib.Core.Bool.{Bool, true, false, not}
 use mathlib.Core.List.{List, [], _∷_, map}
 use lib.ListN.{take}
-use Rattle.forms.specs.Held.{outcomeWith}
+use Rattle.forms.specs.Held.{outcomeWith, Numbers, listed}
 use Rattle.forms.specs.Forms.{Did, Ended}
-use Rattle.forms.specs.declared.Numbers.{Numbers}
 use Rattle.forms.specs.declared.ReplyForm.{ReplyForm}
-use Rattle.forms.specs.declared.ReplyLine.{ReplyLine}
 use Rattle.forms.specs.declared.Refusal.the-variants.{OutOfTurn}
 use Rattle.rules.specs.Checks.{check}
 use Rattle.rules.specs.State.{State, Reply, refused, ok, withRestoring, withWaiting}
@@ -18,7 +16,7 @@ use Rattle.history.specs.Entries.{didOfEntry, operationOf}
 use Rattle.table.specs.Lists.{IsNumbers}
 use Rattle.table.specs.Queues.{Queued, queueOf, IsQueue, idOf}
 use Rattle.site.specs.Whole.{Whole, stateOf, waitingIn, Carries, Sound}
-use Rattle.site.specs.ModelLaws.{Accepts, step-performs, accepts-step, says-lists}
+use Rattle.site.specs.ModelLaws.{Accepts, step-performs, accepts-step, says-lists, means, means-none}
 use Rattle.site.specs.QueueLaws.{withQueue, withOpen, carries-queue}
 
 pub end-refused : (s : Whole) (bytes : List ℕ) → s .restoring ≡ false → step Call.End (stateOf s bytes) ≡ refused OutOfTurn
@@ -38,12 +36,12 @@ end-accepted s bytes e =
     step-performs Call.End (stateOf s bytes) refl
     ∙ rw e (ap (λ (l : List ℕ). ok (withOpen [] [] false (stateOf s bytes)) (Ended l)) (dids-ids (queueOf (s .queue))))
 
-pub end-does : (s : Whole) (bytes : List ℕ) → Sound s bytes → s .restoring ≡ true → (q : Queued) → IsQueue q [] → (a b : Numbers) →
-    IsNumbers a (map idOf (queueOf (s .queue))) → IsNumbers b [] →
-    Accepts bytes (step Call.End (stateOf s bytes)) (record { site = withQueue q false 0 s; reply = record { form = ReplyForm.Ended; first = a; second = b } }) bytes
+pub end-does : (s : Whole) (bytes : List ℕ) → Sound s bytes → s .restoring ≡ true → (q : Queued) → IsQueue q [] → (a : Numbers) (ys : List ℕ) →
+    IsNumbers a (map idOf (queueOf (s .queue))) →
+    Accepts bytes (step Call.End (stateOf s bytes)) (record { site = withQueue q false 0 s; reply = record { form = ReplyForm.Ended; first = a; second = listed 0 ys } }) bytes
 unfolding Sound outcomeWith
-end-does s bytes v e q empty a b ids none =
+end-does s bytes v e q empty a ys ids =
     accepts-step s bytes Call.End (withOpen [] [] false (stateOf s bytes)) (Ended (map idOf (queueOf (s .queue)))) _ bytes v (end-accepted s bytes e)
-    (says-lists _ (map idOf (queueOf (s .queue))) [] ids none)
+    (says-lists _ (map idOf (queueOf (s .queue))) [] (means ids) (means-none ys))
     (carries-queue s bytes (stateOf s bytes) (v .carries) q false 0 [] [] (empty .usable) (ap (map operationOf) (empty .list)) refl refl)
     refl

@@ -4,10 +4,8 @@ use mathlib.Core.Path.{_≡_}
 use mathlib.Core.List.{List}
 use lib.ListN.{length, drop}
 use Rattle.forms.specs.Forms.{Outcome, Refused, Accepted, Answer}
-use Rattle.forms.specs.Held.{outcomeOf}
+use Rattle.forms.specs.Held.{Numbers, Replied, replied, outcomeOf}
 use Rattle.forms.specs.declared.Refusal.{Refusal}
-use Rattle.forms.specs.declared.ReplyLine.{ReplyLine}
-use Rattle.forms.specs.declared.Numbers.{Numbers}
 use Rattle.rules.specs.State.{State, Reply, refused, ok}
 use Rattle.rules.specs.Calls.{Call, step}
 use Rattle.history.specs.Words.{historiesIn, persistedIn, stabilisedIn}
@@ -18,15 +16,18 @@ use Rattle.site.specs.Whole.{Whole, stateOf, Sound}
 
 -- ### What is lent
 
--- What is lent to a call of a site: the buffer of its log, and the words of its queue, of its done operations and of its histories.
+-- What is lent to a call of a site: the buffer of its log, the words of its queue, of its done operations and of its histories, and those of the
+-- lists of its reply.
 pub record Lent : Type 0 where
   pub log : List ℕ
   pub queue : List ℕ
   pub done : List ℕ
   pub book : List ℕ
+  pub first : List ℕ
+  pub second : List ℕ
 
-abbrev pub lent : List ℕ → List ℕ → List ℕ → List ℕ → Lent
-lent log queue done book = record { log = log; queue = queue; done = done; book = book }
+abbrev pub lent : List ℕ → List ℕ → List ℕ → List ℕ → List ℕ → List ℕ → Lent
+lent log queue done book first second = record { log = log; queue = queue; done = done; book = book; first = first; second = second }
 
 -- The site with the histories and the entries that stand in what is lent.
 abbrev pub whole : Site → Lent → Whole
@@ -59,26 +60,26 @@ Valid s m = Sound (whole s m) (m .log)
 -- the numbers of a reply are at most 64, so that it can be printed
 pub record Few (n : Numbers) : Type 0 where
   pub few : n .count ≤ 64
-  pub long : length (n .values) ≡ 64
+  pub within : n .count ≤ length (n .values)
 
-pub record Printable (r : ReplyLine) : Type 0 where
+pub record Printable (r : Replied) : Type 0 where
   pub first : Few (r .first)
   pub second : Few (r .second)
 
 -- A reply says this, and can be printed.
-pub record Says (r : ReplyLine) (o : Outcome) : Type 0 where
+pub record Says (r : Replied) (o : Outcome) : Type 0 where
   pub outcome : outcomeOf r ≡ o
   pub printable : Printable r
 
 -- "A refusal returns its number only; site, log .. and all other lent buffers do not change."
 pub record RefusedAs (s : Site) (old : Lent) (q : Refusal) (r : Called) (new : Lent) : Type 0 where
-  pub answer : Says (r .reply) (Refused q)
+  pub answer : Says (replied (r .reply) (new .first) (new .second)) (Refused q)
   pub site : r .site ≡ s
   pub kept : new ≡ old
 
 -- "An accepted call alters no byte of a lent buffer past those in use".
 pub record AcceptedAs (old : Lent) (st : State) (a : Answer) (r : Called) (new : Lent) : Type 0 where
-  pub answer : Says (r .reply) (Accepted a)
+  pub answer : Says (replied (r .reply) (new .first) (new .second)) (Accepted a)
   pub valid : Valid (r .site) new
   pub state : view (r .site) new ≡ st
   pub past : drop (r .site .used) (new .log) ≡ drop (r .site .used) (old .log)

@@ -1,12 +1,12 @@
 -- The laws through which every call goes: what a site holds is its view, and so it is valid.
 use Prim.Native.Nat.{ℕ, _≤_}
+use native.Mathlib.Omega.{arith}
 use mathlib.Core.Path.{_≡_, refl, sym, ap, ap₂, subst, _∙_}
 use mathlib.Core.Bool.{Bool, true, false}
 use mathlib.Core.List.{List, [], map}
 use lib.ListN.{length, take, drop}
 use Rattle.forms.specs.Forms.{Did, Answer, Refused, Accepted}
-use Rattle.forms.specs.Held.{outcomeWith, outcomeOf}
-use Rattle.forms.specs.declared.ReplyLine.{ReplyLine}
+use Rattle.forms.specs.Held.{Numbers, listed, numbersOf, Replied, replied, outcomeWith, outcomeOf}
 use Rattle.rules.specs.LogLaws.{read-printed}
 use Rattle.rules.specs.GoodLaws.{good-step}
 use Rattle.forms.specs.declared.Refusal.{Refusal}
@@ -20,17 +20,30 @@ use Rattle.table.specs.Lists.{IsNumbers}
 use Rattle.site.specs.declared.Site.{Site}
 use Rattle.site.specs.declared.Called.{Called}
 use Rattle.site.specs.Whole.{Whole, stateOf, didsIn, Carries, Holds, Sound}
-use Rattle.site.specs.Model.{Lent, lent, whole, Says, Does}
+use Rattle.site.specs.Model.{Lent, lent, whole, Few, Says, Does}
 
 -- ### Replies
 
+-- A list that can be printed, and its numbers.
+pub record Means (n : Numbers) (l : List ℕ) : Type 0 where
+  pub fits : Few n
+  pub list : numbersOf n ≡ l
+
+pub means : {n : Numbers} {l : List ℕ} → IsNumbers n l → Means n l
+means a = record { fits = record { few = a .few; within = omega (arith, a .few, a .long) }; list = a .list }
+
+-- no numbers, in any array
+pub means-none : (ws : List ℕ) → Means (listed 0 ws) []
+unfolding numbersOf
+means-none ws = record { fits = record { few = omega arith; within = omega arith }; list = refl }
+
 -- A reply says what its form and its lists mean.
-pub says-lists : (r : ReplyLine) (xs ys : List ℕ) → IsNumbers (r .first) xs → IsNumbers (r .second) ys → Says r (outcomeWith (r .form) xs ys)
+pub says-lists : (r : Replied) (xs ys : List ℕ) → Means (r .first) xs → Means (r .second) ys → Says r (outcomeWith (r .form) xs ys)
 unfolding outcomeOf
 says-lists r xs ys a b =
     record {
       outcome = ap₂ (outcomeWith (r .form)) (a .list) (b .list);
-      printable = record { first = record { few = a .few; long = a .long }; second = record { few = b .few; long = b .long } };
+      printable = record { first = a .fits; second = b .fits };
     }
 
 -- ### What a site holds
@@ -91,7 +104,7 @@ same-book w h p s = λ i. withBook (sym h i) (sym p i) (sym s i) w
 -- A site with its tables after a call, and the reply.
 pub record Taken : Type 0 where
   pub site : Whole
-  pub reply : ReplyLine
+  pub reply : Replied
 
 -- A call that the rule book accepts: the site after it is sound and has the next state, and the bytes past those in use are as before.
 pub record Accepts (old : List ℕ) (x : Reply) (r : Taken) (new : List ℕ) : Type 0 where
@@ -104,28 +117,29 @@ pub record Accepts (old : List ℕ) (x : Reply) (r : Taken) (new : List ℕ) : T
   pub past : drop (r .site .used) new ≡ drop (r .site .used) old
 
 -- .. so too with these histories and versions, when they are the same
-pub accepts-book : (old : List ℕ) (x : Reply) (w : Whole) (reply : ReplyLine) (new : List ℕ) {hs : List History} {ps ss : List ℕ} →
+pub accepts-book : (old : List ℕ) (x : Reply) (w : Whole) (reply : Replied) (new : List ℕ) {hs : List History} {ps ss : List ℕ} →
     hs ≡ w .histories → ps ≡ w .persisted → ss ≡ w .stabilised →
     Accepts old x (record { site = w; reply = reply }) new → Accepts old x (record { site = withBook hs ps ss w; reply = reply }) new
 accepts-book old x w reply new h p s a =
     subst (λ (z : Whole). Accepts old x (record { site = z; reply = reply }) new) (same-book w h p s) a
 
 -- .. and so it does what the rule book replies.
-pub does : (s : Site) (old : Lent) (x : Reply) (r : Called) (new : Lent) → Accepts (old .log) x (record { site = whole (r .site) new; reply = r .reply }) (new .log) →
+pub does : (s : Site) (old : Lent) (x : Reply) (r : Called) (new : Lent) →
+    Accepts (old .log) x (record { site = whole (r .site) new; reply = replied (r .reply) (new .first) (new .second) }) (new .log) →
     Does s old x r new
 does s old x r new a =
     subst (λ (y : Reply). Does s old y r new) (sym (a .accepted)) (record { answer = a .says; valid = a .sound; state = a .state; past = a .past })
 
 -- A call that the rule book refuses: site and all that is lent are the very ones that came in.
-pub refuses : (s : Site) (old : Lent) (reply : Reply) (q : Refusal) (r : Called) → reply ≡ refused q → Says (r .reply) (Refused q) → r .site ≡ s →
-    Does s old reply r old
+pub refuses : (s : Site) (old : Lent) (reply : Reply) (q : Refusal) (r : Called) → reply ≡ refused q →
+    Says (replied (r .reply) (old .first) (old .second)) (Refused q) → r .site ≡ s → Does s old reply r old
 refuses s old reply q r e says same = subst (λ (x : Reply). Does s old x r old) (sym e) (record { answer = says; site = same; kept = refl })
 
 -- .. the log too, where the writer found no room
 pub refuses-full : (s : Site) (old : Lent) (new : List ℕ) (reply : Reply) (q : Refusal) (r : Called) → reply ≡ refused q → new ≡ old .log →
-    Says (r .reply) (Refused q) → r .site ≡ s → Does s old reply r (lent new (old .queue) (old .done) (old .book))
+    Says (replied (r .reply) (old .first) (old .second)) (Refused q) → r .site ≡ s → Does s old reply r (lent new (old .queue) (old .done) (old .book) (old .first) (old .second))
 refuses-full s old new reply q r e f says same =
-    subst (λ (b : List ℕ). Does s old reply r (lent b (old .queue) (old .done) (old .book))) (sym f) (refuses s old reply q r e says same)
+    subst (λ (b : List ℕ). Does s old reply r (lent b (old .queue) (old .done) (old .book) (old .first) (old .second))) (sym f) (refuses s old reply q r e says same)
 
 -- A call that the rule book accepts: the site after it holds the next state.
 pub accepts : (old : List ℕ) (reply : Reply) (st : State) (a : Answer) (r : Taken) (new : List ℕ) → reply ≡ ok st a →

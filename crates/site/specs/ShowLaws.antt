@@ -8,10 +8,8 @@ use lib.Dec.{leb}
 use lib.ListN.{length, take, drop, getD}
 use borrow.Author.Tests.{le-leb, lt-leb}
 use Rattle.forms.specs.Decimal.{top}
-use Rattle.forms.specs.Held.{outcomeWith}
-use Rattle.forms.specs.declared.Numbers.{Numbers}
+use Rattle.forms.specs.Held.{Replied, outcomeWith, listed}
 use Rattle.forms.specs.declared.ReplyForm.{ReplyForm}
-use Rattle.forms.specs.declared.ReplyLine.{ReplyLine}
 use Rattle.forms.specs.Forms.{Answer, Accepted, Shown}
 use Rattle.forms.specs.declared.Refusal.the-variants.{NoSuchHistory}
 use Rattle.rules.specs.Checks.{check}
@@ -19,12 +17,11 @@ use Rattle.rules.specs.Book.{cell}
 use Rattle.rules.specs.State.{State, Reply, refused, ok, versionAt}
 use Rattle.rules.specs.LogLaws.{histories-most}
 use Rattle.rules.specs.Calls.{Call, unless, writable, perform, step, show}
-use Rattle.table.specs.Lists.{IsNumbers}
 use Rattle.history.specs.declared.History.{History}
 use Rattle.history.specs.Entries.{cellsOf, noHistory}
 use Rattle.site.specs.Whole.{Whole, stateOf, Carries, Holds, Sound}
 use Rattle.site.specs.declared.Called.{Called}
-use Rattle.site.specs.ModelLaws.{Accepts, step-performs, accepts, says-lists}
+use Rattle.site.specs.ModelLaws.{Accepts, step-performs, accepts, says-lists, means-none}
 
 -- There are at most sixteen histories.
 pub count-most : (s : Whole) (bytes : List ℕ) → Sound s bytes → s .count ≤ 16
@@ -65,8 +62,8 @@ show-accepted s bytes h v le below =
     stabilised = sym (c .stabilised h few)
 
 -- the reply that shows history h: what it holds, and its persistent and its stable version
-abbrev pub shownOf : ℕ → History → ℕ → ℕ → Numbers → Numbers → ReplyLine
-shownOf h x p q a b =
+abbrev pub shownOf : ℕ → History → ℕ → ℕ → List ℕ → List ℕ → Replied
+shownOf h x p q xs ys =
     record {
       form = ReplyForm.Shows (record {
         history = h;
@@ -76,18 +73,18 @@ shownOf h x p q a b =
         place = x .place;
         profile = x .profile;
       });
-      first = a;
-      second = b;
+      first = listed 0 xs;
+      second = listed 0 ys;
     }
 
 pub show-does : (s : Whole) (bytes : List ℕ) (h : ℕ) → Sound s bytes → h ≤ top → h < s .count →
     (x : History) → x ≡ getD (s .histories) h noHistory → (p : ℕ) → p ≡ getD (s .persisted) h 0 → (q : ℕ) → q ≡ getD (s .stabilised) h 0 →
-    (a b : Numbers) → IsNumbers a [] → IsNumbers b [] →
-    Accepts bytes (step (Call.Show h) (stateOf s bytes)) (record { site = s; reply = shownOf h x p q a b }) bytes
+    (xs ys : List ℕ) →
+    Accepts bytes (step (Call.Show h) (stateOf s bytes)) (record { site = s; reply = shownOf h x p q xs ys }) bytes
 unfolding outcomeWith Sound
-show-does s bytes h v le below x is p persisted q stabilised a b none-a none-b =
+show-does s bytes h v le below x is p persisted q stabilised xs ys =
     accepts bytes (step (Call.Show h) (stateOf s bytes)) (stateOf s bytes) (Shown h (x .version .0) p q (x .place .0) (x .profile))
-    (record { site = s; reply = shownOf h x p q a b }) bytes
+    (record { site = s; reply = shownOf h x p q xs ys }) bytes
     (show-accepted s bytes h v le below
     ∙ sym (λ i. ok (stateOf s bytes) (Shown h (is i .version .0) (persisted i) (stabilised i) (is i .place .0) (is i .profile))))
-    (says-lists (shownOf h x p q a b) [] [] none-a none-b) v refl
+    (says-lists (shownOf h x p q xs ys) [] [] (means-none xs) (means-none ys)) v refl

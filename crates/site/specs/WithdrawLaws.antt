@@ -10,8 +10,7 @@ use Rattle.forms.specs.Decimal.{top}
 use Rattle.forms.specs.Lists.{keep, below}
 use Rattle.forms.specs.ListLaws.{Nodup, nodup-right}
 use Rattle.forms.specs.Forms.{Withdrawn}
-use Rattle.forms.specs.Held.{outcomeWith}
-use Rattle.forms.specs.declared.Numbers.{Numbers}
+use Rattle.forms.specs.Held.{outcomeWith, Numbers, listed}
 use Rattle.forms.specs.declared.ReplyForm.{ReplyForm}
 use Rattle.forms.specs.declared.Refusal.the-variants.{WrongState, OutOfTurn}
 use Rattle.rules.specs.Checks.{check}
@@ -27,7 +26,7 @@ use Rattle.table.specs.Tries.{operationsOf}
 use Rattle.table.specs.FindLaws.{first-found, any-future, no-future, without-is}
 use Rattle.table.specs.BookLaws.{became-dry-is}
 use Rattle.site.specs.Whole.{Whole, stateOf, pendingIn, waitingIn, Sound}
-use Rattle.site.specs.ModelLaws.{Accepts, step-performs, accepts-step, says-lists}
+use Rattle.site.specs.ModelLaws.{Accepts, step-performs, accepts-step, says-lists, means, means-none}
 use Rattle.site.specs.QueueLaws.{withQueue, carries-queue}
 use Rattle.site.specs.Busy.{busyIn}
 use Rattle.site.specs.BusyLaws.{busy-wet}
@@ -65,11 +64,11 @@ volatile-few s bytes v = let m = marked s bytes v in omega (arith, m .stable, m 
 
 module _ (s : Whole) (bytes : List ℕ) (i k : ℕ) (v : Sound s bytes) (le : i ≤ top) (e : s .restoring ≡ false)
     (found : firstAt (isEntry i false) (queueOf (s .queue)) ≡ At k)
-    (left : Queued) (before after : List Bool) (a b : Numbers)
+    (left : Queued) (before after : List Bool) (a : Numbers) (ys : List ℕ)
     (removed : IsQueue left (take k (queueOf (s .queue)) ++ drop (k + 1) (queueOf (s .queue))))
     (was : Says false before (busyIn (s .restoring) (s .queue) (s .finished) (s .persistent .0 - s .stable .0)))
     (is : Says false after (busyIn (s .restoring) left (s .finished) (s .persistent .0 - s .stable .0)))
-    (dried : IsNumbers a (keep (ceases before after) (below (s .count)))) (none : IsNumbers b []) where
+    (dried : IsNumbers a (keep (ceases before after) (below (s .count)))) where
   -- the ids of the operations are distinct
   once : Nodup (operationIds (operationsOf (queueOf (s .queue))))
   unfolding Sound
@@ -97,18 +96,19 @@ module _ (s : Whole) (bytes : List ℕ) (i k : ℕ) (v : Sound s bytes) (le : i 
   pub withdraw-does : Accepts bytes (step (Call.Withdraw i) (stateOf s bytes))
       (record {
         site = withQueue left (s .restoring) (s .reserved) s;
-        reply = record { form = ReplyForm.Withdrawn; first = a; second = b };
+        reply = record { form = ReplyForm.Withdrawn; first = a; second = listed 0 ys };
       }) bytes
   unfolding Sound outcomeWith
   withdraw-does =
       accepts-step s bytes (Call.Withdraw i) (withdrawnFrom i s bytes) (Withdrawn (becameDry (stateOf s bytes) (withdrawnFrom i s bytes))) _ bytes v
       (withdraw-accepted s bytes i k le e found)
       (says-lists _ (becameDry (stateOf s bytes) (withdrawnFrom i s bytes)) []
-      (record {
+      (means (record {
         few = dried .few;
         long = dried .long;
         list = dried .list ∙ became-dry-is before after (stateOf s bytes) (withdrawnFrom i s bytes) (marked s bytes v .few) wet-before wet-after;
-      }) none)
+      }))
+      (means-none ys))
       (carries-queue s bytes (stateOf s bytes) (v .carries) left (s .restoring) (s .reserved) (without i (pendingIn (s .restoring) s)) (waitingIn (s .restoring) s)
       (removed .usable) (rw e left-is) (rw e refl) (v .carries .reserved))
       refl

@@ -1,13 +1,11 @@
 // One site: its counters, and, in what is lent to it, its histories, its table of live operations and its log.
 ghost use mathlib.Core.Path.{_≡_};
-ghost use mathlib.Core.List.{[]};
-ghost use Prim.Native.Nat.{max};
+ghost use mathlib.Core.List.{List, []};
+ghost use Prim.Native.Nat.{ℕ, max};
 ghost use Rattle.forms.specs.Forms.{Refused};
-ghost use Rattle.forms.specs.Held.{outcomeWith};
-ghost use Rattle.table.specs.Lists.{IsNumbers};
+ghost use Rattle.forms.specs.Held.{replied, outcomeWith};
 ghost use Rattle.site.specs.Model.{Says};
 use forms::LogNumber;
-use forms::Numbers;
 use forms::Refusal;
 use forms::ReplyForm;
 use forms::ReplyLine;
@@ -28,7 +26,7 @@ pub mod stable;
 pub mod withdraw;
 
 // A site by value. What the caller lends to each call: a buffer whose first `used` bytes are its log, two arrays of numbers with the entries of its
-// table, and one with its histories.
+// table, one with its histories, and two for the lists of the reply.
 pub struct Site {
     // how many histories there are
     pub count: usize,
@@ -66,30 +64,20 @@ impl Site {
     pub const LINE_BYTES: usize = 1024;
 }
 
-// No numbers.
-fn no_numbers() -> Numbers
-    ensures { λ r. ⌜ IsNumbers r [] ⌝ }
-{
-    Numbers {
-        count: 0,
-        values: [0; 64],
-    }
-}
-
 // A reply without numbers behind those of its form.
 fn bare(form: ReplyForm) -> ReplyLine
-    ensures { λ r. ⌜ Says r (outcomeWith form [] []) ⌝ }
+    ensures { λ r. ⌜ ((xs ys : List ℕ) → Says (replied r xs ys) (outcomeWith form [] [])) ⌝ }
 {
     ReplyLine {
         form,
-        first: no_numbers(),
-        second: no_numbers(),
+        first: 0,
+        second: 0,
     }
 }
 
 // The reply of a refusal.
 pub fn refusal(q: Refusal) -> ReplyLine
-    ensures { λ r. ⌜ Says r (Refused q) ⌝ }
+    ensures { λ r. ⌜ ((xs ys : List ℕ) → Says (replied r xs ys) (Refused q)) ⌝ }
 {
     bare(ReplyForm::Refused(q))
 }

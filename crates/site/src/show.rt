@@ -1,9 +1,10 @@
 // Show: what a history is now.
+ghost use Prim.Native.Nat.{ℕ};
+ghost use mathlib.Core.List.{List, []};
 ghost use Rattle.rules.specs.Calls.{Call};
 ghost use Rattle.site.specs.Model.{lent, Valid, Steps};
 use super::Called;
 use super::Site;
-use super::no_numbers;
 use super::refusal;
 use forms::Refusal;
 use forms::ReplyForm;
@@ -27,9 +28,9 @@ impl Site {
         book: &BookWords,
         h: u64,
     ) -> Called
-        requires { ⌜ Valid self (lent (now log) (now queued) (now done) (now book)) ⌝ }
-        ensures { λ r. ⌜ Steps self (lent (now (log .entry)) (now (queued .entry)) (now (done .entry)) (now (book .entry))) (Call.Show h) r
-            (lent (now (log .entry)) (now (queued .entry)) (now (done .entry)) (now (book .entry))) ⌝ }
+        requires { ⌜ Valid self (lent (now log) (now queued) (now done) (now book) [] []) ⌝ }
+        ensures { λ r. ⌜ ((xs ys : List ℕ) → Steps self (lent (now (log .entry)) (now (queued .entry)) (now (done .entry)) (now (book .entry)) xs ys) (Call.Show h) r
+            (lent (now (log .entry)) (now (queued .entry)) (now (done .entry)) (now (book .entry)) xs ys)) ⌝ }
     {
         let n = self.count;
         if n as u64 <= h {
@@ -54,8 +55,8 @@ impl Site {
             site: self,
             reply: ReplyLine {
                 form: ReplyForm::Shows(shown),
-                first: no_numbers(),
-                second: no_numbers(),
+                first: 0,
+                second: 0,
             },
         }
     }

@@ -6,7 +6,7 @@ use mathlib.Core.List.{List, [], _∷_, _++_, append-nil}
 use lib.ListN.{length, take, drop, take-append-drop, length-drop}
 use lib.Seq.{take-all, take-length}
 use Rattle.forms.specs.Forms.{Outcome, outcomeText}
-use Rattle.forms.specs.Held.{outcomeOf}
+use Rattle.forms.specs.Held.{replied, outcomeOf}
 use Rattle.rules.specs.Log.{ended, linesFrom, restFrom}
 use Rattle.rules.specs.LineSplitLaws.{NoEnd, lines-append, lines-from-open, rest-from-open}
 use Rattle.rules.specs.Session.{Turn, turn}
@@ -130,11 +130,11 @@ module _ (s : Stream) (old : Lent) (chunk : List ℕ) (r : Fed) (new : Lent) (ou
     abbrev part : List ℕ
     part = take (e - r .used) (drop (r .used) chunk)
 
-    pub line-printable : Printable (t .reply)
+    pub line-printable : Printable (replied (t .reply) (after .first) (after .second))
     line-printable = let l = some-line (r .stream .begun) (a .valid .begun) in turns (l .line) (l .begins) .answer .printable
 
     pub along-line : (b : Begun) (n : ℕ) (next : List ℕ) → length (after .log) ≡ length (new .log) → length next ≡ length page → Begins b [] →
-        Wrote page (r .written) (ended (outcomeText (outcomeOf (t .reply)))) n next →
+        Wrote page (r .written) (ended (outcomeText (outcomeOf (replied (t .reply) (after .first) (after .second))))) n next →
         Along s old chunk (record { stream = record { session = t .session; begun = b }; used = e + 1; written = n }) after out next
     unfolding logged fed
     along-line b n next same long none w =

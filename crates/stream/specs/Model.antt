@@ -7,8 +7,10 @@ use mathlib.Core.Option.{none}
 use lib.ListN.{length, take, drop}
 use Rattle.rules.specs.Log.{linesFrom, linesOf}
 use Rattle.rules.specs.Session.{sessionIn}
-use Rattle.site.specs.Model.{Lent}
-use Rattle.session.specs.Model.{sessionView, ValidSession}
+use Rattle.site.specs.Whole.{Whole}
+use Rattle.site.specs.Model.{Lent, whole}
+use Rattle.session.specs.declared.Begun.{Begun}
+use Rattle.session.specs.Model.{sessionView, ValidOpened}
 use Rattle.session.specs.Feeding.{Progress, atStart, fed, UsableBegun, Begins}
 use Rattle.stream.specs.Logging.{logged}
 use Rattle.stream.specs.declared.Stream.{Stream}
@@ -18,9 +20,12 @@ use Rattle.stream.specs.declared.Ran.{Ran}
 -- ### The stream
 
 -- The invariant of a stream and what is lent to it.
-pub record ValidStream (s : Stream) (bytes : Lent) : Type 0 where
-  pub session : ValidSession (s .session) bytes
-  pub begun : UsableBegun (s .begun)
+pub record ValidParts (opened : Bool) (w : Whole) (log : List ℕ) (b : Begun) : Type 0 where
+  pub session : ValidOpened opened w log
+  pub begun : UsableBegun b
+
+abbrev pub ValidStream : Stream → Lent → Type 0
+ValidStream s m = ValidParts (s .session .opened) (whole (s .session .site) m) (m .log) (s .begun)
 
 -- The rule book's progress that a stream is, whose unended line is `line`, with nothing replied yet.
 abbrev pub standing : Stream → List ℕ → Lent → Progress

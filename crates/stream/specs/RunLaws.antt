@@ -10,13 +10,13 @@ use lib.Dec.{leb}
 use lib.ListN.{length, take, drop, length-append, take-append-drop}
 use lib.Seq.{take-all, length-take-le}
 use borrow.Author.Tests.{le-leb, lt-leb, leb-true, leb-false}
-use Rattle.forms.specs.Forms.{Outcome, Refused, outcomeText}
-use Rattle.forms.specs.Held.{outcomeOf}
+use Rattle.forms.specs.Forms.{Refused, outcomeText}
+use Rattle.forms.specs.Held.{outcomeWith}
 use Rattle.forms.specs.declared.Refusal.the-variants.{Unreadable}
-use Rattle.forms.specs.declared.ReplyLine.{ReplyLine}
+use Rattle.forms.specs.declared.ReplyForm.{ReplyForm}
 use Rattle.rules.specs.Log.{ended, linesOf}
 use Rattle.rules.specs.Session.{restReply, sessionIn}
-use Rattle.site.specs.Model.{Lent, Says, Printable}
+use Rattle.site.specs.Model.{Lent}
 use Rattle.session.specs.declared.Begun.{Begun}
 use Rattle.session.specs.declared.Session.{Session}
 use Rattle.session.specs.Model.{sessionView, Starts}
@@ -79,24 +79,23 @@ unfolding restReply
 refuses-some [] h = absurd (omega arith)
 refuses-some (b ∷ bs) h = refl
 
-rest-written : (out : List ℕ) (at : ℕ) (line : List ℕ) (q : ReplyLine) (r : Written) (page : List ℕ) → 0 < length line → Says q (Refused Unreadable) →
-    Writes out at (withEnd (outcomeText (outcomeOf q))) r page → Writes out at (restReply line) r page
-unfolding ended
-rest-written out at line q r page h s w =
-    subst (λ (l : List ℕ). Writes out at l r page) (sym (refuses-some line h))
-    (subst (λ (o : Outcome). Writes out at (withEnd (outcomeText o)) r page) (s .outcome) w)
+-- what the code writes for it
+abbrev refusesRest : List ℕ
+refusesRest = withEnd (outcomeText (outcomeWith (ReplyForm.Refused Unreadable) [] []))
+
+rest-written : (out : List ℕ) (at : ℕ) (line : List ℕ) (r : Written) (page : List ℕ) → 0 < length line → Writes out at refusesRest r page → Writes out at (restReply line) r page
+unfolding ended outcomeWith
+rest-written out at line r page h w = subst (λ (l : List ℕ). Writes out at l r page) (sym (refuses-some line h)) w
 
 module _ (b : Begun) (line : List ℕ) (h : Begins b line) (out : List ℕ) (at : ℕ) where
   -- "Unended rest of input: 1."
-  pub rest-over : (q : ReplyLine) (r : Written) (page : List ℕ) → b .over ≡ true → Says q (Refused Unreadable) →
-      Writes out at (withEnd (outcomeText (outcomeOf q))) r page → Writes out at (restReply line) r page
-  rest-over q r page e s w = rest-written out at line q r page (let k = over-is b line h e in omega (arith, k)) s w
+  pub rest-over : (r : Written) (page : List ℕ) → b .over ≡ true → Writes out at refusesRest r page → Writes out at (restReply line) r page
+  rest-over r page e w = rest-written out at line r page (let k = over-is b line h e in omega (arith, k)) w
 
-  pub rest-held : (q : ReplyLine) (r : Written) (page : List ℕ) → b .over ≡ false → 0 < b .len → Says q (Refused Unreadable) →
-      Writes out at (withEnd (outcomeText (outcomeOf q))) r page → Writes out at (restReply line) r page
-  rest-held q r page e lt s w =
+  pub rest-held : (r : Written) (page : List ℕ) → b .over ≡ false → 0 < b .len → Writes out at refusesRest r page → Writes out at (restReply line) r page
+  rest-held r page e lt w =
       let m : length line ≡ b .len = sym (ap length (held-is b line h e)) ∙ length-take-le (b .len) (b .bytes) (omega (arith, h .few, h .long)) in
-      rest-written out at line q r page (omega (arith, m)) s w
+      rest-written out at line r page (omega (arith, m)) w
 
   -- no rest
   nothing : b .over ≡ false → b .len ≤ 0 → line ≡ []

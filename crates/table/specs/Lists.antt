@@ -4,8 +4,7 @@ use mathlib.Core.Path.{_≡_}
 use mathlib.Core.Bool.{Bool, cond}
 use mathlib.Core.List.{List, [], _∷_}
 use lib.ListN.{length}
-use Rattle.forms.specs.Held.{numbersOf}
-use Rattle.forms.specs.declared.Numbers.{Numbers}
+use Rattle.forms.specs.Held.{numbersOf, Numbers}
 use Rattle.table.specs.declared.Found.{Found}
 use Rattle.table.specs.declared.Found.the-variants.{At, Nothing}
 

@@ -5,11 +5,10 @@ use mathlib.Core.Path.{_≡_, refl, sym, ap, subst, _∙_}
 use mathlib.Core.Bool.{Bool, true, false, _&&_}
 use mathlib.Core.List.{List, [], _∷_, _++_, append-nil}
 use mathlib.Core.List.{List·Memᴰ as Mem, List·Memᴰ·not-nil}
-use lib.ListN.{length, getD, take, drop, set, replicate, length-set}
+use lib.ListN.{length, getD, take, drop, set, length-set}
 use lib.Seq.{length-take-le, split-at}
 use Rattle.forms.specs.Lists.{keep, below}
-use Rattle.forms.specs.Held.{numbersOf}
-use Rattle.forms.specs.declared.Numbers.{Numbers}
+use Rattle.forms.specs.Held.{numbersOf, listed, Numbers}
 use Rattle.forms.specs.ListLaws.{mem-along, mem-widen}
 use Rattle.history.specs.declared.Entry.{Entry}
 use Rattle.history.specs.Entries.{UsableEntry}
@@ -32,9 +31,9 @@ number-pushed ns x l h = record {
 pub numbers-next : (ns r : Numbers) (x : ℕ) (l k : List ℕ) → IsNumbers ns l → IsNumbers r (numbersOf ns ++ (x ∷ [])) → k ≡ l ++ (x ∷ []) → IsNumbers r k
 numbers-next ns r x l k a b e = record { few = b .few; long = b .long; list = b .list ∙ ap (λ (z : List ℕ). z ++ (x ∷ [])) (a .list) ∙ sym e }
 
-pub no-numbers : IsNumbers (record { count = 0; values = replicate 64 0 }) []
+pub no-numbers : (ws : List ℕ) → length ws ≡ 64 → IsNumbers (listed 0 ws) []
 unfolding numbersOf
-no-numbers = record { few = omega arith; long = refl; list = refl }
+no-numbers ws l = record { few = omega arith; long = l; list = take-none 0 ws refl }
 
 -- the numbers below h that pass a test
 pub record Kept (p : ℕ → Bool) (h : ℕ) (ns : Numbers) : Type 0 where
@@ -59,9 +58,9 @@ kept-no p ns next h a f e =
 pub and-no : (a b : Bool) → a ≡ false → (a && b) ≡ false
 and-no a b e = ap (λ (t : Bool). t && b) e
 
-pub kept-none : (p : ℕ → Bool) → Kept p 0 (record { count = 0; values = replicate 64 0 })
+pub kept-none : (p : ℕ → Bool) (ws : List ℕ) → length ws ≡ 64 → Kept p 0 (listed 0 ws)
 unfolding below
-kept-none p = record { few = omega arith; is = no-numbers }
+kept-none p ws l = record { few = omega arith; is = no-numbers ws l }
 
 -- ### Queues
 

@@ -11,7 +11,7 @@ use Rattle.rules.specs.Rules.{strong}
 use Rattle.rules.specs.Book.{Cell}
 use Rattle.rules.specs.State.{Operation}
 use Rattle.rules.specs.Calls.{blocked, madeReady}
-use Rattle.forms.specs.declared.Numbers.{Numbers}
+use Rattle.forms.specs.Held.{Numbers}
 use Rattle.history.specs.declared.Entry.{Entry}
 use Rattle.history.specs.Entries.{operationOf, mayRunIn}
 use Rattle.table.specs.declared.Marks.{Marks}

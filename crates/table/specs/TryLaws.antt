@@ -11,9 +11,8 @@ use lib.ListN.{length, getD, take, drop, set, length-set, length-map, length-tak
 use lib.Seq.{split-at, set-split, set-getD, drop-cons, drop-drop, drop-set-lt, getD-drop, getD-take, take-all, take-set-lt, length-take-le}
 use Rattle.forms.specs.Lists.{any, all}
 use Rattle.forms.specs.ListLaws.{mem-at}
-use Rattle.forms.specs.Held.{numbersOf}
+use Rattle.forms.specs.Held.{numbersOf, Numbers}
 use Rattle.forms.specs.Forms.{Update, Did}
-use Rattle.forms.specs.declared.Numbers.{Numbers}
 use Rattle.rules.specs.Rules.{mayRun}
 use Rattle.rules.specs.Book.{Cell, cell}
 use Rattle.rules.specs.State.{Operation}

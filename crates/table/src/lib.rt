@@ -6,7 +6,7 @@ ghost use mathlib.Core.List.{List, [], _∷_, _++_, map};
 ghost use Prim.Native.Nat.{ℕ, suc, _+_, _-_, _≤_, _<_};
 ghost use lib.ListN.{length, take, drop, getD, set};
 ghost use Rattle.forms.specs.Lists.{any, all, keep, below};
-ghost use Rattle.forms.specs.Held.{numbersOf};
+ghost use Rattle.forms.specs.Held.{numbersOf, listed};
 ghost use Rattle.rules.specs.State.{asks};
 ghost use Rattle.history.specs.Entries.{UsableEntry, UsableItem, cellsOf, canRunIn, didOfEntry, operationOf, itemUpdate};
 ghost use Rattle.history.specs.Words.{historiesIn};
@@ -16,11 +16,12 @@ ghost use Rattle.table.specs.Dones.{doneOf, UsableDone, UsableDones, IsD
 ghost use Rattle.table.specs.Tries.{updatesOf, heldOf, gather, Marked, More, freeBy, readyBy, startsBy, operationsOf, Tries};
 ghost use Rattle.table.specs.Slots.{stored, storedDone, entriesIn};
 ghost use Rattle.table.specs.Queues.{queueOf, UsableQueue, IsQueue, hasId, isEntry, idOf, pastEntry, canRunEntry};
-use forms::Numbers;
+use forms::ListWords;
 use history::DoneEntry;
 use history::Entry;
 use history::Item;
 use history::book::BookWords;
+use history::book::counted;
 use history::book::history_at;
 use history::is_next;
 use history::is_strong;
@@ -61,18 +62,15 @@ pub enum Found {
     Nothing,
 }
 
-// The numbers with one more. The caller sees to it that there is room.
-pub fn push_number(ns: Numbers, x: u64) -> Numbers
-    requires { ⌜ length (ns .values) ≡ 64 ⌝ }
-    requires { ⌜ ns .count < 64 ⌝ }
-    ensures { λ r. ⌜ IsNumbers r (numbersOf ns ++ (x ∷ [])) ⌝ }
-    ensures { λ r. ⌜ r .count ≡ ns .count + 1 ⌝ }
+// One number more behind the first n of a list. The caller sees to it that there is room.
+pub fn push_number(list: &mut ListWords, n: usize, x: u64) -> usize
+    requires { ⌜ n < 64 ⌝ }
+    ensures { λ r. ⌜ IsNumbers (listed r (now (list .exit))) (numbersOf (listed n (now (list .entry))) ++ (x ∷ [])) ⌝ }
+    ensures { λ r. ⌜ r ≡ n + 1 ⌝ }
 {
-    let at = ns.count;
-    let mut next = ns;
-    next.values[at] = x;
-    next.count = at + 1;
-    next
+    counted(list);
+    list[n] = x;
+    n + 1
 }
 
 // Whether the entry at `i` has this id, and is in progress (or future, as asked).
@@ -266,22 +264,20 @@ impl Queue {
         Found::Nothing
     }
 
-    // The ids of the entries, in their order.
-    pub fn ids(self, words: &QueueWords) -> Numbers
+    // The ids of the entries, in their order, as a list; how many they are.
+    pub fn ids(self, words: &QueueWords, list: &mut ListWords) -> usize
         requires { ⌜ UsableQueue (stored self (now words)) ⌝ }
-        ensures { λ r. ⌜ IsNumbers r (map idOf (queueOf (stored self (now (words .entry))))) ⌝ }
+        ensures { λ r. ⌜ IsNumbers (listed r (now (list .exit))) (map idOf (queueOf (stored self (now (words .entry))))) ⌝ }
     {
+        counted(list);
         let n = self.count;
-        let mut ns = Numbers {
-            count: 0,
-            values: [0; 64],
-        };
+        let mut count: usize = 0;
         let mut i = 0;
         while i < n {
-            ns = push_number(ns, id_at(words, i));
+            count = push_number(list, count, id_at(words, i));
             i += 1;
         }
-        ns
+        count
     }
 
     // Which histories the entries' updates are in.
@@ -338,24 +334,22 @@ impl Queue {
         Found::Nothing
     }
 
-    // One pass over the future operations: each is examined once, oldest first. The answer has the ids made ready.
-    pub fn try_all(self, words: &mut QueueWords, book: &BookWords) -> Numbers
+    // One pass over the future operations: each is examined once, oldest first. The list has the ids made ready; how many they are.
+    pub fn try_all(self, words: &mut QueueWords, book: &BookWords, list: &mut ListWords) -> usize
         requires { ⌜ UsableQueue (stored self (now words)) ⌝ }
-        ensures { λ r. ⌜ Tries (cellsOf (historiesIn (now (book .entry)))) (queueOf (stored self (now (words .entry)))) (stored self (now (words .exit))) r ⌝ }
+        ensures { λ r. ⌜ Tries (cellsOf (historiesIn (now (book .entry)))) (queueOf (stored self (now (words .entry)))) (stored self (now (words .exit))) (listed r (now (list .exit))) ⌝ }
     {
+        counted(list);
         let n = self.count;
         let mut m = self.marks(words);
-        let mut ready = Numbers {
-            count: 0,
-            values: [0; 64],
-        };
+        let mut ready: usize = 0;
         let mut i = 0;
         while i < n {
             let e = entry_at(words, i);
             if may_start(book, m, e) {
                 m = marked(m, e);
                 start_entry(words, i);
-                ready = push_number(ready, e.id);
+                ready = push_number(list, ready, e.id);
             }
             i += 1;
         }
@@ -395,42 +389,38 @@ pub fn stamp(versions: [u64; 16], e: DoneEntry) -> [u64; 16]
     r
 }
 
-// The histories below `n` whose version is greater after than before, rising.
-pub fn rose(before: [u64; 16], after: [u64; 16], n: usize) -> Numbers
+// The histories below `n` whose version is greater after than before, rising, as a list; how many they are.
+pub fn rose(before: [u64; 16], after: [u64; 16], n: usize, list: &mut ListWords) -> usize
     requires { ⌜ n ≤ 16 ⌝ }
-    ensures { λ r. ⌜ IsNumbers r (keep (rises before after) (below n)) ⌝ }
+    ensures { λ r. ⌜ IsNumbers (listed r (now (list .exit))) (keep (rises before after) (below n)) ⌝ }
 {
-    let mut ns = Numbers {
-        count: 0,
-        values: [0; 64],
-    };
+    counted(list);
+    let mut count: usize = 0;
     let mut h = 0;
     while h < n {
         if before[h] < after[h] {
-            ns = push_number(ns, h as u64);
+            count = push_number(list, count, h as u64);
         }
         h += 1;
     }
-    ns
+    count
 }
 
-// The histories below `n` that are marked before and not after, rising.
-pub fn became_dry(before: [bool; 16], after: [bool; 16], n: usize) -> Numbers
+// The histories below `n` that are marked before and not after, rising, as a list; how many they are.
+pub fn became_dry(before: [bool; 16], after: [bool; 16], n: usize, list: &mut ListWords) -> usize
     requires { ⌜ n ≤ 16 ⌝ }
-    ensures { λ r. ⌜ IsNumbers r (keep (ceases before after) (below n)) ⌝ }
+    ensures { λ r. ⌜ IsNumbers (listed r (now (list .exit))) (keep (ceases before after) (below n)) ⌝ }
 {
-    let mut ns = Numbers {
-        count: 0,
-        values: [0; 64],
-    };
+    counted(list);
+    let mut count: usize = 0;
     let mut h = 0;
     while h < n {
         if before[h] && !after[h] {
-            ns = push_number(ns, h as u64);
+            count = push_number(list, count, h as u64);
         }
         h += 1;
     }
-    ns
+    count
 }
 
 impl DoneList {

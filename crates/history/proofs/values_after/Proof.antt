@@ -1,5 +1,6 @@
 use denote.Ref.{now}
-use mathlib.Core.Path.{refl}
+use mathlib.Core.Path.{_≡_}
+use lib.ListN.{length}
 use Rattle.history.specs.Entries.{cellsOf}
 use Rattle.history.specs.EntryLaws.{values-held}
 use Rattle.history.specs.Words.{historiesIn}
@@ -10,55 +11,51 @@ use Rattle.history.proofs.values_after.Reads as reads
 use Rattle.history.proofs.values_after.Lts as lts
 use Rattle.history.proofs.profile_at.Reads as profile-at-reads
 
--- src/lib.rt:473:17
+counted-requires : tie.Need-counted-requires
+counted-requires c κs = search needs
+
 profile-at-requires : tie.Need-profile-at-requires
 profile-at-requires c κs = search needs
 
--- src/lib.rt:473:5
-array-write-values : tie.Need-array-write-values
-array-write-values c = search needs
+element-write-list : tie.Need-element-write-list
+element-write-list c = search needs
 
--- src/lib.rt:474:17
 profile-at-requires-2 : tie.Need-profile-at-requires-2
 profile-at-requires-2 c κs = search needs
 
--- src/lib.rt:474:5
-array-write-values-2 : tie.Need-array-write-values-2
-array-write-values-2 c = search needs
+element-write-list-2 : tie.Need-element-write-list-2
+element-write-list-2 c = search needs
 
--- src/lib.rt:475:17
 profile-at-requires-3 : tie.Need-profile-at-requires-3
 profile-at-requires-3 c κs = search needs
 
--- src/lib.rt:475:5
-array-write-values-3 : tie.Need-array-write-values-3
-array-write-values-3 c = search needs
+element-write-list-3 : tie.Need-element-write-list-3
+element-write-list-3 c = search needs
 
--- src/lib.rt:476:17
 profile-at-requires-4 : tie.Need-profile-at-requires-4
 profile-at-requires-4 c κs = search needs
 
--- src/lib.rt:476:5
-array-write-values-4 : tie.Need-array-write-values-4
-array-write-values-4 c = search needs
+element-write-list-4 : tie.Need-element-write-list-4
+element-write-list-4 c = search needs
 
--- src/lib.rt:468:1
 returns : tie.Need-returns
 returns c =
-    values-held (c .before .before .before .before .args .e) (c .before .before .before .before .pre)
-    (cellsOf (historiesIn (now (c .before .before .before .before .args .book)))) _ refl
+    let s = c .before .before .before .before .before .before .before in
+    let long : length (now (s .args .list)) ≡ 64 = search needs in
+    values-held (s .args .e) (s .pre) (cellsOf (historiesIn (now (s .args .book)))) (now (s .args .list)) long
     (c .before .before .before .profile-at .ensures) (c .before .before .profile-at2 .ensures) (c .before .profile-at3 .ensures) (c .profile-at4 .ensures)
 
 pub values-after-spec : {M : Type 1} → statement M
 values-after-spec =
     tie.close
     (tie.spec
+    counted-requires
     profile-at-requires
-    array-write-values
+    element-write-list
     profile-at-requires-2
-    array-write-values-2
+    element-write-list-2
     profile-at-requires-3
-    array-write-values-3
+    element-write-list-3
     profile-at-requires-4
-    array-write-values-4
+    element-write-list-4
     returns)

@@ -13,7 +13,7 @@ use Rattle.io.proofs.write_all.Reads as write-all-reads
 use Rattle.stream.proofs.Stream.finish.Reads as finish-reads
 
 finish-requires : tie.Need-finish-requires
-finish-requires c κs = (c .before .before .pre)
+finish-requires c κs = c .before .before .pre
 
 enum-known-n : tie.Need-enum-known-n
 enum-known-n c = search needs

@@ -14,9 +14,9 @@ use Rattle.stream.proofs.Stream.feed.Reads as feed-reads
 use Rattle.stream.proofs.Stream.finish.Reads as finish-reads
 use Rattle.stream.proofs.Stream.start.Reads as start-reads
 
--- what is lent at first: the log buffer and three tables of zeros
+-- what is lent at first: the log buffer and tables of zeros
 abbrev blank : List ℕ → Lent
-blank log = lent log (replicate 1472 0) (replicate 640 0) (replicate 80 0)
+blank log = lent log (replicate 1472 0) (replicate 640 0) (replicate 80 0) (replicate 64 0) (replicate 64 0)
 
 -- src/lib.rt:222:9
 start-requires : tie.Need-start-requires
@@ -25,8 +25,8 @@ start-requires c κs = search needs
 -- src/lib.rt:223:9
 feed-requires : tie.Need-feed-requires
 feed-requires c κs =
-    let a = c .before .before .before .before .before .before .before .before .before .args in
-    c .before .before .before .before .before .start .ensures (blank (now (a .log))) .valid
+    let a = c .before .before .before .before .before .before .before .before .before .before .before .args in
+    c .before .before .before .before .before .before .before .start .ensures (blank (now (a .log))) .valid
 
 -- src/lib.rt:228:9
 same-length : tie.Need-same-length
@@ -41,10 +41,10 @@ returns : tie.Need-returns
 returns c =
     let fed = c .before .before .before .before .before .before in
     let f = fed .feed in
-    let s = fed .before .before .before .before .before .before .start in
-    let a = fed .before .before .before .before .before .before .before .before .before .before .args in
+    let s = fed .before .before .before .before .before .before .before .before .start in
+    let a = fed .before .before .before .before .before .before .before .before .before .before .before .before .args in
     let old = blank (now (a .log)) in
-    let new = lent (f .last .1 .0) (f .last .1 .1 .0) (f .last .1 .1 .1 .0) (f .last .1 .1 .1 .1 .0) in
+    let new = lent (f .last .1 .0) (f .last .1 .1 .0) (f .last .1 .1 .1 .0) (f .last .1 .1 .1 .1 .0) (f .last .1 .1 .1 .1 .1 .0) (f .last .1 .1 .1 .1 .1 .1 .0) in
     run-stops (now (a .input)) old (s .result) (f .result) new (now (a .out)) _ (s .ensures old) (f .ensures) (c .if1 .taken)
 
 -- src/lib.rt:234:11
@@ -72,10 +72,10 @@ returns-2 : tie.Need-returns-2
 returns-2 c =
     let fed = c .before .before .before .before .before .before .before .before .before .before .before .before .before in
     let f = fed .feed in
-    let s = fed .before .before .before .before .before .before .start in
-    let a = fed .before .before .before .before .before .before .before .before .before .before .args in
+    let s = fed .before .before .before .before .before .before .before .before .start in
+    let a = fed .before .before .before .before .before .before .before .before .before .before .before .before .args in
     let old = blank (now (a .log)) in
-    let new = lent (f .last .1 .0) (f .last .1 .1 .0) (f .last .1 .1 .1 .0) (f .last .1 .1 .1 .1 .0) in
+    let new = lent (f .last .1 .0) (f .last .1 .1 .0) (f .last .1 .1 .1 .0) (f .last .1 .1 .1 .1 .0) (f .last .1 .1 .1 .1 .1 .0) (f .last .1 .1 .1 .1 .1 .1 .0) in
     let all = c .before .before .before .before .before .before .before .if1 .left in
     let z = c .before .before .before .before .before .finish in
     run-whole (now (a .input)) old (s .result) (f .result) new (now (a .out)) _ (s .ensures old) (f .ensures)
@@ -93,11 +93,11 @@ same-length-6 c = search needs
 returns-3 : tie.Need-returns-3
 returns-3 c =
     let f = c .before .before .before .before .before .before .before .before .before .before .before .before .feed in
-    let a = c .before .before .before .before .before .before .before .before .before .before .before .before .before .before .before .before .before .before .before .before .before .before .args in
-    let long : length (f .last .1 .1 .1 .1 .1 .1 .0) ≡ length (now (a .out)) = search needs in
-    let s = c .before .before .before .before .before .before .before .before .before .before .before .before .before .before .before .before .before .before .start in
+    let a = c .before .before .before .before .before .before .before .before .before .before .before .before .before .before .before .before .before .before .before .before .before .before .before .before .args in
+    let long : length (f .last .1 .1 .1 .1 .1 .1 .1 .1 .0) ≡ length (now (a .out)) = search needs in
+    let s = c .before .before .before .before .before .before .before .before .before .before .before .before .before .before .before .before .before .before .before .before .start in
     let old = blank (now (a .log)) in
-    let new = lent (f .last .1 .0) (f .last .1 .1 .0) (f .last .1 .1 .1 .0) (f .last .1 .1 .1 .1 .0) in
+    let new = lent (f .last .1 .0) (f .last .1 .1 .0) (f .last .1 .1 .1 .0) (f .last .1 .1 .1 .1 .0) (f .last .1 .1 .1 .1 .1 .0) (f .last .1 .1 .1 .1 .1 .1 .0) in
     let all = c .before .before .before .before .before .before .if1 .left in
     let z = c .before .before .before .before .finish in
     run-short (now (a .input)) old (s .result) (f .result) new (now (a .out)) _ (s .ensures old) (f .ensures)

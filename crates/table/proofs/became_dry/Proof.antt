@@ -1,22 +1,32 @@
+use denote.Ref.{now}
+use borrow.Author.Needs.{needs}
 use Prim.Native.Nat.{ℕ, _≤_, _-_, _+_}
 use native.Mathlib.Omega.{arith}
 use mathlib.Core.Path.{_≡_, ap, ap₂, refl}
 use mathlib.Core.Logic.{⊎-elim}
 use mathlib.Core.Bool.{Bool, _&&_}
+use lib.ListN.{length}
 use borrow.Author.Tests.{lt-ltb, le-ltb}
+use Rattle.forms.specs.Held.{listed}
 use Rattle.table.specs.Arrays.{ceases}
 use Rattle.table.specs.QueueLaws.{Kept, kept-none, kept-yes, kept-no, and-no}
 use Rattle.table.proofs.became_dry.Statement.{statement}
 use Rattle.table.proofs.became_dry.Tie as tie
 
 abbrev Inv-loop : tie.InvT-loop
-Inv-loop n before after ns₀ h₀ ns h = (h ≤ n) × (n ≤ 16) × Kept (ceases before after) h ns
+Inv-loop n list₀ before after count₀ h₀ list count h = (h ≤ n) × (n ≤ 16) × Kept (ceases before after) h (listed count list)
 
 abbrev μ-loop : tie.MeasureT-loop
-μ-loop n before after ns₀ h₀ ns h = n - h
+μ-loop n list₀ before after count₀ h₀ list count h = n - h
+
+counted-requires : tie.Need-counted-requires Inv-loop μ-loop
+counted-requires c κs = search needs
 
 loop-holds : tie.Need-loop-holds Inv-loop μ-loop
-loop-holds c = (omega arith, c .pre, kept-none _)
+loop-holds c =
+    let e = c .before .before .before in
+    let long : length (now (e .args .list)) ≡ 64 = search needs in
+    (omega arith, e .pre, kept-none _ (now (e .args .list)) long)
 
 array-read-if1 : tie.Need-array-read-if1 Inv-loop μ-loop
 array-read-if1 c = omega arith
@@ -25,7 +35,7 @@ array-read-if2 : tie.Need-array-read-if2 Inv-loop μ-loop
 array-read-if2 c = omega arith
 
 push-number-requires : tie.Need-push-number-requires Inv-loop μ-loop
-push-number-requires c κs = let l = c .before .before .before .loop in (l .inv .2 .is .long, omega (arith, l .inv .2 .few))
+push-number-requires c κs = omega (arith, c .before .before .before .before .loop .inv .2 .few)
 
 add-h : tie.Need-add-h Inv-loop μ-loop
 add-h c = omega arith
@@ -36,21 +46,22 @@ loop-less c = omega arith
 loop-again : tie.Need-loop-again Inv-loop μ-loop
 loop-again c =
     let l = c .before .before .loop in
-    let test = ceases (c .before .before .before .args .t1) (c .before .before .before .args .t2) in (
+    let ns = listed (l .count) (l .list) in
+    let test = ceases (c .before .before .before .before .before .before .args .t1) (c .before .before .before .before .before .before .args .t2) in (
       omega arith,
       l .inv .1,
       ⊎-elim
-          (λ w. kept-yes test (l .ns) (w .2 .result) _ (l .h) (l .inv .2) (w .2 .ensures) (w .3) (ap₂ _&&_ (w .0 .taken) (w .1 .taken)))
+          (λ w. kept-yes test ns _ _ (l .h) (l .inv .2) (w .3 .ensures) (ap₂ listed (w .5) (w .4)) (ap₂ _&&_ (w .0 .taken) (w .1 .taken)))
           (λ w. ⊎-elim
-          (λ v. kept-no test (l .ns) _ (l .h) (l .inv .2) (w .1) (ap₂ _&&_ (v .0 .taken) (v .1 .left)))
-          (λ v. kept-no test (l .ns) _ (l .h) (l .inv .2) (w .1) (and-no _ _ (v .left)))
+          (λ v. kept-no test ns _ (l .h) (l .inv .2) (ap₂ listed (w .2) (w .1)) (ap₂ _&&_ (v .0 .taken) (v .1 .left)))
+          (λ v. kept-no test ns _ (l .h) (l .inv .2) (ap₂ listed (w .2) (w .1)) (and-no _ _ (v .left)))
           (w .0 .came))
           (c .if1 .came),
     )
 
 returns : tie.Need-returns Inv-loop μ-loop
 returns c =
-    let e : c .before .loop .h ≡ c .before .before .args .n = omega arith in
+    let e : c .before .loop .h ≡ c .before .before .before .before .before .args .n = omega arith in
     (rw e at (c .before .loop .inv .2)) .is
 
 pub became-dry-spec : {M : Type 1} → statement M
@@ -59,6 +70,7 @@ became-dry-spec =
     (tie.spec
     Inv-loop
     μ-loop
+    counted-requires
     loop-holds
     array-read-if1
     array-read-if2

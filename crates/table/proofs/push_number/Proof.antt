@@ -1,20 +1,29 @@
+use denote.Ref.{now}
 use borrow.Author.Needs.{needs}
-use mathlib.Core.Path.{refl}
+use mathlib.Core.Path.{_≡_, refl}
+use lib.ListN.{length}
+use Rattle.forms.specs.Held.{listed}
 use Rattle.table.specs.QueueLaws.{number-pushed}
 use Rattle.table.proofs.push_number.Statement.{statement}
 use Rattle.table.proofs.push_number.Tie as tie
 
-mul-next : tie.Need-mul-next
-mul-next c = search needs
+counted-requires : tie.Need-counted-requires
+counted-requires c κs = search needs
 
-element-write-next : tie.Need-element-write-next
-element-write-next c = search needs
+mul-list : tie.Need-mul-list
+mul-list c = search needs
 
-add-next : tie.Need-add-next
-add-next c = search needs
+element-write-list : tie.Need-element-write-list
+element-write-list c = search needs
+
+add-result : tie.Need-add-result
+add-result c = search needs
 
 returns : tie.Need-returns
-returns c = (number-pushed (c .args .ns) (c .args .x) (c .pre .0) (c .pre .1), refl)
+returns c =
+    let e = c .before .before .before in
+    let long : length (now (e .args .list)) ≡ 64 = search needs in
+    (number-pushed (listed (e .args .n) (now (e .args .list))) (e .args .x) long (e .pre), refl)
 
 pub push-number-spec : {M : Type 1} → statement M
-push-number-spec = tie.close (tie.spec mul-next element-write-next add-next returns)
+push-number-spec = tie.close (tie.spec counted-requires mul-list element-write-list add-result returns)

@@ -2,11 +2,12 @@ use denote.Ref.{now}
 use Prim.Native.Nat.{ℕ}
 use mathlib.Core.List.{List, []}
 use lib.ListN.{replicate}
+use native.Mathlib.Omega.{arith}
 use borrow.Author.Needs.{needs}
 use Rattle.rules.specs.Calls.{restart}
 use Rattle.site.specs.Model.{lent}
 use Rattle.site.specs.OpenLaws.{blankSite}
-use Rattle.boundary.specs.RestartLaws.{does-prints, puts-reply}
+use Rattle.boundary.specs.RestartLaws.{puts-reply}
 use Rattle.boundary.proofs.restart.site_restart.Statement.{statement}
 use Rattle.boundary.proofs.restart.site_restart.Tie as tie
 use Rattle.boundary.proofs.restart.site_restart.Reads as reads
@@ -23,15 +24,19 @@ bs = replicate 80 0
 restart-requires : tie.Need-restart-requires
 restart-requires c κs = search needs
 
--- src/restart.rt:28:9
-write-reply-requires : tie.Need-write-reply-requires
-write-reply-requires c κs =
-    let e = c .before .before .before .before .before .before in
-    let bytes = now (e .args .log) in
-    let r = c .before .before .restart in
-    does-prints blankSite (lent bytes [] [] bs) (restart bytes (e .args .k)) (r .result) (lent bytes [] [] (r .last .1 .0)) (r .ensures [] [])
+-- src/restart.rt:29:9
+slice-aggregate-write-reply : tie.Need-slice-aggregate-write-reply
+slice-aggregate-write-reply c = search needs
 
--- src/restart.rt:29:5
+-- src/restart.rt:29:9
+slice-aggregate-write-reply-2 : tie.Need-slice-aggregate-write-reply-2
+slice-aggregate-write-reply-2 c = search needs
+
+-- src/restart.rt:29:9
+write-reply-requires : tie.Need-write-reply-requires
+write-reply-requires c κs = (omega arith, omega arith)
+
+-- src/restart.rt:30:5
 code-requires : tie.Need-code-requires
 code-requires c κs = search needs
 
@@ -42,13 +47,13 @@ same-length c = search needs
 -- src/restart.rt:21:1
 returns : tie.Need-returns
 returns c =
-    let e = c .before .before .before .before .before .before .before .before .before .before in
+    let e = c .before .before .before .before .before .before .before .before .before .before .before .before in
     let bytes = now (e .args .log) in
-    let r = c .before .before .before .before .before .before .restart in
+    let r = c .before .before .before .before .before .before .before .before .restart in
     let w = c .before .before .before .write-reply in
-    puts-reply blankSite (lent bytes [] [] bs) (restart bytes (e .args .k)) (r .result) (lent bytes [] [] (r .last .1 .0)) (now (e .args .out)) (w .last .0)
-    (w .result) (c .code .result) (r .ensures [] []) (w .ensures) (c .code .ensures)
+    puts-reply blankSite (lent bytes [] [] bs [] []) (restart bytes (e .args .k)) (r .result) bytes (r .last .1 .0) (now (e .args .out)) (w .last .0)
+    (w .result) (c .code .result) (r .ensures [] [] [] []) (w .ensures .0) (c .code .ensures)
 
 pub site-restart-spec : {M : Type 1} → statement M
 site-restart-spec =
-    tie.close (tie.spec restart-requires write-reply-requires code-requires same-length returns)
+    tie.close (tie.spec restart-requires slice-aggregate-write-reply slice-aggregate-write-reply-2 write-reply-requires code-requires same-length returns)

@@ -7,7 +7,7 @@ use Rattle.boundary.proofs.rounds.asked_inc.Tie as tie
 use Rattle.boundary.proofs.rounds.asked_inc.Reads as reads
 use Rattle.boundary.proofs.rounds.asked_inc.Lts as lts
 
--- src/rounds.rt:20:1
+-- src/rounds.rt:21:1
 returns : tie.Need-returns
 returns c =
     let a = asAsked (incOf (c .args .history) (c .args .version)) in

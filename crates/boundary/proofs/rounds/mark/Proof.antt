@@ -9,29 +9,30 @@ use Rattle.boundary.proofs.rounds.mark.Lts as lts
 use Rattle.site.proofs.Site.persistent.Reads as persistent-reads
 use Rattle.site.proofs.Site.stable.Reads as stable-reads
 
--- src/rounds.rt:68:9
+-- src/rounds.rt:73:9
 persistent-requires : tie.Need-persistent-requires
-persistent-requires c κs = c .before .before .before .pre
+persistent-requires c κs = c .before .before .before .before .before .pre
 
--- src/rounds.rt:70:9
+-- src/rounds.rt:75:9
 stable-requires : tie.Need-stable-requires
 stable-requires c κs =
-    let e = c .before .before .before .before .before .before .before in
-    let m = lent (now (e .args .log)) (now (e .args .queued)) (now (e .args .done)) (now (e .args .book)) in
-    let p = c .before .before .before .persistent in
-    let mid = lent (now (e .args .log)) (now (e .args .queued)) (now (e .args .done)) (p .last .1 .1 .1 .1 .0) in
+    let e = c .before .before .before .before .before .before .before .before .before .before in
+    let m = lent (now (e .args .log)) (now (e .args .queued)) (now (e .args .done)) (now (e .args .book)) (now (e .args .first)) (now (e .args .second)) in
+    let p = c .before .before .before .before .persistent in
+    let mid = lent (now (e .args .log)) (now (e .args .queued)) (now (e .args .done)) (p .last .1 .1 .1 .1 .0) (p .last .1 .1 .1 .1 .1 .0) (p .last .1 .1 .1 .1 .1 .1 .0) in
     let valid = call-reaches (e .args .site) m (Call.Persistent (e .args .n)) (p .result) mid (e .pre) (p .ensures) .valid in
     valid
 
--- src/rounds.rt:56:1
+-- src/rounds.rt:59:1
 returns : tie.Need-returns
 returns c =
-    let e = c .before .before .before .before .before .before .before .before .before in
-    let m = lent (now (e .args .log)) (now (e .args .queued)) (now (e .args .done)) (now (e .args .book)) in
-    let p = c .before .before .before .before .before .persistent in
-    let mid = lent (now (e .args .log)) (now (e .args .queued)) (now (e .args .done)) (p .last .1 .1 .1 .1 .0) in
+    let e = c .before .before .before .before .before .before .before .before .before .before .before .before in
+    let m = lent (now (e .args .log)) (now (e .args .queued)) (now (e .args .done)) (now (e .args .book)) (now (e .args .first)) (now (e .args .second)) in
+    let p = c .before .before .before .before .before .before .persistent in
+    let mid = lent (now (e .args .log)) (now (e .args .queued)) (now (e .args .done)) (p .last .1 .1 .1 .1 .0) (p .last .1 .1 .1 .1 .1 .0) (p .last .1 .1 .1 .1 .1 .1 .0) in
     let s = c .before .stable in
-    two-reach (e .args .site) m (Call.Persistent (e .args .n)) (p .result) mid (Call.Stable (e .args .n)) (s .result) _ (e .pre) (p .ensures) (s .ensures)
+    two-reach (e .args .site) m (Call.Persistent (e .args .n)) (p .result) mid (Call.Stable (e .args .n)) (s .result)
+    (lent (now (e .args .log)) (now (e .args .queued)) (s .last .1 .1 .1 .0) (s .last .1 .1 .1 .1 .0) (s .last .1 .1 .1 .1 .1 .0) (p .last .1 .1 .1 .1 .1 .1 .0)) (e .pre) (p .ensures) (s .ensures (p .last .1 .1 .1 .1 .1 .1 .0))
 
 pub mark-spec : {M : Type 1} → statement M
 mark-spec = tie.close (tie.spec persistent-requires stable-requires returns)

@@ -12,44 +12,45 @@ use Rattle.boundary.proofs.rounds.asked_inc.Reads as asked-inc-reads
 use Rattle.site.proofs.Site.add.Reads as add-reads
 use Rattle.site.proofs.Site.finish.Reads as finish-reads
 
--- src/rounds.rt:48:35
+-- src/rounds.rt:51:35
 add-asked-inc : tie.Need-add-asked-inc
 add-asked-inc c = search needs
 
--- src/rounds.rt:48:9
+-- src/rounds.rt:51:9
 asked-inc-requires : tie.Need-asked-inc-requires
 asked-inc-requires c κs = search needs
 
--- src/rounds.rt:49:9
+-- src/rounds.rt:52:9
 add-requires : tie.Need-add-requires
-add-requires c κs = c .before .before .before .before .before .before .pre
+add-requires c κs = c .before .before .before .before .before .before .before .pre
 
--- src/rounds.rt:51:9
+-- src/rounds.rt:54:9
 finish-requires : tie.Need-finish-requires
 finish-requires c κs =
-    let e = c .before .before .before .before .before .before .before .before .before .before .before .before in
-    let asked = c .before .before .before .before .before .before .before .before .before .before .asked-inc in
-    let add = c .before .before .before .before .before .add in
-    let m = lent (now (e .args .log)) (now (e .args .queued)) (now (e .args .done)) (now (e .args .book)) in
-    let mid = lent (now (e .args .log)) (add .last .1 .1 .0) (now (e .args .done)) (now (e .args .book)) in
-    let valid = call-reaches (e .args .site) m (Call.Add (e .args .id) (updatesHeld (asked .result))) (add .result) mid (e .pre) (add .ensures) .valid in
+    let e = c .before .before .before .before .before .before .before .before .before .before .before .before .before .before .before in
+    let asked = c .before .before .before .before .before .before .before .before .before .before .before .before .before .asked-inc in
+    let add = c .before .before .before .before .before .before .before .add in
+    let m = lent (now (e .args .log)) (now (e .args .queued)) (now (e .args .done)) (now (e .args .book)) (now (e .args .first)) (now (e .args .second)) in
+    let mid = lent (now (e .args .log)) (add .last .1 .1 .0) (now (e .args .done)) (now (e .args .book)) (add .last .1 .1 .1 .1 .1 .0) (now (e .args .second)) in
+    let valid = call-reaches (e .args .site) m (Call.Add (e .args .id) (updatesHeld (asked .result))) (add .result) mid (e .pre) (add .ensures (now (e .args .second))) .valid in
     valid
 
--- src/rounds.rt:36:1
+-- src/rounds.rt:37:1
 same-length : tie.Need-same-length
 same-length c = search needs
 
--- src/rounds.rt:36:1
+-- src/rounds.rt:37:1
 returns : tie.Need-returns
 returns c =
-    let e = c .before .before .before .before .before .before .before .before .before .before .before .before .before .before .before .before in
-    let asked = c .before .before .before .before .before .before .before .before .before .before .before .before .before .before .asked-inc in
-    let add = c .before .before .before .before .before .before .before .before .before .add in
+    let e = c .before .before .before .before .before .before .before .before .before .before .before .before .before .before .before .before .before .before .before in
+    let asked = c .before .before .before .before .before .before .before .before .before .before .before .before .before .before .before .before .before .asked-inc in
+    let add = c .before .before .before .before .before .before .before .before .before .before .before .add in
     let finish = c .before .before .before .finish in
-    let m = lent (now (e .args .log)) (now (e .args .queued)) (now (e .args .done)) (now (e .args .book)) in
-    let mid = lent (now (e .args .log)) (add .last .1 .1 .0) (now (e .args .done)) (now (e .args .book)) in
-    two-reach (e .args .site) m _ (add .result) mid (Call.Finish (e .args .id)) (finish .result) _ (e .pre)
-    (adds (e .args .site) m (e .args .id) (updatesHeld (asked .result)) _ (add .result) mid (asked .ensures) (add .ensures)) (finish .ensures)
+    let m = lent (now (e .args .log)) (now (e .args .queued)) (now (e .args .done)) (now (e .args .book)) (now (e .args .first)) (now (e .args .second)) in
+    let mid = lent (now (e .args .log)) (add .last .1 .1 .0) (now (e .args .done)) (now (e .args .book)) (add .last .1 .1 .1 .1 .1 .0) (now (e .args .second)) in
+    two-reach (e .args .site) m _ (add .result) mid (Call.Finish (e .args .id)) (finish .result)
+    (lent (finish .last .1 .0) (finish .last .1 .1 .0) (finish .last .1 .1 .1 .0) (finish .last .1 .1 .1 .1 .0) (finish .last .1 .1 .1 .1 .1 .0) (finish .last .1 .1 .1 .1 .1 .1 .0)) (e .pre)
+    (adds (e .args .site) m (e .args .id) (updatesHeld (asked .result)) _ (add .result) mid (asked .ensures) (add .ensures (now (e .args .second)))) (finish .ensures)
 
 pub one-operation-spec : {M : Type 1} → statement M
 one-operation-spec =

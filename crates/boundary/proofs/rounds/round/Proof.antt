@@ -11,44 +11,45 @@ use Rattle.boundary.proofs.rounds.round.Lts as lts
 use Rattle.boundary.proofs.rounds.one_operation.Reads as one-operation-reads
 use Rattle.boundary.proofs.rounds.mark.Reads as mark-reads
 
--- src/rounds.rt:88:9
+-- src/rounds.rt:95:9
 one-operation-requires : tie.Need-one-operation-requires
 one-operation-requires c κs = search needs
 
--- src/rounds.rt:90:54
+-- src/rounds.rt:97:69
 add-mark : tie.Need-add-mark
 add-mark c = search needs
 
--- src/rounds.rt:90:9
+-- src/rounds.rt:97:9
 mark-requires : tie.Need-mark-requires
 mark-requires c κs = search needs
 
--- src/rounds.rt:90:9
+-- src/rounds.rt:97:9
 same-length : tie.Need-same-length
 same-length c = search needs
 
--- src/rounds.rt:90:9
+-- src/rounds.rt:97:9
 returns : tie.Need-returns
 returns c =
-    let e = c .before .before .before .before .before .before .before .before .before .before .before .before .before .before in
-    let o = c .before .before .before .before .before .before .before .before .one-operation in
-    let m = lent (now (e .args .log)) (now (e .args .queued)) (now (e .args .done)) (now (e .args .book)) in
-    let mid = lent (o .last .1 .0) (o .last .1 .1 .0) (o .last .1 .1 .1 .0) (o .last .1 .1 .1 .1 .0) in
-    let new = lent (o .last .1 .0) (o .last .1 .1 .0) (c .mark .last .1 .1 .1 .0) (c .mark .last .1 .1 .1 .1 .0) in
+    let e = c .before .before .before .before .before .before .before .before .before .before .before .before .before .before .before .before .before .before in
+    let o = c .before .before .before .before .before .before .before .before .before .before .one-operation in
+    let m = lent (now (e .args .log)) (now (e .args .queued)) (now (e .args .done)) (now (e .args .book)) (now (e .args .first)) (now (e .args .second)) in
+    let mid = lent (o .last .1 .0) (o .last .1 .1 .0) (o .last .1 .1 .1 .0) (o .last .1 .1 .1 .1 .0) (o .last .1 .1 .1 .1 .1 .0) (o .last .1 .1 .1 .1 .1 .1 .0) in
+    let new = lent (o .last .1 .0) (o .last .1 .1 .0) (c .mark .last .1 .1 .1 .0) (c .mark .last .1 .1 .1 .1 .0) (c .mark .last .1 .1 .1 .1 .1 .0) (c .mark .last .1 .1 .1 .1 .1 .1 .0) in
     marked-reach (e .args .site) m (e .args .id) (o .result) mid (c .mark .result) new _
-    (eq-eqb (e .args .id % 32) 31 (c .before .before .before .before .before .if1 .taken)) (o .ensures) (c .mark .ensures)
+    (eq-eqb (e .args .id % 32) 31 (c .before .before .before .before .before .before .before .if1 .taken)) (o .ensures) (c .mark .ensures)
 
--- src/rounds.rt:75:1
+-- src/rounds.rt:80:1
 same-length-2 : tie.Need-same-length-2
 same-length-2 c = search needs
 
--- src/rounds.rt:75:1
+-- src/rounds.rt:80:1
 returns-2 : tie.Need-returns-2
 returns-2 c =
-    let e = c .before .before .before .before .before .before .before .before .before in
+    let e = c .before .before .before .before .before .before .before .before .before .before .before in
     let o = c .before .before .before .one-operation in
-    let m = lent (now (e .args .log)) (now (e .args .queued)) (now (e .args .done)) (now (e .args .book)) in
-    unmarked-reach (e .args .site) m (e .args .id) (o .result) _ _ (ne-eqb (e .args .id % 32) 31 (c .if1 .left)) (o .ensures)
+    let m = lent (now (e .args .log)) (now (e .args .queued)) (now (e .args .done)) (now (e .args .book)) (now (e .args .first)) (now (e .args .second)) in
+    unmarked-reach (e .args .site) m (e .args .id) (o .result)
+    (lent (o .last .1 .0) (o .last .1 .1 .0) (o .last .1 .1 .1 .0) (o .last .1 .1 .1 .1 .0) (o .last .1 .1 .1 .1 .1 .0) (o .last .1 .1 .1 .1 .1 .1 .0)) _ (ne-eqb (e .args .id % 32) 31 (c .if1 .left)) (o .ensures)
 
 pub round-spec : {M : Type 1} → statement M
 round-spec =

@@ -7,13 +7,13 @@ use Rattle.session.proofs.Session.answer.Tie as tie
 use Rattle.session.proofs.Session.answer.Reads as reads
 use Rattle.session.proofs.Session.answer.Lts as lts
 use Rattle.session.proofs.Session.turn.Reads as turn-reads
-use Rattle.writer.proofs.write_reply.Reads as write-reply-reads
+use Rattle.session.proofs.write_turn.Reads as write-turn-reads
 
 turn-requires : tie.Need-turn-requires
 turn-requires c κs = search needs
 
-write-reply-requires : tie.Need-write-reply-requires
-write-reply-requires c κs = search needs
+write-turn-requires : tie.Need-write-turn-requires
+write-turn-requires c κs = c .before .before .before .before .before .before .before .before .before .turn .ensures .answer .printable
 
 same-length : tie.Need-same-length
 same-length c = search needs
@@ -23,10 +23,11 @@ same-length-2 c = search needs
 
 returns : tie.Need-returns
 returns c =
-    let e = c .before .before .before .before .before .before .before .before .before .before .before .before .before .before .before .before in
-    answers (e .args .self) (lent (now (e .args .log)) (now (e .args .queued)) (now (e .args .done)) (now (e .args .book))) _ (c .before .before .before .before .before .before .before .before .turn .result) _ _ (now (e .args .out)) _
-    (c .before .before .before .before .before .before .before .before .turn .ensures) (c .before .before .write-reply .ensures)
+    let t = c .before .before .before .before .before .before .before .before .before .before .before .before in
+    let e = t .before .before .before .before .before .before .before .before .before .before in
+    answers (e .args .self) (lent (now (e .args .log)) (now (e .args .queued)) (now (e .args .done)) (now (e .args .book)) (now (e .args .first)) (now (e .args .second))) _ (t .turn .result) _ _ (now (e .args .out)) _
+    (t .turn .ensures) (c .before .before .write-turn .ensures .0)
 
 pub answer-spec : {M : Type 1} → statement M
 answer-spec =
-    tie.close (tie.spec turn-requires write-reply-requires same-length same-length-2 returns)
+    tie.close (tie.spec turn-requires write-turn-requires same-length same-length-2 returns)

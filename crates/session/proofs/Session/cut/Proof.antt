@@ -10,7 +10,8 @@ use Rattle.session.proofs.Session.cut.Reads as reads
 use Rattle.session.proofs.Session.cut.Lts as lts
 
 cut-requires : tie.Need-cut-requires
-cut-requires c κs = (c .before .before .before .before .pre .site (c .before .before .if1 .taken))
+cut-requires c κs =
+    c .before .before .before .before .pre .site (c .before .before .if1 .taken)
 
 called-requires : tie.Need-called-requires
 called-requires c κs = search needs
@@ -19,15 +20,15 @@ refuse-requires : tie.Need-refuse-requires
 refuse-requires c κs = search needs
 
 returns : tie.Need-returns
-returns c =
+returns c = λ xs ys.
     let e = c .before .before .before .before .before .before in
-    calls (e .args .self) (lent (now (e .args .log)) (now (e .args .queued)) (now (e .args .done)) (now (e .args .book))) (Call.Cut (e .args .k) (length (now (e .args .log)))) _ _ _
-    (c .before .before .before .before .if1 .taken) (e .pre) (c .before .cut .ensures) (c .called .ensures)
+    calls (e .args .self) (lent (now (e .args .log)) (now (e .args .queued)) (now (e .args .done)) (now (e .args .book)) xs ys) (Call.Cut (e .args .k) (length (now (e .args .log)))) _ _ _
+    (c .before .before .before .before .if1 .taken) (e .pre) (c .before .cut .ensures xs ys) (c .called .ensures)
 
 returns-2 : tie.Need-returns-2
-returns-2 c =
+returns-2 c = λ xs ys.
     let e = c .before .before .before in
-    calls-closed (e .args .self) (lent (now (e .args .log)) (now (e .args .queued)) (now (e .args .done)) (now (e .args .book))) (Call.Cut (e .args .k) (length (now (e .args .log)))) _ (c .before .if1 .left) (e .pre) (c .refuse .ensures)
+    calls-closed (e .args .self) (lent (now (e .args .log)) (now (e .args .queued)) (now (e .args .done)) (now (e .args .book)) xs ys) (Call.Cut (e .args .k) (length (now (e .args .log)))) _ (c .before .if1 .left) (e .pre) (c .refuse .ensures)
 
 pub cut-spec : {M : Type 1} → statement M
 cut-spec = tie.close (tie.spec cut-requires called-requires refuse-requires returns returns-2)

@@ -92,8 +92,8 @@ returns : tie.Need-returns
 unfolding obeyed
 returns c = λ us did h w l back.
     let e = c .before .before .before .before .before .before in
-    formed (e .args .self) (lent (now (e .args .log)) (now (e .args .queued)) (now (e .args .done)) (now (e .args .book))) (e .args .c .form) _ us did _ _ (c .before .enum-told .given .1)
-    (turn-refused (e .args .self) (lent (now (e .args .log)) (now (e .args .queued)) (now (e .args .done)) (now (e .args .book))) _ Unreadable _ (e .pre) refl (c .refuse .ensures))
+    formed (e .args .self) (lent (now (e .args .log)) (now (e .args .queued)) (now (e .args .done)) (now (e .args .book)) (now (e .args .first)) (now (e .args .second))) (e .args .c .form) _ us did _ _ (c .before .enum-told .given .1)
+    (turn-refused (e .args .self) (lent (now (e .args .log)) (now (e .args .queued)) (now (e .args .done)) (now (e .args .book)) (now (e .args .first)) (now (e .args .second))) _ Unreadable _ (e .pre) refl (c .refuse .ensures))
 
 same-length : tie.Need-same-length
 same-length c = search needs
@@ -102,8 +102,8 @@ returns-2 : tie.Need-returns-2
 unfolding obeyed
 returns-2 c = λ us did h w l back.
     let e = c .before .before .before .before .before .before .before .before .before .before .before .before .before in
-    formed (e .args .self) (lent (now (e .args .log)) (now (e .args .queued)) (now (e .args .done)) (now (e .args .book))) (e .args .c .form) _ us did _ _ (c .before .before .before .before .before .before .before .before .form .given .1)
-    (c .before .before .open-site .ensures)
+    formed (e .args .self) (lent (now (e .args .log)) (now (e .args .queued)) (now (e .args .done)) (now (e .args .book)) (now (e .args .first)) (now (e .args .second))) (e .args .c .form) _ us did _ _ (c .before .before .before .before .before .before .before .before .form .given .1)
+    (c .before .before .open-site .ensures (now (e .args .first)) (now (e .args .second)))
 
 same-length-2 : tie.Need-same-length-2
 same-length-2 c = search needs
@@ -111,9 +111,9 @@ same-length-2 c = search needs
 returns-3 : tie.Need-returns-3
 unfolding obeyed
 returns-3 c = λ us did h w l back.
-    let e = c .before .before .before .before .before .before .before .before .before .before .before in
-    formed (e .args .self) (lent (now (e .args .log)) (now (e .args .queued)) (now (e .args .done)) (now (e .args .book))) (e .args .c .form) _ us did _ _ (c .before .before .before .before .before .before .form2 .given .1)
-    (c .add .ensures us h w)
+    let e = c .before .before .before .before .before .before .before .before .before .before .before .before in
+    formed (e .args .self) (lent (now (e .args .log)) (now (e .args .queued)) (now (e .args .done)) (now (e .args .book)) (now (e .args .first)) (now (e .args .second))) (e .args .c .form) _ us did _ _ (c .before .before .before .before .before .before .before .form2 .given .1)
+    (c .add .ensures (now (e .args .second)) us h w)
 
 same-length-3 : tie.Need-same-length-3
 same-length-3 c = search needs
@@ -121,8 +121,8 @@ same-length-3 c = search needs
 returns-4 : tie.Need-returns-4
 unfolding obeyed
 returns-4 c = λ us did h w l back.
-    let e = c .before .before .before .before .before .before .before .before .before .before .before .before .before in
-    formed (e .args .self) (lent (now (e .args .log)) (now (e .args .queued)) (now (e .args .done)) (now (e .args .book))) (e .args .c .form) _ us did _ _ (c .before .before .before .before .before .before .before .before .form3 .given .1)
+    let e = c .before .before .before .before .before .before .before .before .before .before .before .before .before .before .before in
+    formed (e .args .self) (lent (now (e .args .log)) (now (e .args .queued)) (now (e .args .done)) (now (e .args .book)) (now (e .args .first)) (now (e .args .second))) (e .args .c .form) _ us did _ _ (c .before .before .before .before .before .before .before .before .before .before .form3 .given .1)
     (c .before .before .finish .ensures)
 
 same-length-4 : tie.Need-same-length-4
@@ -131,9 +131,9 @@ same-length-4 c = search needs
 returns-5 : tie.Need-returns-5
 unfolding obeyed
 returns-5 c = λ us did h w l back.
-    let e = c .before .before .before .before .before .before .before .before .before .before .before in
-    formed (e .args .self) (lent (now (e .args .log)) (now (e .args .queued)) (now (e .args .done)) (now (e .args .book))) (e .args .c .form) _ us did _ _ (c .before .before .before .before .before .before .form4 .given .1)
-    (c .withdraw .ensures)
+    let e = c .before .before .before .before .before .before .before .before .before .before .before .before in
+    formed (e .args .self) (lent (now (e .args .log)) (now (e .args .queued)) (now (e .args .done)) (now (e .args .book)) (now (e .args .first)) (now (e .args .second))) (e .args .c .form) _ us did _ _ (c .before .before .before .before .before .before .before .form4 .given .1)
+    (c .withdraw .ensures (now (e .args .second)))
 
 same-length-5 : tie.Need-same-length-5
 same-length-5 c = search needs
@@ -141,8 +141,8 @@ same-length-5 c = search needs
 returns-6 : tie.Need-returns-6
 unfolding obeyed
 returns-6 c = λ us did h w l back.
-    let e = c .before .before .before .before .before .before .before .before .before .before .before in
-    formed (e .args .self) (lent (now (e .args .log)) (now (e .args .queued)) (now (e .args .done)) (now (e .args .book))) (e .args .c .form) _ us did _ _ (c .before .before .before .before .before .before .form5 .given .1)
+    let e = c .before .before .before .before .before .before .before .before .before .before .before .before .before in
+    formed (e .args .self) (lent (now (e .args .log)) (now (e .args .queued)) (now (e .args .done)) (now (e .args .book)) (now (e .args .first)) (now (e .args .second))) (e .args .c .form) _ us did _ _ (c .before .before .before .before .before .before .before .before .form5 .given .1)
     (c .persistent .ensures)
 
 same-length-6 : tie.Need-same-length-6
@@ -151,9 +151,9 @@ same-length-6 c = search needs
 returns-7 : tie.Need-returns-7
 unfolding obeyed
 returns-7 c = λ us did h w l back.
-    let e = c .before .before .before .before .before .before .before .before .before .before .before in
-    formed (e .args .self) (lent (now (e .args .log)) (now (e .args .queued)) (now (e .args .done)) (now (e .args .book))) (e .args .c .form) _ us did _ _ (c .before .before .before .before .before .before .form6 .given .1)
-    (c .stable .ensures)
+    let e = c .before .before .before .before .before .before .before .before .before .before .before .before in
+    formed (e .args .self) (lent (now (e .args .log)) (now (e .args .queued)) (now (e .args .done)) (now (e .args .book)) (now (e .args .first)) (now (e .args .second))) (e .args .c .form) _ us did _ _ (c .before .before .before .before .before .before .before .form6 .given .1)
+    (c .stable .ensures (now (e .args .second)))
 
 same-length-7 : tie.Need-same-length-7
 same-length-7 c = search needs
@@ -162,8 +162,8 @@ returns-8 : tie.Need-returns-8
 unfolding obeyed
 returns-8 c = λ us did h w l back.
     let e = c .before .before .before .before .before .before .before .before .before .before .before in
-    formed (e .args .self) (lent (now (e .args .log)) (now (e .args .queued)) (now (e .args .done)) (now (e .args .book))) (e .args .c .form) _ us did _ _ (c .before .before .before .before .before .before .form7 .given .1)
-    (c .show .ensures)
+    formed (e .args .self) (lent (now (e .args .log)) (now (e .args .queued)) (now (e .args .done)) (now (e .args .book)) (now (e .args .first)) (now (e .args .second))) (e .args .c .form) _ us did _ _ (c .before .before .before .before .before .before .form7 .given .1)
+    (c .show .ensures (now (e .args .first)) (now (e .args .second)))
 
 same-length-8 : tie.Need-same-length-8
 same-length-8 c = search needs
@@ -172,8 +172,8 @@ returns-9 : tie.Need-returns-9
 unfolding obeyed
 returns-9 c = λ us did h w l back.
     let e = c .before .before .before .before .before .before .before .before .before .before .before in
-    formed (e .args .self) (lent (now (e .args .log)) (now (e .args .queued)) (now (e .args .done)) (now (e .args .book))) (e .args .c .form) _ us did _ _ (c .before .before .before .before .before .before .form8 .given .1)
-    (c .cut .ensures)
+    formed (e .args .self) (lent (now (e .args .log)) (now (e .args .queued)) (now (e .args .done)) (now (e .args .book)) (now (e .args .first)) (now (e .args .second))) (e .args .c .form) _ us did _ _ (c .before .before .before .before .before .before .form8 .given .1)
+    (c .cut .ensures (now (e .args .first)) (now (e .args .second)))
 
 same-length-9 : tie.Need-same-length-9
 same-length-9 c = search needs
@@ -182,8 +182,8 @@ returns-10 : tie.Need-returns-10
 unfolding obeyed
 returns-10 c = λ us did h w l back.
     let e = c .before .before .before .before .before .before .before .before .before .before .before .before in
-    formed (e .args .self) (lent (now (e .args .log)) (now (e .args .queued)) (now (e .args .done)) (now (e .args .book))) (e .args .c .form) _ us did _ _ (c .before .before .before .before .before .before .before .enum-told2 .given .1)
-    (c .before .before .redo .ensures did l back)
+    formed (e .args .self) (lent (now (e .args .log)) (now (e .args .queued)) (now (e .args .done)) (now (e .args .book)) (now (e .args .first)) (now (e .args .second))) (e .args .c .form) _ us did _ _ (c .before .before .before .before .before .before .before .enum-told2 .given .1)
+    (c .before .before .redo .ensures (now (e .args .first)) (now (e .args .second)) did l back)
 
 same-length-10 : tie.Need-same-length-10
 same-length-10 c = search needs
@@ -191,9 +191,9 @@ same-length-10 c = search needs
 returns-11 : tie.Need-returns-11
 unfolding obeyed
 returns-11 c = λ us did h w l back.
-    let e = c .before .before .before .before .before .before .before .before .before .before in
-    formed (e .args .self) (lent (now (e .args .log)) (now (e .args .queued)) (now (e .args .done)) (now (e .args .book))) (e .args .c .form) _ us did _ _ (c .before .before .before .before .before .enum-told3 .given .1)
-    (c .end .ensures)
+    let e = c .before .before .before .before .before .before .before .before .before .before .before in
+    formed (e .args .self) (lent (now (e .args .log)) (now (e .args .queued)) (now (e .args .done)) (now (e .args .book)) (now (e .args .first)) (now (e .args .second))) (e .args .c .form) _ us did _ _ (c .before .before .before .before .before .before .enum-told3 .given .1)
+    (c .end .ensures (now (e .args .second)))
 
 pub obey-spec : {M : Type 1} → statement M
 obey-spec =

@@ -9,7 +9,8 @@ use Rattle.session.proofs.Session.stable.Reads as reads
 use Rattle.session.proofs.Session.stable.Lts as lts
 
 stable-requires : tie.Need-stable-requires
-stable-requires c κs = (c .before .before .before .before .before .pre .site (c .before .before .before .if1 .taken))
+stable-requires c κs =
+    c .before .before .before .before .before .before .pre .site (c .before .before .before .before .if1 .taken)
 
 called-requires : tie.Need-called-requires
 called-requires c κs = search needs
@@ -18,15 +19,15 @@ refuse-requires : tie.Need-refuse-requires
 refuse-requires c κs = search needs
 
 returns : tie.Need-returns
-returns c =
-    let e = c .before .before .before .before .before .before .before in
-    calls (e .args .self) (lent (now (e .args .log)) (now (e .args .queued)) (now (e .args .done)) (now (e .args .book))) (Call.Stable (e .args .n)) _ _ _
-    (c .before .before .before .before .before .if1 .taken) (e .pre) (c .before .stable .ensures) (c .called .ensures)
+returns c = λ ys.
+    let e = c .before .before .before .before .before .before .before .before in
+    calls (e .args .self) (lent (now (e .args .log)) (now (e .args .queued)) (now (e .args .done)) (now (e .args .book)) (now (e .args .first)) ys) (Call.Stable (e .args .n)) _ _ _
+    (c .before .before .before .before .before .before .if1 .taken) (e .pre) (c .before .stable .ensures ys) (c .called .ensures)
 
 returns-2 : tie.Need-returns-2
-returns-2 c =
+returns-2 c = λ ys.
     let e = c .before .before .before in
-    calls-closed (e .args .self) (lent (now (e .args .log)) (now (e .args .queued)) (now (e .args .done)) (now (e .args .book))) (Call.Stable (e .args .n)) _ (c .before .if1 .left) (e .pre) (c .refuse .ensures)
+    calls-closed (e .args .self) (lent (now (e .args .log)) (now (e .args .queued)) (now (e .args .done)) (now (e .args .book)) (now (e .args .first)) ys) (Call.Stable (e .args .n)) _ (c .before .if1 .left) (e .pre) (c .refuse .ensures)
 
 pub stable-spec : {M : Type 1} → statement M
 stable-spec = tie.close (tie.spec stable-requires called-requires refuse-requires returns returns-2)

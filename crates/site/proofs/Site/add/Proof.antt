@@ -2,6 +2,7 @@ use denote.Ref.{now}
 use Prim.Native.Nat.{_≤_}
 use native.Mathlib.Omega.{arith}
 use mathlib.Core.Path.{_≡_, refl, sym, _∙_}
+use mathlib.Core.List.{[]}
 use mathlib.Core.Option.{Option, none}
 use Rattle.forms.specs.Decimal.{top}
 use Rattle.forms.specs.declared.Refusal.{Refusal}
@@ -24,7 +25,6 @@ use Rattle.site.proofs.Site.add.Lts as lts
 use Rattle.history.proofs.entry_of_asked.Reads as entry-of-asked-reads
 use Rattle.site.proofs.add.add_refusal.Reads as add-refusal-reads
 use Rattle.site.proofs.add.trimmed_asked.Reads as trimmed-asked-reads
-use Rattle.site.proofs.no_numbers.Reads as no-numbers-reads
 use Rattle.site.proofs.refusal.Reads as refusal-reads
 use Rattle.table.proofs.DoneList.has_id.Reads as DoneList-has-id-reads
 use Rattle.table.proofs.Queue.has_id.Reads as Queue-has-id-reads
@@ -35,14 +35,14 @@ use Rattle.table.proofs.Queue.try_all.Reads as try-all-reads
 abbrev ruled : tie.After-add-refusal → Option Refusal
 ruled r =
     let a = r .before .before .before .before .before .before .before .before .before .before .args in
-    addRefusal (a .id) (updatesHeld (a .asked)) (view (a .self) (lent (now (a .log)) (now (a .queued)) (now (a .done)) (now (a .book))))
+    addRefusal (a .id) (updatesHeld (a .asked)) (view (a .self) (lent (now (a .log)) (now (a .queued)) (now (a .done)) (now (a .book)) [] []))
 
 -- what the checks said is what the rule book says
 said : (r : tie.After-add-refusal) → r .add-refusal .result ≡ verdictOf (ruled r)
 said r =
     let e = r .before .before .before .before .before .before .before .before .before .before in
     let a = e .args in
-    let s = whole (a .self) (lent (now (a .log)) (now (a .queued)) (now (a .done)) (now (a .book))) in
+    let s = whole (a .self) (lent (now (a .log)) (now (a .queued)) (now (a .done)) (now (a .book)) [] []) in
     let waits = r .before .before .has-id .ensures in
     let stands = r .before .has-id2 .ensures in
     r .add-refusal .ensures _ (r .before .before .before .before .before .before .before .before .trimmed-asked .ensures .is)
@@ -97,7 +97,7 @@ entry-of-asked-requires : tie.Need-entry-of-asked-requires
 entry-of-asked-requires c κs =
     let e = c .before .before .before .before .before .before .before .before .before .before .before .before .before in
     let a = e .args in
-    let s = whole (a .self) (lent (now (a .log)) (now (a .queued)) (now (a .done)) (now (a .book))) in
+    let s = whole (a .self) (lent (now (a .log)) (now (a .queued)) (now (a .done)) (now (a .book)) [] []) in
     let t = c .before .before .before .before .before .before .before .before .before .before .before .trimmed-asked .ensures in
     passed-usable s (now (a .log)) (e .pre) (a .id) _ (free (c .before)) _ (t .is)
 
@@ -107,50 +107,48 @@ unfolding Sound
 push-requires c κs =
     let e = c .before .before .before .before .before .before .before .before .before .before .before .before .before .before in
     let a = e .args in
-    let s = whole (a .self) (lent (now (a .log)) (now (a .queued)) (now (a .done)) (now (a .book))) in
+    let s = whole (a .self) (lent (now (a .log)) (now (a .queued)) (now (a .done)) (now (a .book)) [] []) in
     let room = add-room s (now (a .log)) (e .pre) (a .id) _ (free (c .before .before)) in
     (e .pre .carries .usable, (room, (c .entry-of-asked .ensures .usable)))
 
 -- src/add.rt:137:21
 try-all-requires : tie.Need-try-all-requires
-try-all-requires c κs = c .before .push .ensures .usable
-
--- src/add.rt:145:33
-no-numbers-requires : tie.Need-no-numbers-requires
-no-numbers-requires c κs = search needs
+try-all-requires c κs = c .before .before .push .ensures .usable
 
 -- src/add.rt:106:5
 returns : tie.Need-returns
 returns c =
+    λ ys.
     let r = c .before .before .before .before in
     let e = r .before .before .before .before .before .before .before .before .before .before in
     let a = e .args in
-    let m = lent (now (a .log)) (now (a .queued)) (now (a .done)) (now (a .book)) in
+    let m = lent (now (a .log)) (now (a .queued)) (now (a .done)) (now (a .book)) (now (a .first)) ys in
     let t = r .before .before .before .before .before .before .before .before .trimmed-asked .ensures in
     let le : a .id ≤ top = omega (arith, e .fits .id) in
     refuses (a .self) m _ _ _
     (add-refused (a .id) _ (view (a .self) m) le (updates-writable _ (t .writable)) _
-    (refused-is _ _ (sym (c .before .before .q .given .1) ∙ said r))) (c .refusal .ensures) refl
+    (refused-is _ _ (sym (c .before .before .q .given .1) ∙ said r))) (c .refusal .ensures (now (a .first)) ys) refl
 
 -- src/add.rt:106:5
 returns-2 : tie.Need-returns-2
 returns-2 c =
+    λ ys.
     let r = c .before .before .before .before .before .before .before .before in
     let e = r .before .before .before .before .before .before .before .before .before .before in
     let a = e .args in
-    let m = lent (now (a .log)) (now (a .queued)) (now (a .done)) (now (a .book)) in
+    let m = lent (now (a .log)) (now (a .queued)) (now (a .done)) (now (a .book)) (now (a .first)) ys in
     let s = whole (a .self) m in
     let t = r .before .before .before .before .before .before .before .before .trimmed-asked .ensures in
     let le : a .id ≤ top = omega (arith, e .fits .id) in
     let f = free (c .before .before .before .before .before .before) in
     let push = c .before .before .before .push in
     let pushed = push .last .1 .0 in
-    let try = c .before .try-all in
+    let try = c .try-all in
     let words = try .last .1 .0 in
-    does (a .self) m _ _ (lent (now (a .log)) words (now (a .done)) (now (a .book)))
+    does (a .self) m _ _ (lent (now (a .log)) words (now (a .done)) (now (a .book)) (try .last .1 .1 .1 .0) ys)
     (add-does s (now (a .log)) (e .pre) (a .id) _ le (updates-writable _ (t .writable)) f _
     (passed-enters s (now (a .log)) (e .pre) (a .id) _ f _ (t .is) _ (c .before .before .before .before .entry-of-asked .ensures))
-    (stored (push .result) pushed) (push .ensures) (stored (push .result) words) _ (try .ensures) _ (c .no-numbers .ensures))
+    (stored (push .result) pushed) (push .ensures) (stored (push .result) words) _ (try .ensures) ys)
 
 pub add-spec : {M : Type 1} → statement M
 add-spec =
@@ -167,6 +165,5 @@ add-spec =
     entry-of-asked-requires
     push-requires
     try-all-requires
-    no-numbers-requires
     returns
     returns-2)

@@ -10,7 +10,6 @@ use Rattle.site.proofs.Site.end.Statement.{statement}
 use Rattle.site.proofs.Site.end.Tie as tie
 use Rattle.site.proofs.Site.end.Reads as reads
 use Rattle.site.proofs.Site.end.Lts as lts
-use Rattle.site.proofs.no_numbers.Reads as no-numbers-reads
 use Rattle.site.proofs.refusal.Reads as refusal-reads
 use Rattle.table.proofs.Queue.empty.Reads as empty-reads
 use Rattle.table.proofs.Queue.ids.Reads as ids-reads
@@ -19,15 +18,11 @@ use Rattle.table.proofs.Queue.ids.Reads as ids-reads
 ids-requires : tie.Need-ids-requires
 unfolding Sound
 ids-requires c κs =
-    c .before .before .before .pre .carries .usable
+    c .before .before .before .before .pre .carries .usable
 
 -- src/end.rt:28:13
 empty-requires : tie.Need-empty-requires
 empty-requires c κs = search needs
-
--- src/end.rt:36:29
-no-numbers-requires : tie.Need-no-numbers-requires
-no-numbers-requires c κs = search needs
 
 -- src/end.rt:42:24
 refusal-requires : tie.Need-refusal-requires
@@ -36,23 +31,27 @@ refusal-requires c κs = search needs
 -- src/end.rt:18:5
 returns : tie.Need-returns
 returns c =
+    λ ys.
     let e = c .before .before .before .before .before .before in
     let a = e .args in
-    let m = lent (now (a .log)) (now (a .queued)) (now (a .done)) (now (a .book)) in
-    does (a .self) m _ _ m
+    let m = lent (now (a .log)) (now (a .queued)) (now (a .done)) (now (a .book)) (now (a .first)) ys in
+    let ids = c .before .ids in
+    let list = ids .last .1 .1 .0 in
+    does (a .self) m _ _ (lent (m .log) (m .queue) (m .done) (m .book) list ys)
     (end-does (whole (a .self) m) (now (a .log)) (e .pre) (c .before .before .before .before .if1 .taken)
-    _ (c .before .empty .ensures (now (a .queued))) _ _ (c .before .before .ids .ensures) (c .no-numbers .ensures))
+    _ (c .empty .ensures (now (a .queued))) _ ys (ids .ensures))
 
 -- src/end.rt:18:5
 returns-2 : tie.Need-returns-2
 returns-2 c =
+    λ ys.
     let e = c .before .before .before in
     let a = e .args in
-    let m = lent (now (a .log)) (now (a .queued)) (now (a .done)) (now (a .book)) in
+    let m = lent (now (a .log)) (now (a .queued)) (now (a .done)) (now (a .book)) (now (a .first)) ys in
     refuses (a .self) m _ OutOfTurn _ (end-refused (whole (a .self) m) (now (a .log)) (c .before .if1 .left))
-    (c .refusal .ensures) refl
+    (c .refusal .ensures (now (a .first)) ys) refl
 
 pub end-spec : {M : Type 1} → statement M
 end-spec =
     tie.close
-    (tie.spec ids-requires empty-requires no-numbers-requires refusal-requires returns returns-2)
+    (tie.spec ids-requires empty-requires refusal-requires returns returns-2)

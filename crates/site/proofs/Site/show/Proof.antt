@@ -14,7 +14,6 @@ use Rattle.site.proofs.Site.show.Tie as tie
 use Rattle.site.proofs.Site.show.Reads as reads
 use Rattle.site.proofs.Site.show.Lts as lts
 use Rattle.history.proofs.book.history_at.Reads as history-at-reads
-use Rattle.site.proofs.no_numbers.Reads as no-numbers-reads
 use Rattle.site.proofs.refusal.Reads as refusal-reads
 
 -- src/show.rt:38:24
@@ -24,12 +23,13 @@ refusal-requires c κs = search needs
 -- src/show.rt:36:13
 returns : tie.Need-returns
 returns c =
+    λ xs ys.
     let e = c .before .before .before in
     let a = e .args in
-    let m = lent (now (a .log)) (now (a .queued)) (now (a .done)) (now (a .book)) in
+    let m = lent (now (a .log)) (now (a .queued)) (now (a .done)) (now (a .book)) xs ys in
     let le : a .h ≤ top = omega (arith, e .fits .h) in
     refuses (a .self) m _ NoSuchHistory _ (show-refused (whole (a .self) m) (now (a .log)) (a .h) le (c .before .if1 .taken))
-    (c .refusal .ensures) refl
+    (c .refusal .ensures xs ys) refl
 
 -- A history that there is, is one of sixteen.
 few : (e : tie.Else1) → e .before .before .args .h < 16
@@ -68,28 +68,20 @@ element-copy-out-t26 c = omega (arith, few (c .before .before .before .before))
 cast-t28 : tie.Need-cast-t28
 cast-t28 c = search needs
 
--- src/show.rt:57:24
-no-numbers-requires : tie.Need-no-numbers-requires
-no-numbers-requires c κs = search needs
-
--- src/show.rt:58:25
-no-numbers-requires-2 : tie.Need-no-numbers-requires-2
-no-numbers-requires-2 c κs = search needs
-
 -- src/show.rt:22:5
 returns-2 : tie.Need-returns-2
 returns-2 c =
-    let i = c .before .before .before .before .before .before .before .before in
+    λ xs ys.
+    let i = c .before .before .before .before .before .before in
     let e = i .before .before in
     let a = e .args in
     let book = now (a .book) in
-    let m = lent (now (a .log)) (now (a .queued)) (now (a .done)) book in
+    let m = lent (now (a .log)) (now (a .queued)) (now (a .done)) book xs ys in
     let few-h = few i in
     does (a .self) m _ _ m
     (show-does (whole (a .self) m) (now (a .log)) (a .h) (e .pre) (omega (arith, e .fits .h)) (i .if1 .left)
-    _ (c .before .before .before .before .before .before .before .history-at .ensures) _ (sym (row-in 48 book (a .h) few-h))
-    _ (sym (row-in 64 book (a .h) few-h))
-    _ _ (c .before .no-numbers .ensures) (c .no-numbers2 .ensures))
+    _ (c .before .before .before .before .before .history-at .ensures) _ (sym (row-in 48 book (a .h) few-h))
+    _ (sym (row-in 64 book (a .h) few-h)) xs ys)
 
 pub show-spec : {M : Type 1} → statement M
 show-spec =
@@ -105,6 +97,4 @@ show-spec =
     mul-t23
     element-copy-out-t26
     cast-t28
-    no-numbers-requires
-    no-numbers-requires-2
     returns-2)

@@ -2,6 +2,7 @@ use denote.Ref.{now}
 use native.Mathlib.Omega.{arith}
 use mathlib.Core.Path.{refl, sym, _∙_}
 use mathlib.Core.Bool.{false}
+use mathlib.Core.List.{[]}
 use Rattle.forms.specs.declared.Refusal.the-variants.{WrongState, OutOfTurn}
 use Rattle.table.specs.Slots.{stored}
 use Rattle.site.specs.Whole.{Sound}
@@ -16,7 +17,6 @@ use Rattle.site.proofs.Site.withdraw.Reads as reads
 use Rattle.site.proofs.Site.withdraw.Lts as lts
 use Rattle.site.proofs.refusal.Reads as refusal-reads
 use Rattle.site.proofs.busy.busy.Reads as busy-reads
-use Rattle.site.proofs.no_numbers.Reads as no-numbers-reads
 use Rattle.table.proofs.Queue.find.Reads as find-reads
 use Rattle.table.proofs.Queue.remove.Reads as remove-reads
 use Rattle.table.proofs.became_dry.Reads as became-dry-reads
@@ -28,12 +28,13 @@ refusal-requires c κs = search needs
 -- src/withdraw.rt:24:13
 returns : tie.Need-returns
 returns c =
+    λ ys.
     let e = c .before .before .before in
     let a = e .args in
-    let m = lent (now (a .log)) (now (a .queued)) (now (a .done)) (now (a .book)) in
+    let m = lent (now (a .log)) (now (a .queued)) (now (a .done)) (now (a .book)) (now (a .first)) ys in
     refuses (a .self) m _ OutOfTurn _
     (withdraw-refused-turn (whole (a .self) m) (now (a .log)) (a .id) (omega (arith, e .fits .id)) (c .before .if1 .taken))
-    (c .refusal .ensures) refl
+    (c .refusal .ensures (now (a .first)) ys) refl
 
 -- src/withdraw.rt:27:15
 find-requires : tie.Need-find-requires
@@ -62,7 +63,7 @@ unfolding Sound
 busy-requires c κs =
     let e = c .before .before .before .before .before .before .before .before .before .before .before in
     let a = e .args in
-    let s = whole (a .self) (lent (now (a .log)) (now (a .queued)) (now (a .done)) (now (a .book))) in
+    let s = whole (a .self) (lent (now (a .log)) (now (a .queued)) (now (a .done)) (now (a .book)) [] []) in
     (e .pre .carries .usable, (e .pre .carries .finished .usable, volatile-few s (now (a .log)) (e .pre)))
 
 -- src/withdraw.rt:33:21
@@ -82,46 +83,45 @@ unfolding Sound
 busy-requires-2 c κs =
     let e = c .before .before .before .before .before .before .before .before .before .before .before .before .before .before .before in
     let a = e .args in
-    let s = whole (a .self) (lent (now (a .log)) (now (a .queued)) (now (a .done)) (now (a .book))) in
+    let s = whole (a .self) (lent (now (a .log)) (now (a .queued)) (now (a .done)) (now (a .book)) [] []) in
     (c .before .remove .ensures .usable, (e .pre .carries .finished .usable, volatile-few s (now (a .log)) (e .pre)))
 
 -- src/withdraw.rt:35:21
 became-dry-requires : tie.Need-became-dry-requires
 became-dry-requires c κs =
-    let b = c .before .before .before .before in
-    marked _ _ (b .before .before .before .before .before .before .before .before .before .before .before .before .pre) .few
-
--- src/withdraw.rt:43:33
-no-numbers-requires : tie.Need-no-numbers-requires
-no-numbers-requires c κs = search needs
+    marked _ _ (c .before .before .before .before .before .before .before .before .before .before .before .before .before .before .before .before .before .pre) .few
 
 -- src/withdraw.rt:17:5
 returns-2 : tie.Need-returns-2
 returns-2 c =
+    λ ys.
     let f = c .before .before .before in
     let e = f .before .before .before .before .before in
     let a = e .args in
-    let m = lent (now (a .log)) (now (a .queued)) (now (a .done)) (now (a .book)) in
+    let m = lent (now (a .log)) (now (a .queued)) (now (a .done)) (now (a .book)) (now (a .first)) ys in
     refuses (a .self) m _ WrongState _
     (withdraw-refused-state (whole (a .self) m) (now (a .log)) (a .id) (omega (arith, e .fits .id))
     (f .before .before .before .if1 .left) (sym (f .find .ensures) ∙ c .before .enum-told .given .1))
-    (c .refusal2 .ensures) refl
+    (c .refusal2 .ensures (now (a .first)) ys) refl
 
 -- src/withdraw.rt:17:5
 returns-3 : tie.Need-returns-3
 returns-3 c =
+    λ ys.
     let b = c .before .before .before .before .before .before in
     let f = b .before .before .before .before .before in
     let e = f .before .before .before .before .before .before .before in
     let a = e .args in
-    let m = lent (now (a .log)) (now (a .queued)) (now (a .done)) (now (a .book)) in
+    let m = lent (now (a .log)) (now (a .queued)) (now (a .done)) (now (a .book)) (now (a .first)) ys in
     let left = c .before .before .before .before .remove in
     let words = left .last .1 .0 in
-    does (a .self) m _ _ (lent (now (a .log)) words (now (a .done)) (now (a .book)))
+    let dry = c .became-dry in
+    let list = dry .last .1 .1 .1 .0 in
+    does (a .self) m _ _ (lent (m .log) words (m .done) (m .book) list ys)
     (withdraw-does (whole (a .self) m) (now (a .log)) (a .id) (f .at .given .0 .0) (e .pre) (omega (arith, e .fits .id))
     (f .before .before .before .before .before .if1 .left) (sym (f .before .before .find .ensures) ∙ f .at .given .1)
-    (stored (left .result) words) _ _ _ _ (left .ensures) (b .busy .ensures) (c .before .before .busy2 .ensures)
-    (c .before .became-dry .ensures) (c .no-numbers .ensures))
+    (stored (left .result) words) _ _ _ ys (left .ensures) (b .busy .ensures) (c .before .before .busy2 .ensures)
+    (dry .ensures))
 
 pub withdraw-spec : {M : Type 1} → statement M
 withdraw-spec =
@@ -138,6 +138,5 @@ withdraw-spec =
     remove-requires
     busy-requires-2
     became-dry-requires
-    no-numbers-requires
     returns-2
     returns-3)
