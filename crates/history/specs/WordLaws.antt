@@ -1,13 +1,13 @@
 -- Laws of values in words: lists made by index, what stays as it was when words are written, and the histories that stand in words.
 use Prim.Native.Nat.{ℕ, zero, suc, _+_, _≤_, _<_}
 use native.Mathlib.Omega.{arith}
-use mathlib.Core.Path.{_≡_, refl, sym, ap, ap₂, _∙_}
+use mathlib.Core.Path.{_≡_, refl, sym, ap, _∙_}
 use mathlib.Core.Logic.{_⊎_, inl, inr}
 use mathlib.Core.Bool.{Bool, true, false}
 use mathlib.Core.List.{List, [], _∷_, _++_, map, map-append}
 use borrow.Author.Tests.{lt-ltb, ltb-true, ltb-false, eqb-true, eqb-false}
 use lib.Dec.{eqb, ltb}
-use lib.ListN.{length, getD, set, replicate, length-append, length-map, length-set, length-replicate, getD-replicate, List·getD-append}
+use lib.ListN.{length, getD, set, replicate, length-append, length-map, length-set, getD-replicate, List·getD-append}
 use lib.Seq.{ext-getD, getD-at, getD-set-same, getD-set-other}
 use Rattle.forms.specs.Lists.{below}
 use Rattle.history.specs.declared.History.{History}
@@ -246,6 +246,3 @@ blank-row at ws z room = row-is at ws (replicate 16 0) refl (λ i h. z (at + i) 
 
 pub copied-histories : (from new : List ℕ) → Copied from new → historiesIn new ≡ historiesIn from
 copied-histories from new c = histories-same from new (λ k l m. c k (omega arith))
-
-pub copied-row : (at : ℕ) (from new : List ℕ) → Copied from new → at + 16 ≤ 80 → rowFrom at new ≡ rowFrom at from
-copied-row at from new c room = row-same at from new (λ k l m. c k (omega arith))

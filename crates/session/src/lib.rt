@@ -312,7 +312,9 @@ impl Session {
         n: u64,
     ) -> Turned
         requires { ⌜ ValidSession self (lent (now log) (now queued) (now done) (now book) [] []) ⌝ }
-        ensures { λ r. ⌜ ((xs ys : List ℕ) → Turns self (lent (now (log .entry)) (now (queued .entry)) (now (done .entry)) (now (book .entry)) xs ys) (opening (length (now (log .entry))) n (sessionView self (lent (now (log .entry)) (now (queued .entry)) (now (done .entry)) (now (book .entry)) xs ys))) r (lent (now (log .exit)) (now (queued .entry)) (now (done .entry)) (now (book .exit)) xs ys)) ⌝ }
+        ensures { λ r. ⌜ ((xs ys : List ℕ) → Turns self (lent (now (log .entry)) (now (queued .entry)) (now (done .entry)) (now (book .entry)) xs ys)
+            (opening (length (now (log .entry))) n (sessionView self (lent (now (log .entry)) (now (queued .entry)) (now (done .entry)) (now (book .entry)) xs ys))) r
+            (lent (now (log .exit)) (now (queued .entry)) (now (done .entry)) (now (book .exit)) xs ys)) ⌝ }
     {
         if self.opened {
             return self.refuse(Refusal::OutOfTurn);
@@ -343,7 +345,10 @@ impl Session {
     ) -> Turned
         requires { ⌜ ValidSession self (lent (now log) (now queued) (now done) (now book) [] []) ⌝ }
         ensures { λ r. ⌜ ((us : List Update) (did : Did) → c .asked ≡ heldUpdates us → T (all writableUpdate us) → c .did ≡ heldDid did → readDid (didText did) ≡ got did [] →
-            Turns self (lent (now (log .entry)) (now (queued .entry)) (now (done .entry)) (now (book .entry)) (now (first .entry)) (now (second .entry))) (obeyed (length (now (log .entry))) (c .form) us did (sessionView self (lent (now (log .entry)) (now (queued .entry)) (now (done .entry)) (now (book .entry)) (now (first .entry)) (now (second .entry))))) r (lent (now (log .exit)) (now (queued .exit)) (now (done .exit)) (now (book .exit)) (now (first .exit)) (now (second .exit)))) ⌝ }
+            Turns self (lent (now (log .entry)) (now (queued .entry)) (now (done .entry)) (now (book .entry)) (now (first .entry)) (now (second .entry)))
+            (obeyed (length (now (log .entry))) (c .form) us did
+            (sessionView self (lent (now (log .entry)) (now (queued .entry)) (now (done .entry)) (now (book .entry)) (now (first .entry)) (now (second .entry))))) r
+            (lent (now (log .exit)) (now (queued .exit)) (now (done .exit)) (now (book .exit)) (now (first .exit)) (now (second .exit)))) ⌝ }
     {
         let form = c.form;
         let asked = c.asked;
@@ -413,7 +418,9 @@ impl Session {
         out: &mut [u8],
     ) -> Answered
         requires { ⌜ ValidSession self (lent (now log) (now queued) (now done) (now book) [] []) ⌝ }
-        ensures { λ r. ⌜ Answers self (lent (now (log .entry)) (now (queued .entry)) (now (done .entry)) (now (book .entry)) (now (first .entry)) (now (second .entry))) (turn (length (now (log .entry))) (now (line .entry)) (sessionView self (lent (now (log .entry)) (now (queued .entry)) (now (done .entry)) (now (book .entry)) (now (first .entry)) (now (second .entry)))))
+        ensures { λ r. ⌜ Answers self (lent (now (log .entry)) (now (queued .entry)) (now (done .entry)) (now (book .entry)) (now (first .entry)) (now (second .entry)))
+            (turn (length (now (log .entry))) (now (line .entry))
+            (sessionView self (lent (now (log .entry)) (now (queued .entry)) (now (done .entry)) (now (book .entry)) (now (first .entry)) (now (second .entry)))))
             r (lent (now (log .exit)) (now (queued .exit)) (now (done .exit)) (now (book .exit)) (now (first .exit)) (now (second .exit))) (now (out .entry)) (now (out .exit)) ⌝ }
     {
         let t = self.turn(log, queued, done, book, first, second, line);

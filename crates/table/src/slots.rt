@@ -14,6 +14,7 @@ use forms::Version;
 use history::DoneEntry;
 use history::Entry;
 use history::Item;
+use history::book::counted;
 use history::book::small_half;
 
 // 64 entries that are not done, of 23 words: id, whether it is in progress, count, and for each of four updates rule, history, version, place and operand.
@@ -176,9 +177,6 @@ pub fn done_at(words: &DoneWords, i: usize) -> DoneEntry
         versions: [words[at + 6], words[at + 7], words[at + 8], words[at + 9]],
     }
 }
-
-// Words lent whole: there are as many as their type says.
-fn counted(_words: &[u64]) {}
 
 // Writes the done entry at `i`.
 pub fn put_done(words: &mut DoneWords, i: usize, e: DoneEntry)

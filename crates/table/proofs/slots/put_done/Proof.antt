@@ -11,7 +11,7 @@ use Rattle.table.proofs.slots.put_done.Statement.{statement}
 use Rattle.table.proofs.slots.put_done.Tie as tie
 use Rattle.table.proofs.slots.put_done.Reads as reads
 use Rattle.table.proofs.slots.put_done.Lts as lts
-use Rattle.table.proofs.slots.counted.Reads as counted-reads
+use Rattle.history.proofs.book.counted.Reads as counted-reads
 
 -- each history of the entry is a byte
 bytes : (c : lts.Start (counted-reads.Asked, counted-reads.Learnt) reads.Pre reads.Post) (j : ℕ) → Fits w8 (getD (c .args .t3 .histories) j 0)
