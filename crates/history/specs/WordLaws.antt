@@ -66,6 +66,12 @@ made-set {A} f g n i a d h same other =
         ∙ sym (made-at g n j d k)
         ∙ sym (getD-set-other (map g (below n)) i j a d (eqb-false j i e))
 
+-- an element that is there is the same for every default
+pub getD-any : {A : Type 0} (l : List A) (k : ℕ) (a b : A) → k < length l → getD l k a ≡ getD l k b
+getD-any [] k a b h = absurd (let z : suc k ≤ 0 = h in omega arith)
+getD-any (x ∷ l) zero a b h = refl
+getD-any (x ∷ l) (suc k) a b h = getD-any l k a b (omega arith)
+
 -- ### What stays as it was
 
 -- the words from `at` to `at + n` are the same

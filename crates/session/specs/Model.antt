@@ -51,7 +51,7 @@ pub record Unchanged (s : Session) (old : Lent) (r : Turned) (new : Lent) : Type
   pub session : r .session ≡ s
   pub kept : new ≡ old
 
--- "An accepted call alters no byte of a lent buffer past those in use".
+-- "An accepted call alters no byte of a lent buffer past those in use": no byte of the log's.
 pub record PastKept (old : Lent) (r : Turned) (new : Lent) : Type 0 where
   pub past : drop (usedIf (r .session .opened) (r .session .site)) (new .log) ≡ drop (usedIf (r .session .opened) (r .session .site)) (old .log)
 

@@ -51,7 +51,8 @@ whole s m =
 abbrev pub view : Site → Lent → State
 view s m = stateOf (whole s m) (m .log)
 
--- The invariant of a site and what is lent to it: opening and restart establish it, and every call keeps it.
+-- The invariant of a site and what is lent to it: opening and restart establish it, and every call keeps it. It does not look at the lists of a reply,
+-- so that contracts that require it write `[] []` for them.
 abbrev pub Valid : Site → Lent → Type 0
 Valid s m = Sound (whole s m) (m .log)
 
@@ -77,7 +78,8 @@ pub record RefusedAs (s : Site) (old : Lent) (q : Refusal) (r : Called) (new : L
   pub site : r .site ≡ s
   pub kept : new ≡ old
 
--- "An accepted call alters no byte of a lent buffer past those in use".
+-- "An accepted call alters no byte of a lent buffer past those in use": no byte of the log's. Of the arrays of numbers an accepted call says what
+-- they mean, by the answer and the state; nothing is said of numbers behind those in use.
 pub record AcceptedAs (old : Lent) (st : State) (a : Answer) (r : Called) (new : Lent) : Type 0 where
   pub answer : Says (replied (r .reply) (new .first) (new .second)) (Accepted a)
   pub valid : Valid (r .site) new

@@ -105,6 +105,7 @@ pub fn can_run_at(words: &QueueWords, i: usize, book: &BookWords) -> bool
     true
 }
 
+// Whether one of the two is so.
 pub fn either(a: bool, b: bool) -> bool
     ensures { λ r. ⌜ r ≡ (a || b) ⌝ }
 {

@@ -1,61 +1,83 @@
 use denote.Ref.{now}
-use mathlib.Core.Path.{_≡_}
-use lib.ListN.{length}
-use Rattle.history.specs.Entries.{cellsOf}
-use Rattle.history.specs.EntryLaws.{values-held}
+use Prim.Native.Nat.{ℕ, _+_, _-_, _≤_, _<_}
+use native.Mathlib.Omega.{arith}
+use mathlib.Core.Path.{_≡_, sym, subst, _∙_}
+use mathlib.Core.List.{List}
+use lib.ListN.{length, getD, set, length-set}
+use Rattle.history.specs.Entries.{cellsOf, itemsOf, noItem}
+use Rattle.history.specs.EntryLaws.{values-filled}
 use Rattle.history.specs.Words.{historiesIn}
-use borrow.Author.Needs.{needs}
+use Rattle.history.specs.WordLaws.{Filled, filled-next}
+use Rattle.history.specs.declared.Entry.{Entry}
 use Rattle.history.proofs.values_after.Statement.{statement}
 use Rattle.history.proofs.values_after.Tie as tie
-use Rattle.history.proofs.values_after.Reads as reads
-use Rattle.history.proofs.values_after.Lts as lts
-use Rattle.history.proofs.profile_at.Reads as profile-at-reads
 
-counted-requires : tie.Need-counted-requires
-counted-requires c κs = search needs
+-- the profile of the history of item k
+abbrev value : List ℕ → Entry → ℕ → ℕ
+value book e k = cellsOf (historiesIn book) (getD (itemsOf e) k noItem .history) .profile
 
-profile-at-requires : tie.Need-profile-at-requires
-profile-at-requires c κs = search needs
+abbrev Inv-loop : tie.InvT-loop
+Inv-loop book e list₀ n i₀ list i = (i ≤ e .count) × (length list ≡ 64) × Filled (λ (k : ℕ). k) (value book e) i list
 
-element-write-list : tie.Need-element-write-list
-element-write-list c = search needs
+abbrev μ-loop : tie.MeasureT-loop
+μ-loop book e list₀ n i₀ list i = n - i
 
-profile-at-requires-2 : tie.Need-profile-at-requires-2
-profile-at-requires-2 c κs = search needs
+counted-requires : tie.Need-counted-requires Inv-loop μ-loop
+counted-requires c κs = tt
 
-element-write-list-2 : tie.Need-element-write-list-2
-element-write-list-2 c = search needs
+loop-holds : tie.Need-loop-holds Inv-loop μ-loop
+loop-holds c = (omega arith, c .before .counted-arg2 .given .0, λ k h. absurd (let z : k < 0 = h in omega arith))
 
-profile-at-requires-3 : tie.Need-profile-at-requires-3
-profile-at-requires-3 c κs = search needs
+profile-at-requires : tie.Need-profile-at-requires Inv-loop μ-loop
+profile-at-requires c κs =
+    let u = c .before .before .before .before .before .pre in (u, omega (arith, u .few, c .loop-test .taken))
 
-element-write-list-3 : tie.Need-element-write-list-3
-element-write-list-3 c = search needs
+mul-list : tie.Need-mul-list Inv-loop μ-loop
+mul-list c = let u = c .before .before .before .before .before .before .pre in omega (arith, u .few, c .before .loop-test .taken)
 
-profile-at-requires-4 : tie.Need-profile-at-requires-4
-profile-at-requires-4 c κs = search needs
+element-write-list : tie.Need-element-write-list Inv-loop μ-loop
+element-write-list c = let u = c .before .before .before .before .before .before .pre in omega (arith, u .few, c .before .loop-test .taken)
 
-element-write-list-4 : tie.Need-element-write-list-4
-element-write-list-4 c = search needs
+add-i : tie.Need-add-i Inv-loop μ-loop
+add-i c = let u = c .before .before .before .before .before .before .pre in omega (arith, u .few, c .before .loop-test .taken)
 
-returns : tie.Need-returns
+loop-less : tie.Need-loop-less Inv-loop μ-loop
+loop-less c = omega (arith, c .before .loop-test .taken)
+
+loop-again : tie.Need-loop-again Inv-loop μ-loop
+loop-again c =
+    let l = c .before .before .loop in
+    let s = c .before .before .before .before .before .before in
+    let v = value (now (s .args .book)) (s .args .e) in
+    let read : v (l .i) ≡ c .profile-at .result = sym (c .profile-at .ensures) in
+    let room : l .i < length (l .list) = omega (arith, s .pre .few, c .before .loop-test .taken, l .inv .1) in (
+      omega (arith, c .before .loop-test .taken),
+      length-set (l .list) (l .i) (c .profile-at .result) ∙ l .inv .1,
+      subst (λ (x : ℕ). Filled (λ (k : ℕ). k) v (l .i + 1) (set (l .list) (l .i) x)) read
+          (filled-next (λ (k : ℕ). k) v (l .i) (l .list) (λ k h. h) room (l .inv .2)),
+    )
+
+returns : tie.Need-returns Inv-loop μ-loop
 returns c =
-    let s = c .before .before .before .before .before .before .before in
-    let long : length (now (s .args .list)) ≡ 64 = search needs in
-    values-held (s .args .e) (s .pre) (cellsOf (historiesIn (now (s .args .book)))) (now (s .args .list)) long
-    (c .before .before .before .profile-at .ensures) (c .before .before .profile-at2 .ensures) (c .before .profile-at3 .ensures) (c .profile-at4 .ensures)
+    let l = c .before .loop in
+    let s = c .before .before .before .before .before in
+    let e = s .args .e in
+    let all : l .i ≡ e .count = omega (arith, l .inv .0, c .loop-test .left) in
+    values-filled e (s .pre) (cellsOf (historiesIn (now (s .args .book)))) (l .list) (l .inv .1)
+    (subst (λ (n : ℕ). Filled (λ (k : ℕ). k) (value (now (s .args .book)) e) n (l .list)) all (l .inv .2))
 
 pub values-after-spec : {M : Type 1} → statement M
 values-after-spec =
     tie.close
     (tie.spec
+    Inv-loop
+    μ-loop
     counted-requires
+    loop-holds
     profile-at-requires
+    mul-list
     element-write-list
-    profile-at-requires-2
-    element-write-list-2
-    profile-at-requires-3
-    element-write-list-3
-    profile-at-requires-4
-    element-write-list-4
+    add-i
+    loop-less
+    loop-again
     returns)
