@@ -22,3 +22,6 @@ pub mod StartLaws
 pub mod Run
 pub mod GoodLaws
 pub mod Examples
+pub mod When
+pub mod WhenLaws
+pub mod LiveLaws
