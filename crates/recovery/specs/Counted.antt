@@ -54,7 +54,7 @@ counted-ok (Cut k room) st after answer e = mark-restart room (readLog (take k (
 counted-ok (Redo line) st after answer e = mark-redo (readDid line) st after answer e
 counted-ok End st after answer e = mark _ after _ answer (unless-check _ OutOfTurn _ after answer e .1)
 
-counted-step : (c : Call) (st : State) → countedAfter c (step c st) (st .persistentTo) ≡ settle (step c st) st .persistentTo
+pub counted-step : (c : Call) (st : State) → countedAfter c (step c st) (st .persistentTo) ≡ settle (step c st) st .persistentTo
 unfolding step settle countedAfter
 counted-step c st = go (step c st) refl
   where

@@ -273,7 +273,7 @@ module _
     -- ### The book
 
     -- The lines that touch a history are those of the kept and the closed lines, in first order.
-    book-proj : (h : ℕ) (F : List Did) → Just (Closed L chosen) L F → proj h log ≡ proj h (K ++ F)
+    pub book-proj : (h : ℕ) (F : List Did) → Just (Closed L chosen) L F → proj h log ≡ proj h (K ++ F)
     book-proj h F J = go (I .front h)
       where
         X : List Did

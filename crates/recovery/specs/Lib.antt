@@ -6,3 +6,7 @@ pub mod Counted
 pub mod Recovery
 pub mod Checking
 pub mod Instance
+pub mod Host
+pub mod HostLaws
+pub mod Flagged
+pub mod Lone

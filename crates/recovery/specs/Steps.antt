@@ -200,14 +200,12 @@ module _ (n : ℕ) (K L : List Did) (chosen : Did → Bool) (P : Picked n K L) w
           inside e (inl p) = G .inv .ran-chosen e p .0
           inside e (inr p) = one e (mem-snoc (st .waiting) p)
 
-      fresh-few : (Mem d (G .inv .ran) → ⊥) → (Mem d (st .waiting) → ⊥) → T (tableFull st) → ⊥
-      unfolding tableFull live liveDone
-      fresh-few out-r out-w t =
-          let le = leb→le 64 (live st) t in
+      pub fresh-below : (Mem d (G .inv .ran) → ⊥) → (Mem d (st .waiting) → ⊥) → live st < length L
+      unfolding live liveDone
+      fresh-below out-r out-w =
           let w = weigh (λ e. 1) out-r out-w in
           omega (
             arith,
-            P .few,
             G .stable-K,
             sum-one (G .inv .ran),
             sum-one (st .waiting),
@@ -217,6 +215,10 @@ module _ (n : ℕ) (K L : List Did) (chosen : Did → Bool) (P : Picked n K L) w
             ap length (G .good .idle (G .restoring)),
             length-drop (st .stableTo) (st .log),
           )
+
+      fresh-few : (Mem d (G .inv .ran) → ⊥) → (Mem d (st .waiting) → ⊥) → T (tableFull st) → ⊥
+      unfolding tableFull
+      fresh-few out-r out-w t = let le = leb→le 64 (live st) t in omega (arith, P .few, fresh-below out-r out-w)
 
       fresh-fits : (Mem d (G .inv .ran) → ⊥) → (Mem d (st .waiting) → ⊥) → T (logFull d st) → ⊥
       unfolding logFull logBytes
@@ -312,6 +314,26 @@ module _ (n : ℕ) (K L : List Did) (chosen : Did → Bool) (P : Picked n K L) w
         where
           go : (Mem d (G .inv .ran) → ⊥) × (Mem d (st .waiting) → ⊥) × (taken ≡ after) → Site (lines ++ didText d ∷ []) after
           go (out-r, out-w, p) = subst (Site (lines ++ didText d ∷ [])) p (redo-taken choice out-r out-w (subst Good (sym p) good))
+
+      -- A lost line has run or waits, where as many are live as were lost.
+      full-known : (live st < length L → ⊥) → Mem d (G .inv .ran) ⊎ Mem d (st .waiting)
+      full-known full = go verdict
+        where
+          go : {o : Option Refusal} → Verdict o → Mem d (G .inv .ran) ⊎ Mem d (st .waiting)
+          go (refuses q k) = k
+          go (takes out-r out-w) = absurd (full (fresh-below out-r out-w))
+
+    -- A line that is refused there, for whatever reason, is none that was missing.
+    pub redo-full : (line : List ℕ) → (live st < length L → ⊥) → Site (lines ++ line ∷ []) st
+    redo-full line full =
+        record {
+          inv = inv-again didText K L chosen setting lines (st .log) (st .waiting) line (G .inv) (λ d p lost choice. full-known d lost full);
+          good = G .good;
+          n-is = G .n-is;
+          room = G .room;
+          restoring = G .restoring;
+          stable-K = G .stable-K;
+        }
 
     redo-refused : (line : List ℕ) (r : Refusal) → step (Redo line) st ≡ refused r → Site (lines ++ line ∷ []) st
     redo-refused line r e =

@@ -1,0 +1,294 @@
+-- The recovery claim of a site that does not stand alone, proved: a move is another's, a call of 01, or a refusal 10.
+use mathlib.Core.Path.{_≡_, refl, sym, ap, _∙_, subst}
+use mathlib.Core.Logic.{_⊎_, inl, inr}
+use mathlib.Core.Bool.{Bool}
+use mathlib.Core.List.{List, [], _∷_, _++_, append-assoc, append-nil}
+use mathlib.Core.List.{List·Memᴰ as Mem, Memᴰ·append-right}
+use mathlib.Core.Option.{Option, none, some}
+use Prim.Native.Nat.{ℕ, _≤_, _<_}
+use native.Mathlib.Omega.{arith}
+use lib.Dec.{T}
+use lib.ListN.{length, length-drop}
+use Rattle.forms.specs.ListLaws.{mem-along}
+use Rattle.forms.specs.Forms.{Did, didText, Answer}
+use Rattle.forms.specs.declared.Refusal.{Refusal}
+use Rattle.forms.specs.declared.Refusal.the-variants.{TableFull}
+use Rattle.rules.specs.State.{State, Reply, refused, ok, settle, live, liveDone}
+use Rattle.rules.specs.Calls.{Call, Add, Finish, Withdraw, Persistent, Stable, Show, Cut, Redo, End, step}
+use Rattle.rules.specs.CheckLaws.{refused-not-ok}
+use Rattle.rules.specs.Good.{Good}
+use Rattle.rules.specs.GoodLaws.{good-step}
+use Rattle.recovery.specs.Claim.{Start, countedAfter, lostBy, comesAfter, Recovered}
+use Rattle.recovery.specs.Steps.{Picked, Site, Obeys, step-keeps, fresh-below, redo-full}
+use Rattle.recovery.specs.Counted.{counted-start, counted-step}
+use Rattle.recovery.specs.Recovery.{start-good, picked, marked-kept, Cutting, cutting, cut-site, ending}
+use Rattle.recovery.specs.Arrival.{every, SameWork}
+use Rattle.recovery.specs.ArrivalLaws.{work-done}
+use Rattle.recovery.specs.Host.{Host, Plays, runIn, Playing, countedOn, countedIn, cameOn, cameIn, FairIn, AskedIn, Roomy, ListIn, beforeCut, atEnd, HostClaim, HostArrival}
+
+-- The lines that a cut loses were live, where it keeps the persistent ones.
+lost-live : (before after : State) → Good before → before .persistentTo ≤ length (after .log) → length (lostBy before after) ≤ live before
+unfolding lostBy live liveDone
+lost-live before after G le =
+    omega (arith, length-drop (length (after .log)) (before .log), length-drop (before .stableTo) (before .log), G .stableBelow)
+
+module _ (H : Host) where
+  -- ### Lists of moves
+
+  pub run-append : (xs ys : List (H .Move)) (w : H .World) → runIn H (xs ++ ys) w ≡ runIn H ys (runIn H xs w)
+  unfolding runIn
+  run-append [] ys w = refl
+  run-append (x ∷ xs) ys w = run-append xs ys (H .next x w)
+
+  run-snoc : (xs : List (H .Move)) (x : H .Move) (w : H .World) → runIn H (xs ++ x ∷ []) w ≡ H .next x (runIn H xs w)
+  unfolding runIn
+  run-snoc xs x w = run-append xs (x ∷ []) w
+
+  came-snoc : (lines : List (List ℕ)) (xs : List (H .Move)) (x : H .Move) (w : H .World) →
+      cameIn H lines (xs ++ x ∷ []) w ≡ cameOn H (H .own x) (H .reply x (runIn H xs w)) (cameIn H lines xs w)
+  unfolding runIn cameIn
+  came-snoc lines [] x w = refl
+  came-snoc lines (y ∷ xs) x w = came-snoc (cameOn H (H .own y) (H .reply y w) lines) xs x (H .next y w)
+
+  pub playing-first : (a b : List (H .Move)) (w : H .World) → Playing H (a ++ b) w → Playing H a w
+  playing-first [] b w p = tt
+  playing-first (x ∷ a) b w p = (p .0, playing-first a b (H .next x w) (p .1))
+
+  pub playing-at : (a : List (H .Move)) (x : H .Move) (b : List (H .Move)) (w : H .World) → Playing H (a ++ x ∷ b) w → Plays H (H .own x) x (runIn H a w)
+  unfolding runIn
+  playing-at [] x b w p = p .0
+  playing-at (y ∷ a) x b w p = playing-at a x b (H .next y w) (p .1)
+
+  -- ### One move
+
+  pub good-move : (o : Option Call) (x : H .Move) (w : H .World) → Plays H o x w → Good (H .site w) → Good (H .site (H .next x w))
+  unfolding settle
+  good-move none x w p G = subst Good (sym p) G
+  good-move (some c) x w (p, inl e) G = subst Good (sym (p ∙ ap (λ (r : Reply). settle r (H .site w)) e)) G
+  good-move (some c) x w (p, inr e) G = subst Good (sym (p ∙ ap (λ (r : Reply). settle r (H .site w)) e)) (good-step c (H .site w) G)
+
+  pub good-in : (xs : List (H .Move)) (w : H .World) → Playing H xs w → Good (H .site w) → Good (H .site (runIn H xs w))
+  unfolding runIn
+  good-in [] w p G = G
+  good-in (x ∷ xs) w p G = good-in xs (H .next x w) (p .1) (good-move (H .own x) x w (p .0) G)
+
+  counted-move : (o : Option Call) (x : H .Move) (w : H .World) → Plays H o x w →
+      countedOn H o (H .reply x w) (H .site w .persistentTo) ≡ H .site (H .next x w) .persistentTo
+  unfolding countedAfter settle
+  counted-move none x w p = ap (λ (s : State). s .persistentTo) (sym p)
+  counted-move (some c) x w (p, inl e) =
+      ap (λ (r : Reply). countedAfter c r (H .site w .persistentTo)) e
+      ∙ ap (λ (s : State). s .persistentTo) (sym (p ∙ ap (λ (r : Reply). settle r (H .site w)) e))
+  counted-move (some c) x w (p, inr e) =
+      ap (λ (r : Reply). countedAfter c r (H .site w .persistentTo)) e ∙ counted-step c (H .site w)
+      ∙ ap (λ (s : State). s .persistentTo) (sym (p ∙ ap (λ (r : Reply). settle r (H .site w)) e))
+
+  pub counted-in : (xs : List (H .Move)) (m : ℕ) (w : H .World) → Playing H xs w → m ≡ H .site w .persistentTo →
+      countedIn H m xs w ≡ H .site (runIn H xs w) .persistentTo
+  unfolding countedIn runIn
+  counted-in [] m w p e = e
+  counted-in (x ∷ xs) m w p e =
+      counted-in xs (countedOn H (H .own x) (H .reply x w) m) (H .next x w) (p .1)
+      (ap (λ (i : ℕ). countedOn H (H .own x) (H .reply x w) i) e ∙ counted-move (H .own x) x w (p .0))
+
+  -- ### The list
+
+  module _ (chosen : Did → Bool) (l : ListIn H chosen) where
+    before : State
+    before = H .site (runIn H (l .xs) (l .start))
+
+    upTo : List (H .Move) → List (H .Move)
+    upTo a = l .xs ++ l .x ∷ a
+
+    at-world : List (H .Move) → H .World
+    at-world a = runIn H (upTo a) (l .start)
+
+    lines-of : List (H .Move) → List (List ℕ)
+    lines-of a = cameIn H [] (upTo a) (l .start)
+
+    playing-to : (a b : List (H .Move)) → l .ys ≡ a ++ b → Playing H (upTo a) (l .start)
+    unfolding upTo
+    playing-to a b e =
+        playing-first (l .xs ++ l .x ∷ a) b (l .start)
+        (subst (λ (z : List (H .Move)). Playing H z (l .start)) (ap {B = List (H .Move)} (λ z. l .xs ++ l .x ∷ z) e ∙ sym (append-assoc (l .xs) (l .x ∷ a) b)) (l .plays))
+
+    start-is : Good (H .site (l .start))
+    start-is = start-good (l .m) (H .site (l .start)) (l .begins)
+
+    marks : l .m ≡ H .site (l .start) .persistentTo
+    marks = counted-start (l .m) (H .site (l .start)) (l .begins)
+
+    before-plays : Playing H (l .xs) (l .start)
+    before-plays = playing-first (l .xs) (l .x ∷ l .ys) (l .start) (l .plays)
+
+    before-good : Good before
+    unfolding before
+    before-good = good-in (l .xs) (l .start) before-plays start-is
+
+    -- The picked cut is one of 01.
+    cut-plays : Plays H (some (Cut (l .k) (l .room))) (l .x) (runIn H (l .xs) (l .start))
+    cut-plays =
+        subst (λ (o : Option Call). Plays H o (l .x) (runIn H (l .xs) (l .start))) (l .fair .isCut) (playing-at (l .xs) (l .x) (l .ys) (l .start) (l .plays))
+
+    accepted : step (Cut (l .k) (l .room)) before ≡ ok (l .after) (l .fair .answer)
+    unfolding before
+    accepted = go (cut-plays .1)
+      where
+        go : (H .reply (l .x) (runIn H (l .xs) (l .start)) ≡ refused TableFull) ⊎
+            (H .reply (l .x) (runIn H (l .xs) (l .start)) ≡ step (Cut (l .k) (l .room)) (H .site (runIn H (l .xs) (l .start)))) →
+            step (Cut (l .k) (l .room)) (H .site (runIn H (l .xs) (l .start))) ≡ ok (l .after) (l .fair .answer)
+        go (inl e) = absurd (refused-not-ok TableFull (l .after) (l .fair .answer) (sym e ∙ l .fair .accepted))
+        go (inr e) = sym e ∙ l .fair .accepted
+
+    C : Cutting (l .room) before (l .after)
+    C = cutting (l .k) (l .room) before (l .after) (l .fair .answer) before-good accepted
+
+    kept : before .persistentTo ≤ length (l .after .log)
+    unfolding before
+    kept =
+        marked-kept (countedIn H (l .m) (l .xs) (l .start)) before (l .after .log) before-good
+        (counted-in (l .xs) (l .m) (l .start) before-plays marks) (l .fair .keeps)
+
+    P : Picked (before .histories) (l .after .log) (lostBy before (l .after))
+    P = picked before (l .after .log) (lostBy before (l .after)) before-good (C .first) kept
+
+    were-live : (n : ℕ) → n < length (lostBy before (l .after)) → n < live before
+    were-live n lt = omega (arith, lost-live before (l .after) before-good kept)
+
+    abbrev At : List (List ℕ) → State → Type 0
+    At lines st = Site (before .histories) (l .after .log) (lostBy before (l .after)) chosen P lines st
+
+    taken : H .site (at-world []) ≡ l .after
+    unfolding at-world upTo settle
+    taken =
+        ap (H .site) (run-snoc (l .xs) (l .x) (l .start))
+        ∙ cut-plays .0 ∙ ap (λ (r : Reply). settle r (H .site (runIn H (l .xs) (l .start)))) (l .fair .accepted)
+
+    none-came : lines-of [] ≡ []
+    unfolding lines-of upTo comesAfter
+    none-came =
+        came-snoc [] (l .xs) (l .x) (l .start)
+        ∙ ap (λ (o : Option Call). cameOn H o (H .reply (l .x) (runIn H (l .xs) (l .start))) (cameIn H [] (l .xs) (l .start))) (l .fair .isCut)
+        ∙ ap (λ (r : Reply). comesAfter (Cut (l .k) (l .room)) r (cameIn H [] (l .xs) (l .start))) (l .fair .accepted)
+
+    good-at : (a b : List (H .Move)) → l .ys ≡ a ++ b → Good (H .site (at-world a))
+    unfolding at-world
+    good-at a b e = good-in (upTo a) (l .start) (playing-to a b e) start-is
+
+    at-cut : At [] (l .after)
+    unfolding before
+    at-cut = cut-site (l .room) before (l .after) chosen before-good C P (subst Good taken (good-at [] (l .ys) refl)) (l .fair .noShorter)
+
+    -- What is asked of a call, said of its step in 01.
+    obeys : (a : List (H .Move)) (x : H .Move) (b : List (H .Move)) → l .ys ≡ a ++ x ∷ b → (c : Call) → H .own x ≡ some c →
+        H .reply x (at-world a) ≡ step c (H .site (at-world a)) →
+        Obeys (before .histories) (l .after .log) (lostBy before (l .after)) chosen P (H .site (at-world a)) c
+    unfolding at-world upTo before
+    obeys a x b e (Add i us) o p = tt
+    obeys a x b e (Finish i) o p = tt
+    obeys a x b e (Withdraw i) o p = tt
+    obeys a x b e (Persistent n) o p = tt
+    obeys a x b e (Stable n) o p = tt
+    obeys a x b e (Show h) o p = tt
+    obeys a x b e (Cut j r) o p = λ st answer q.
+        let f = l .asked .cuts a x b j r st answer e o (p ∙ q) in (
+          marked-kept (countedIn H (l .m) (upTo a) (l .start)) (H .site (at-world a)) (st .log) (good-at a (x ∷ b) e)
+              (counted-in (upTo a) (l .m) (l .start) (playing-to a (x ∷ b) e) marks) (f .keeps),
+          f .noShorter,
+        )
+    obeys a x b e (Redo line) o p = λ st answer q. l .asked .redos a x b line st answer e o (p ∙ q)
+    obeys a x b e End o p = λ st answer q. l .asked .ends a x b st answer e o (p ∙ q)
+
+    -- A call that is refused 10.
+    refused-ten : (a : List (H .Move)) (x : H .Move) (b : List (H .Move)) → l .ys ≡ a ++ x ∷ b → (c : Call) → H .own x ≡ some c →
+        H .reply x (at-world a) ≡ refused TableFull → (lines : List (List ℕ)) → At lines (H .site (at-world a)) →
+        At (comesAfter c (refused TableFull) lines) (H .site (at-world a))
+    unfolding comesAfter at-world upTo before
+    refused-ten a x b e (Add i us) o p lines G = G
+    refused-ten a x b e (Finish i) o p lines G = G
+    refused-ten a x b e (Withdraw i) o p lines G = G
+    refused-ten a x b e (Persistent n) o p lines G = G
+    refused-ten a x b e (Stable n) o p lines G = G
+    refused-ten a x b e (Show h) o p lines G = G
+    refused-ten a x b e (Cut j r) o p lines G = G
+    refused-ten a x b e (Redo line) o p lines G =
+        redo-full (before .histories) (l .after .log) (lostBy before (l .after)) chosen P lines (H .site (at-world a)) G line
+        (λ lt. l .roomy a x b line e o (were-live _ lt) p)
+    refused-ten a x b e End o p lines G = G
+
+    move-keeps : (a : List (H .Move)) (x : H .Move) (b : List (H .Move)) → l .ys ≡ a ++ x ∷ b → (o : Option Call) → H .own x ≡ o →
+        Plays H o x (at-world a) → (lines : List (List ℕ)) → At lines (H .site (at-world a)) →
+        At (cameOn H o (H .reply x (at-world a)) lines) (H .site (H .next x (at-world a)))
+    unfolding settle
+    move-keeps a x b e none o p lines G = subst (λ (s : State). At lines s) (sym p) G
+    move-keeps a x b e (some c) o (p, inl q) lines G =
+        subst (λ (s : State). At (comesAfter c (H .reply x (at-world a)) lines) s) (sym (p ∙ ap (λ (r : Reply). settle r (H .site (at-world a))) q))
+        (subst (λ (r : Reply). At (comesAfter c r lines) (H .site (at-world a))) (sym q) (refused-ten a x b e c o q lines G))
+    move-keeps a x b e (some c) o (p, inr q) lines G =
+        subst (λ (s : State). At (comesAfter c (H .reply x (at-world a)) lines) s) (sym p)
+        (subst (λ (r : Reply). At (comesAfter c r lines) (settle r (H .site (at-world a)))) (sym q)
+        (step-keeps (before .histories) (l .after .log) (lostBy before (l .after)) chosen P lines (H .site (at-world a)) G c (obeys a x b e c o q)
+        (good-step c (H .site (at-world a)) (good-at a (x ∷ b) e))))
+
+    -- What holds after the first calls a of ys holds after the next b.
+    keeps : (a b c : List (H .Move)) → l .ys ≡ a ++ (b ++ c) → At (lines-of a) (H .site (at-world a)) → At (lines-of (a ++ b)) (H .site (at-world (a ++ b)))
+    unfolding upTo at-world lines-of
+    keeps a [] c e G = subst (λ (z : List (H .Move)). At (lines-of z) (H .site (at-world z))) (sym (append-nil a)) G
+    keeps a (x ∷ b) c e G =
+        subst (λ (z : List (H .Move)). At (lines-of z) (H .site (at-world z))) (append-assoc a (x ∷ []) b)
+        (keeps (a ++ x ∷ []) b c (e ∙ sym (append-assoc a (x ∷ []) (b ++ c))) next)
+      where
+        plays : Plays H (H .own x) x (at-world a)
+        plays =
+            playing-at (upTo a) x (b ++ c) (l .start)
+            (subst (λ (z : List (H .Move)). Playing H z (l .start))
+            (ap {B = List (H .Move)} (λ z. l .xs ++ l .x ∷ z) e ∙ sym (append-assoc (l .xs) (l .x ∷ a) (x ∷ (b ++ c)))) (l .plays))
+
+        made : At (cameOn H (H .own x) (H .reply x (at-world a)) (lines-of a)) (H .site (H .next x (at-world a)))
+        made = move-keeps a x (b ++ c) e (H .own x) refl plays (lines-of a) G
+
+        longer : upTo (a ++ x ∷ []) ≡ upTo a ++ x ∷ []
+        longer = sym (append-assoc (l .xs) (l .x ∷ a) (x ∷ []))
+
+        next : At (lines-of (a ++ x ∷ [])) (H .site (at-world (a ++ x ∷ [])))
+        next =
+            subst (λ (z : List (H .Move)). At (cameIn H [] z (l .start)) (H .site (runIn H z (l .start)))) (sym longer)
+            (subst (λ (z : List (List ℕ)). At z (H .site (runIn H (upTo a ++ x ∷ []) (l .start)))) (sym (came-snoc [] (upTo a) x (l .start)))
+            (subst (λ (w : H .World). At (cameOn H (H .own x) (H .reply x (at-world a)) (lines-of a)) (H .site w)) (sym (run-snoc (upTo a) x (l .start))) made))
+
+    at-first : At (lines-of []) (H .site (at-world []))
+    at-first = subst (λ (t : State). At (lines-of []) t) (sym taken) (subst (λ (z : List (List ℕ)). At z (l .after)) (sym none-came) at-cut)
+
+    at-all : (a b : List (H .Move)) → l .ys ≡ a ++ b → At (lines-of a) (H .site (at-world a))
+    at-all a b e = keeps [] a b e at-first
+
+    at-end : At (lines-of (l .ys)) (H .site (at-world (l .ys)))
+    at-end = at-all (l .ys) [] (sym (append-nil (l .ys)))
+
+    -- At no moment is a lost line refused 10 that has not run and does not wait.
+    pub never-ten : (a : List (H .Move)) (x : H .Move) (b : List (H .Move)) (d : Did) → l .ys ≡ a ++ x ∷ b → H .own x ≡ some (Redo (didText d)) →
+        Mem d (lostBy (beforeCut H l) (l .after)) → (Mem d (H .site (runIn H (l .xs ++ l .x ∷ a) (l .start)) .log) → ⊥) →
+        (Mem d (H .site (runIn H (l .xs ++ l .x ∷ a) (l .start)) .waiting) → ⊥) → H .reply x (runIn H (l .xs ++ l .x ∷ a) (l .start)) ≡ refused TableFull → ⊥
+    unfolding before upTo at-world lines-of
+    never-ten a x b d e own lost out-log out-wait ten =
+        let G = at-all a (x ∷ b) e in
+        l .roomy a x b (didText d) e own
+        (were-live _ (fresh-below (before .histories) (l .after .log) (lostBy before (l .after)) chosen P (lines-of a) (H .site (at-world a)) G d lost
+        (λ r. out-log (mem-along (sym (G .inv .split)) (Memᴰ·append-right (l .after .log) r))) out-wait)) ten
+
+    pub recovered : Recovered (beforeCut H l) (l .after) (lostBy (beforeCut H l) (l .after)) chosen (cameIn H [] (l .xs ++ l .x ∷ l .ys) (l .start)) (atEnd H l)
+    unfolding before upTo at-world lines-of
+    recovered = ending (l .room) before (l .after) chosen before-good C P (lines-of (l .ys)) (H .site (at-world (l .ys))) at-end (l .asked .all)
+
+  module _ (l : ListIn H every) where
+    pub arrived : SameWork (beforeCut H l .log) (atEnd H l .log)
+    unfolding before upTo at-world lines-of
+    arrived = work-done (l .room) (before every l) (l .after) (C every l) (P every l) (lines-of every l (l .ys)) (H .site (at-world every l (l .ys))) (at-end every l) (l .asked .all)
+
+-- Demand 3 for a site in whatever carries it.
+pub host-recovery : (H : Host) → HostClaim H
+host-recovery H chosen l = recovered H chosen l
+
+-- and (n)
+pub host-arrival : (H : Host) → HostArrival H
+host-arrival H l = arrived H l
