@@ -6,6 +6,8 @@ pub mod Counted
 pub mod Recovery
 pub mod Checking
 pub mod Instance
+pub mod Arrival
+pub mod ArrivalLaws
 pub mod Host
 pub mod HostLaws
 pub mod Flagged

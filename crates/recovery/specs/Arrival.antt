@@ -1,0 +1,79 @@
+-- Request (n) of document 02, "One paper, any order of arrival": its words, each with the paper's sentence, and then the claim. It is proved in ArrivalLaws.
+use mathlib.Core.Path.{_≡_}
+use mathlib.Core.Logic.{_↔_}
+use mathlib.Core.Bool.{Bool, true}
+use mathlib.Core.List.{List, _∷_, _++_, List·Permᴰ as Perm}
+use Prim.Native.Nat.{ℕ}
+use lib.Dec.{T}
+use Rattle.forms.specs.Lists.{keep}
+use Rattle.forms.specs.Forms.{Did}
+use Rattle.rules.specs.Book.{touches}
+use Rattle.rules.specs.State.{State}
+use Rattle.rules.specs.Calls.{Call, Cut}
+use Rattle.rules.specs.Run.{run}
+use Rattle.recovery.specs.Claim.{Start, counted, Fair, lostBy, shares, Asked}
+
+-- ### Two logs
+
+-- "the did lines .. are rearrangements of each other": the same lines, each as often.
+abbrev pub Rearranged : List Did → List Did → Type 0
+Rearranged a b = Perm a b
+
+-- the lines of a log in history h, in their order
+abbrev pub linesIn : ℕ → List Did → List Did
+linesIn h log = keep (touches h) log
+
+-- d stands before e in a log
+abbrev pub StandsBefore : List Did → Did → Did → Type 0
+StandsBefore log d e = (a : List Did) × (b : List Did) × (c : List Did) × (log ≡ a ++ d ∷ (b ++ e ∷ c))
+
+-- "are rearrangements of each other .. and lines that share a history stand in the same order"
+pub record SameWork (a b : List Did) : Type 0 where
+  pub rearranged : Rearranged a b
+  pub sameOrder : (d e : Did) → T (shares d e) → StandsBefore a d e ↔ StandsBefore b d e
+  -- the same said of whole histories: each has the same list of lines
+  pub sameIn : (h : ℕ) → linesIn h a ≡ linesIn h b
+
+-- ### A delivery of all lost lines
+
+-- "orders of delivery of all lost lines after .. cuts": every lost line is chosen.
+abbrev pub every : Did → Bool
+every d = true
+
+-- "The conditions are those of the recovery promise": a list of calls, the picked cut, further calls, "with further cuts between".
+pub record Delivery : Type 0 where
+  pub counts : ℕ
+  pub site : State
+  pub start : Start counts site
+  pub calls : List Call
+  pub kept : ℕ
+  pub room : ℕ
+  pub further : List Call
+  pub after : State
+  pub fair : Fair (counted counts calls site) kept room (run calls site) after
+  pub asked : Asked counts site (λ a. calls ++ Cut kept room ∷ a) further (lostBy (run calls site) after) every
+
+-- "the log before the cut"
+abbrev pub logBefore : Delivery → List Did
+logBefore D = run (D .calls) (D .site) .log
+
+-- the final log
+abbrev pub logAtEnd : Delivery → List Did
+logAtEnd D = run (D .calls ++ Cut (D .kept) (D .room) ∷ D .further) (D .site) .log
+
+-- ### The claim
+
+-- One delivery: the final log is "the log before the cut" but for the order of lines that share no history.
+abbrev pub ArrivalClaim : Type 0
+ArrivalClaim = (D : Delivery) → SameWork (logBefore D) (logAtEnd D)
+
+-- "For any two orders of delivery of all lost lines after equal cuts, the did lines of the final logs are rearrangements of each other and of the log
+-- before the cut, and lines that share a history stand in the same order in all three."
+-- Of the cuts only the logs before them need to be equal; what they kept, their buffers, refused calls, repeats and further cuts may differ.
+pub record AllThree (first one other : List Did) : Type 0 where
+  pub oneOther : SameWork one other
+  pub firstOne : SameWork first one
+  pub firstOther : SameWork first other
+
+abbrev pub OrdersClaim : Type 0
+OrdersClaim = (D E : Delivery) → logBefore D ≡ logBefore E → AllThree (logBefore D) (logAtEnd D) (logAtEnd E)
