@@ -1,0 +1,142 @@
+-- The claim of the module is not empty: a list of calls of two slots that does what it asks of slot 0.
+use mathlib.Core.Path.{_≡_, refl, sym, ap, _∙_, subst}
+use mathlib.Core.Logic.{_⊎_, inl, inr}
+use mathlib.Core.Bool.{Bool, true, false, not, cond}
+use mathlib.Core.List.{List, [], _∷_, _++_, head-eq-of-cons-eq, tail-eq-of-cons-eq, nil≢cons}
+use mathlib.Core.List.{List·Memᴰ as Mem, List·Memᴰ·head as here, List·Memᴰ·not-nil, List·Memᴰ·cases-cons}
+use mathlib.Core.Option.{Option, none, some}
+use Prim.Native.Nat.{ℕ, _≤_}
+use native.Mathlib.Omega.{arith}
+use lib.Dec.{T, eqb}
+use lib.ListN.{length, take}
+use Rattle.forms.specs.Lists.{below}
+use Rattle.forms.specs.ListLaws.{mem-along}
+use Rattle.forms.specs.Words.{bytes, word}
+use Rattle.forms.specs.Decimal.{digitsWithin, digits, more, number}
+use Rattle.forms.specs.Forms.{Update, Change, Did, Answer, Opened, Restarted, fieldText, fieldsText, itemsText, tailText, listText, changeText, oneText, siteText, didText}
+use Rattle.forms.specs.Reading as reading
+use Rattle.forms.specs.Reading.{readDid, readSite, readWhole}
+use Rattle.forms.specs.declared.Rule.the-variants.{Inc}
+use Rattle.forms.specs.declared.DoneRule.the-variants.{DidInc}
+use Rattle.rules.specs.Rules.{replaced}
+use Rattle.rules.specs.Book.{Cell, entered, enter, enterAll, cellFrom, cell, touches, runsAt, canRun}
+use Rattle.rules.specs.Checks.{check, andThen, wrongCount, noSuchHistory, historyTwice, updateMisfits, changeMisfits, formRefusal, updatesRefusal, changesRefusal}
+use Rattle.rules.specs.Log.{ended, didsText, logText, linesFrom, restFrom, historiesFit, accepts, readLines, readFirst, readLog}
+use Rattle.rules.specs.State.{State, ok, logBytes, versionAt, liveDone, live, asks, dry, becameDry, rose, lineBytes, settle}
+use Rattle.rules.specs.Calls.{Call, Add, Finish, Cut, Redo, End, unless, openFull, openRefusal, opened, openSite, blockedBy, blocked, mayRunNow, ready, attempt, tryFrom, madeReady, nothingOrders, idPending, idDone, alreadyDone, readOvertaken, tableFull, addRefusal, arrived, add, changeOf, lineOf, valuesAfter, inProgress, future, without, logFull, finished, finishFound, finish, restarted, restartAs, restart, cutAbove, cut, stale, redoRefusal, behind, pick, drain, delivered, redoRead, redo, writableUpdate, writable, perform, step}
+use Rattle.rules.specs.When.{addWhen, redoReadWhen, redoWhen, lastly, cutWhen, performWhen, stepWhen}
+use Rattle.recovery.specs.Claim.{Start, justOpened, countedAfter, lostBy, Comes, comesAfter, Recovered}
+use Rattle.recovery.specs.Arrival.{every, SameWork}
+use Rattle.recovery.specs.Host.{runIn, countedIn, cameIn, FairIn, AskedIn}
+use Rattle.compact.specs.Module.{Slot, Module, slotAt, withSlot, others, liveOf, lacks, free, taken, uncovered, meetsTen, promisedAgain, Move, At, Open, Restart, replyOf, promiseOf, nextOf, made}
+use Rattle.compact.specs.Fits.{Fits, fits-made}
+use Rattle.compact.specs.FitsLaws.{fits-next}
+use Rattle.compact.specs.Claim.{siteOr, inSlot, SlotList, beforeCut, atEnd}
+use Rattle.compact.specs.ClaimLaws.{slot-recovery, slot-arrival}
+
+abbrev raise : List Update
+raise = record { rule = Inc; history = 0; version = 1; operand = 7 } ∷ []
+
+-- (did 1 (inc 0 1 1 7)), at both slots
+abbrev one : Did
+one = record { id = 1; changes = record { rule = DidInc; history = 0; version = 1; place = 1; operand = 7 } ∷ [] }
+
+abbrev start : Module
+start = nextOf (Open 0 1 100) made
+
+abbrev xs : List Move
+xs = At 0 (Add 1 raise) ∷ Open 1 1 100 ∷ At 0 (Finish 1) ∷ At 1 (Add 1 raise) ∷ []
+
+abbrev x : Move
+x = At 0 (Cut 9 100)
+
+abbrev p : Move
+p = At 1 (Finish 1)
+
+abbrev q : Move
+q = At 0 (Redo (didText one))
+
+abbrev ys : List Move
+ys = p ∷ q ∷ []
+
+abbrev after : State
+after = restarted 100 1 []
+
+-- What the rules compute.
+record Computed : Type 0 where
+  opens : openSite 1 100 ≡ ok (opened 1 100) Opened
+  isOpen : slotAt 0 start .site ≡ some (opened 1 100)
+  counts : countedIn (inSlot 0) 0 xs start ≡ 0
+  cuts : replyOf x (runIn (inSlot 0) xs start) ≡ ok after (Restarted 0 9)
+  room : siteOr (slotAt 0 (runIn (inSlot 0) xs start) .site) .room ≡ 100
+  lost : lostBy (siteOr (slotAt 0 (runIn (inSlot 0) xs start) .site)) after ≡ one ∷ []
+  came : cameIn (inSlot 0) [] (xs ++ x ∷ ys) start ≡ didText one ∷ []
+  final : siteOr (slotAt 0 (runIn (inSlot 0) (xs ++ x ∷ ys) start) .site) .log ≡ one ∷ []
+
+computed : Computed
+unfolding replaced entered enter enterAll cellFrom cell touches runsAt canRun unless openFull openRefusal opened openSite blockedBy blocked mayRunNow ready attempt tryFrom madeReady nothingOrders idPending idDone alreadyDone readOvertaken tableFull addRefusal arrived add changeOf lineOf valuesAfter inProgress future without logFull finished finishFound finish restarted restartAs restart cutAbove cut stale redoRefusal behind pick drain delivered redoRead redo writableUpdate writable perform step check andThen wrongCount noSuchHistory historyTwice updateMisfits changeMisfits formRefusal updatesRefusal changesRefusal ended didsText logText linesFrom restFrom historiesFit accepts readLines readFirst readLog logBytes versionAt liveDone live asks dry becameDry rose lineBytes settle below digitsWithin digits more number word fieldText fieldsText itemsText tailText listText changeText oneText siteText didText reading.field reading.doneRule reading.change reading.one reading.did reading.items reading.tail readWhole readDid readSite countedAfter comesAfter lostBy addWhen redoReadWhen redoWhen lastly cutWhen performWhen stepWhen runIn countedIn cameIn slotAt withSlot others liveOf lacks free taken uncovered meetsTen promisedAgain replyOf promiseOf nextOf
+computed = record { opens = refl; isOpen = refl; counts = refl; cuts = refl; room = refl; lost = refl; came = refl; final = refl }
+
+two : (a : List Move) (y : Move) (b : List Move) → ys ≡ a ++ y ∷ b → (y ≡ p) ⊎ (y ≡ q)
+two [] y b e = inl (sym (head-eq-of-cons-eq e))
+two (z ∷ []) y b e = inr (sym (head-eq-of-cons-eq (tail-eq-of-cons-eq e)))
+two (z ∷ z′ ∷ []) y b e = absurd (nil≢cons (tail-eq-of-cons-eq (tail-eq-of-cons-eq e)))
+two (z ∷ z′ ∷ z″ ∷ a) y b e = absurd (nil≢cons (tail-eq-of-cons-eq (tail-eq-of-cons-eq e)))
+
+-- the only call of slot 0 is a redo
+own-is : (a : List Move) (y : Move) (b : List Move) (c : Call) → ys ≡ a ++ y ∷ b → inSlot 0 .own y ≡ some c → c ≡ Redo (didText one)
+own-is a y b c e o = go (two a y b e)
+  where
+    same : (u v : Call) → some u ≡ some v → v ≡ u
+    same u v r = cc
+
+    go : (y ≡ p) ⊎ (y ≡ q) → c ≡ Redo (didText one)
+    go (inl r) = absurd (let s : none ≡ some c = ap (inSlot 0 .own) (sym r) ∙ o in let z : _≡_ {A = ℕ} 0 1 = cc in omega arith)
+    go (inr r) = same (Redo (didText one)) c (ap (inSlot 0 .own) (sym r) ∙ o)
+
+line-is : (line : List ℕ) → Redo line ≡ Redo (didText one) → line ≡ didText one
+line-is line e = cc
+
+list : SlotList 0 every
+list =
+    record {
+      counts = 0;
+      start = start;
+      fits = fits-next (Open 0 1 100) made fits-made;
+      site = opened 1 100;
+      isOpen = computed .isOpen;
+      begins = justOpened 1 100 (opened 1 100) Opened (computed .opens);
+      xs = xs;
+      x = x;
+      k = 9;
+      room = 100;
+      ys = ys;
+      after = after;
+      on = tt;
+      fair =
+          record {
+            isCut = refl;
+            answer = Restarted 0 9;
+            accepted = computed .cuts;
+            keeps = λ d m. absurd (List·Memᴰ·not-nil (none-counted d m));
+            noShorter = omega (arith, computed .room);
+          };
+      asked =
+          record {
+            cuts = λ a y b k room st answer e o r. absurd (let s = own-is a y b (Cut k room) e o in let z : _≡_ {A = ℕ} 0 1 = cc in omega arith);
+            redos = λ a y b line st answer e o r. (one, mem-along (sym (computed .lost)) (here refl), tt, line-is line (own-is a y b (Redo line) e o));
+            ends = λ a y b st answer e o r. let s = own-is a y b End e o in let z : _≡_ {A = ℕ} 0 1 = cc in omega arith;
+            all = λ d m t. mem-along (sym (computed .came)) (only d (List·Memᴰ·cases-cons (mem-along (computed .lost) m)));
+          };
+    }
+  where
+    none-counted : (d : Did) → Mem d (take (countedIn (inSlot 0) 0 xs start) (siteOr (slotAt 0 (runIn (inSlot 0) xs start) .site) .log)) → Mem d []
+    none-counted d m = mem-along (ap (λ (n : ℕ). take n (siteOr (slotAt 0 (runIn (inSlot 0) xs start) .site) .log)) (computed .counts)) m
+
+    only : (d : Did) → (d ≡ one) ⊎ Mem d [] → Mem (didText d) (didText one ∷ [])
+    only d (inl e) = here (ap didText e)
+    only d (inr m) = absurd (List·Memᴰ·not-nil m)
+
+-- What the claims say of it.
+returned : SameWork (beforeCut list .log) (atEnd list .log)
+returned = slot-arrival 0 list

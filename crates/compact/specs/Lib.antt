@@ -1,0 +1,9 @@
+pub mod Module
+pub mod Fits
+pub mod FitsLaws
+pub mod Claim
+pub mod ClaimLaws
+pub mod Alone
+pub mod AloneLaws
+pub mod Examples
+pub mod Instance

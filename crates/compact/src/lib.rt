@@ -1,0 +1,1 @@
+// No code: request (m) of document 02 stands in specs/.
