@@ -8,9 +8,9 @@ use Rattle.forms.specs.Forms.{outcomeText}
 use Rattle.rules.specs.State.{Reply}
 use Rattle.rules.specs.Log.{ended}
 use Rattle.rules.specs.Session.{turnOf}
-use Rattle.writer.specs.declared.Written.{Written}
-use Rattle.writer.specs.declared.Written.the-variants.{At, NoRoom}
-use Rattle.writer.specs.Write.{Writes}
+use Rattle.forms.specs.declared.writer.Written.{Written}
+use Rattle.forms.specs.declared.writer.Written.the-variants.{At, NoRoom}
+use Rattle.forms.specs.Write.{Writes}
 
 -- Where a text ends in a buffer, or 2^64 − 1 where it does not fit.
 abbrev pub codeOf : Written → ℕ

@@ -13,8 +13,8 @@ use Rattle.rules.specs.Session.{turnOf}
 use Rattle.site.specs.declared.Site.{Site}
 use Rattle.site.specs.declared.Called.{Called}
 use Rattle.site.specs.Model.{Lent, lent, Says, Does}
-use Rattle.writer.specs.declared.Written.{Written}
-use Rattle.writer.specs.Write.{Writes, withEnd}
+use Rattle.forms.specs.declared.writer.Written.{Written}
+use Rattle.forms.specs.Write.{Writes, withEnd}
 use Rattle.boundary.specs.Codes.{codeOf, PutsText, replyText}
 
 -- The reply of a call is the rule book's.

@@ -25,7 +25,7 @@ fn kept_number(r: Kept) -> u64
     let k = r.keeper;
     match v {
         Verdict::Passes => k.used as u64 + 1000,
-        Verdict::Refused(q) => writer::refusal_number(q),
+        Verdict::Refused(q) => forms::writer::refusal_number(q),
     }
 }
 
@@ -74,7 +74,7 @@ fn handed_number(r: HandOut) -> u64
 {
     match r {
         HandOut::Handed(n) => n as u64 + 1000,
-        HandOut::Withheld(q) => writer::refusal_number(q),
+        HandOut::Withheld(q) => forms::writer::refusal_number(q),
     }
 }
 

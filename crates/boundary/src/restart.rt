@@ -2,9 +2,9 @@
 ghost use mathlib.Core.Path.{_≡_};
 ghost use Rattle.rules.specs.Calls.{restart};
 ghost use Rattle.boundary.specs.Codes.{codeOf, PutsText, replyText};
+use forms::writer::Written;
+use forms::writer::write_reply;
 use site::Site;
-use writer::Written;
-use writer::write_reply;
 
 // A place in a buffer as a plain number: 2^64 − 1 where there was no room.
 pub fn code(w: Written) -> usize

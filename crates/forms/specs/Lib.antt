@@ -13,3 +13,16 @@ pub mod DidLaws
 pub mod CommandLaws
 pub mod LengthLaws
 pub mod HeldLaws
+pub mod Read
+pub mod SeenLaws
+pub mod AtLaws
+pub mod KindLaws
+pub mod ItemLaws
+pub mod FromLaws
+pub mod LoopLaws
+pub mod WholeLaws
+pub mod AnswerLaws
+pub mod Write
+pub mod WriteLaws
+pub mod TextLaws
+pub mod RoundTrip

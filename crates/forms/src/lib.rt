@@ -1,4 +1,7 @@
-// The values that the lines of document 01 carry, and the refusals. Their printed forms and their reading are in specs/.
+// The line forms, the lowest part: the values that the lines of document 01 carry, and the refusals; `reader` reads lines and `writer`
+// writes them. How each is printed and what each line means is said in specs/.
+pub mod reader;
+pub mod writer;
 
 // The rule of an update that is asked for.
 pub enum Rule {

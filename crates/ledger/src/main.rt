@@ -6,13 +6,13 @@ ghost use Rattle.session.specs.Feeding.{UsableBegun};
 ghost use Rattle.site.specs.Model.{lent};
 ghost use Rattle.stream.specs.Model.{ValidStream};
 use forms::ListWords;
+use forms::writer::Written;
 use history::book::BookWords;
 use libc::STDIN_FILENO;
 use libc::STDOUT_FILENO;
 use stream::Stream;
 use table::slots::DoneWords;
 use table::slots::QueueWords;
-use writer::Written;
 
 // The stream after some input, and whether to go on.
 struct Going {

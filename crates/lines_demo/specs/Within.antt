@@ -12,12 +12,12 @@ use Rattle.forms.specs.Decimal.{Step}
 use Rattle.forms.specs.Decimal.Step.{got, bad}
 use Rattle.forms.specs.Forms.{Did}
 use Rattle.forms.specs.Held.{heldDid, heldChanges}
-use Rattle.reader.specs.Read.{didAnswer}
-use Rattle.reader.specs.declared.DidRead.{DidRead}
-use Rattle.writer.specs.Write.{Writes, WritesIf, HeldInRange}
-use Rattle.writer.specs.WriteLaws.{placed-length}
-use Rattle.writer.specs.declared.Written.{Written}
-use Rattle.writer.specs.declared.Written.the-variants.{At, NoRoom}
+use Rattle.forms.specs.Read.{didAnswer}
+use Rattle.forms.specs.declared.reader.DidRead.{DidRead}
+use Rattle.forms.specs.Write.{Writes, WritesIf, HeldInRange}
+use Rattle.forms.specs.WriteLaws.{placed-length}
+use Rattle.forms.specs.declared.writer.Written.{Written}
+use Rattle.forms.specs.declared.writer.Written.the-variants.{At, NoRoom}
 
 -- An answer's position is none past n bytes.
 abbrev pub Within : Written → ℕ → Type 0

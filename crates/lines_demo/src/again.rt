@@ -2,10 +2,10 @@
 use super::say;
 use super::say_number;
 use forms::DidLine;
-use reader::SiteRead;
-use writer::Written;
+use forms::reader::SiteRead;
+use forms::writer::Written;
 ghost use lib.ListN.{length};
-ghost use Rattle.writer.specs.Write.{HeldInRange};
+ghost use Rattle.forms.specs.Write.{HeldInRange};
 ghost use Rattle.lines_demo.specs.Within.{Within};
 
 // The bytes up to where writing ended, with their number.
@@ -27,13 +27,13 @@ fn write_again(d: DidLine)
     requires { ⌜ HeldInRange (d .held) ⌝ }
 {
     let mut buf = [b'.'; 384];
-    let w = writer::write_did(&mut buf, 0, d);
+    let w = forms::writer::write_did(&mut buf, 0, d);
     say_front(w, &buf);
 }
 
 // A line that reads as a did line, where all its updates are held.
 pub fn say_did_again(s: &[u8]) {
-    let r = reader::read_did(s);
+    let r = forms::reader::read_did(s);
     if r.ok {
         let did = r.did;
         let held = did.held;
@@ -45,9 +45,9 @@ pub fn say_did_again(s: &[u8]) {
 
 // A line that reads as a site line.
 pub fn say_site_again(s: &[u8]) {
-    if let SiteRead::Value(n) = reader::read_site(s) {
+    if let SiteRead::Value(n) = forms::reader::read_site(s) {
         let mut buf = [b'.'; 28];
-        let w = writer::write_site(&mut buf, 0, n);
+        let w = forms::writer::write_site(&mut buf, 0, n);
         say_front(w, &buf);
     }
 }

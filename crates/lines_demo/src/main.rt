@@ -8,8 +8,8 @@ use forms::DoneRule;
 use forms::Place;
 use forms::Rule;
 use forms::Version;
-use reader::CommandForm;
-use reader::SiteRead;
+use forms::reader::CommandForm;
+use forms::reader::SiteRead;
 
 mod again;
 mod replies;
@@ -115,7 +115,7 @@ fn say_form(f: CommandForm) {
 
 // A line as a command, with what its form holds.
 fn say_command(s: &[u8]) {
-    let c = reader::read_command(s);
+    let c = forms::reader::read_command(s);
     let form = c.form;
     let asked = c.asked;
     let did = c.did;
@@ -131,13 +131,13 @@ fn say_command(s: &[u8]) {
 // A line as each of the three kinds.
 fn say_line(s: &[u8]) {
     say_command(s);
-    let r = reader::read_did(s);
+    let r = forms::reader::read_did(s);
     if r.ok {
         let did = r.did;
         say(b" |");
         say_did(did);
     }
-    if let SiteRead::Value(n) = reader::read_site(s) {
+    if let SiteRead::Value(n) = forms::reader::read_site(s) {
         say_number(b" | opens ", n);
     }
     say(b"\n");

@@ -17,7 +17,7 @@ fn say_reply(form: ReplyForm, xs: &[u64], ys: &[u64])
     requires { ⌜ (length (now xs) ≤ 64) × (length (now ys) ≤ 64) ⌝ }
 {
     let mut buf = [b'.'; 2730];
-    let w = writer::write_reply(&mut buf, 0, form, xs, ys);
+    let w = forms::writer::write_reply(&mut buf, 0, form, xs, ys);
     say_front(w, &buf);
 }
 

@@ -3,10 +3,10 @@ use super::say;
 use super::say_number;
 use forms::DidLine;
 use forms::ReplyForm;
-use writer::Written;
+use forms::writer::Written;
 ghost use Prim.Native.Nat.{_≤_};
 ghost use lib.ListN.{length};
-ghost use Rattle.writer.specs.Write.{HeldInRange};
+ghost use Rattle.forms.specs.Write.{HeldInRange};
 
 // The answer, and the whole buffer as it is now.
 fn say_whole(r: Written, buf: &[u8]) {
@@ -22,19 +22,19 @@ fn say_whole(r: Written, buf: &[u8]) {
 fn try_did(buf: &mut [u8], at: usize, d: DidLine)
     requires { ⌜ HeldInRange (d .held) ⌝ }
 {
-    let r = writer::write_did(buf, at, d);
+    let r = forms::writer::write_did(buf, at, d);
     say_whole(r, buf);
 }
 
 fn try_site(buf: &mut [u8], at: usize, n: u64) {
-    let r = writer::write_site(buf, at, n);
+    let r = forms::writer::write_site(buf, at, n);
     say_whole(r, buf);
 }
 
 fn try_ready(buf: &mut [u8], at: usize, ids: &[u64])
     requires { ⌜ length (now ids) ≤ 64 ⌝ }
 {
-    let w = writer::write_reply(buf, at, ReplyForm::Added, ids, &[]);
+    let w = forms::writer::write_reply(buf, at, ReplyForm::Added, ids, &[]);
     say_whole(w, buf);
 }
 
@@ -57,7 +57,7 @@ fn try_dids(d: DidLine)
 
 // The paper's first did line.
 pub fn say_did_room() {
-    let r = reader::read_did(b"(did 5 (inc 0 1 1 513)(not 1 0 1 0))");
+    let r = forms::reader::read_did(b"(did 5 (inc 0 1 1 513)(not 1 0 1 0))");
     let did = r.did;
     let held = did.held;
     if held.count <= 4 {

@@ -8,8 +8,8 @@ use Rattle.forms.specs.Forms.{Outcome, outcomeText}
 use Rattle.forms.specs.Held.{replied, outcomeOf}
 use Rattle.rules.specs.Session.{Turn}
 use Rattle.site.specs.Model.{Lent}
-use Rattle.writer.specs.declared.Written.{Written}
-use Rattle.writer.specs.Write.{Writes, withEnd}
+use Rattle.forms.specs.declared.writer.Written.{Written}
+use Rattle.forms.specs.Write.{Writes, withEnd}
 use Rattle.session.specs.declared.Session.{Session}
 use Rattle.session.specs.declared.Turned.{Turned}
 use Rattle.session.specs.declared.Answered.{Answered}

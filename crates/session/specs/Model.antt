@@ -12,12 +12,12 @@ use Rattle.forms.specs.declared.Refusal.the-variants.{Unreadable}
 use Rattle.rules.specs.State.{State, refused}
 use Rattle.rules.specs.Calls.{Call}
 use Rattle.rules.specs.Session.{Turn, turnOf, opening, calling, turn}
-use Rattle.reader.specs.declared.CommandForm.{CommandForm}
+use Rattle.forms.specs.declared.reader.CommandForm.{CommandForm}
 use Rattle.site.specs.declared.Site.{Site}
 use Rattle.site.specs.declared.Called.{Called}
 use Rattle.site.specs.Whole.{Whole, Sound}
 use Rattle.site.specs.Model.{Lent, whole, view, Says}
-use Rattle.writer.specs.Write.{Writes, withEnd}
+use Rattle.forms.specs.Write.{Writes, withEnd}
 use Rattle.session.specs.declared.Session.{Session}
 use Rattle.session.specs.declared.Turned.{Turned}
 use Rattle.session.specs.declared.Answered.{Answered}

@@ -22,9 +22,9 @@ use Rattle.forms.specs.CommandLaws.{command-read}
 use Rattle.rules.specs.State.{State, Reply}
 use Rattle.rules.specs.Calls.{Call, writableUpdate, writable, perform, step, redo, redoRead}
 use Rattle.rules.specs.Session.{Turn, calling, turn}
-use Rattle.reader.specs.declared.CommandForm.{CommandForm}
-use Rattle.reader.specs.declared.CommandRead.{CommandRead}
-use Rattle.reader.specs.Read.{updatesIn, didIn, noDid, commandAnswer}
+use Rattle.forms.specs.declared.reader.CommandForm.{CommandForm}
+use Rattle.forms.specs.declared.reader.CommandRead.{CommandRead}
+use Rattle.forms.specs.Read.{updatesIn, didIn, noDid, commandAnswer}
 use Rattle.site.specs.declared.Called.{Called}
 use Rattle.site.specs.Model.{Lent, view, Does}
 use Rattle.site.specs.ModelLaws.{step-performs}

@@ -19,7 +19,7 @@ use Rattle.forms.specs.declared.Refusal.the-variants.{Unreadable, OutOfTurn}
 use Rattle.rules.specs.State.{State, Reply, refused, ok}
 use Rattle.rules.specs.Calls.{Call, step}
 use Rattle.rules.specs.Session.{Turn, turnOf, opening, calling, obey, onCommand, turn}
-use Rattle.reader.specs.Read.{updatesIn, didIn, noDid, commandAnswer}
+use Rattle.forms.specs.Read.{updatesIn, didIn, noDid, commandAnswer}
 use Rattle.site.specs.declared.Called.{Called}
 use Rattle.site.specs.Model.{Lent, view, Valid, Says, Does, Printable, Few}
 use Rattle.session.specs.declared.Session.{Session}

@@ -12,7 +12,7 @@ ghost use Rattle.forms.specs.Held.{heldUpdates, heldDid, replied, outcomeOf};
 ghost use Rattle.rules.specs.Calls.{Call, writableUpdate};
 ghost use Rattle.rules.specs.Session.{calling, opening, turn};
 ghost use Rattle.site.specs.Model.{Lent, lent, Printable};
-ghost use Rattle.writer.specs.Write.{Writes, withEnd};
+ghost use Rattle.forms.specs.Write.{Writes, withEnd};
 ghost use Rattle.session.specs.Model.{sessionView, ValidSession, turnedOf, Refuses, Turns, TurnsCall, TurnsLine, obeyed, Starts, Answers};
 ghost use Rattle.session.specs.Feeding.{Begins};
 use forms::AskedHeld;
@@ -20,17 +20,17 @@ use forms::DidLine;
 use forms::ListWords;
 use forms::Refusal;
 use forms::ReplyLine;
+use forms::reader::CommandForm;
+use forms::reader::CommandRead;
+use forms::reader::read_command;
+use forms::writer::Written;
+use forms::writer::write_reply;
 use history::book::BookWords;
-use reader::CommandForm;
-use reader::CommandRead;
-use reader::read_command;
 use site::Called;
 use site::Site;
 use site::refusal;
 use table::slots::DoneWords;
 use table::slots::QueueWords;
-use writer::Written;
-use writer::write_reply;
 
 // A session by value: whether its site is open, and that site. Its log buffer is lent to each call.
 pub struct Session {

@@ -13,7 +13,7 @@ use Rattle.rules.specs.Session.{Turn, turn}
 use Rattle.journal.specs.Model.{EndAt}
 use Rattle.journal.specs.LineLaws.{take-line}
 use Rattle.site.specs.Model.{Lent, Printable}
-use Rattle.writer.specs.Write.{Wrote}
+use Rattle.forms.specs.Write.{Wrote}
 use Rattle.session.specs.declared.Begun.{Begun}
 use Rattle.session.specs.declared.Session.{Session}
 use Rattle.session.specs.declared.Turned.{Turned}

@@ -11,7 +11,7 @@ use Rattle.rules.specs.LineSplitLaws.{NoEnd, lines-from-open, rest-from-open}
 use Rattle.rules.specs.Session.{turn, replies, afterLines, restReply, sessionIn}
 use Rattle.session.specs.Feeding.{Progress, atStart, fed}
 use Rattle.session.specs.FeedingLaws.{fed-append, fed-end}
-use Rattle.writer.specs.Write.{placed, Wrote}
+use Rattle.forms.specs.Write.{placed, Wrote}
 use Rattle.stream.specs.Model.{Fronts}
 
 -- ### Progress

@@ -21,10 +21,10 @@ use Rattle.session.specs.declared.Begun.{Begun}
 use Rattle.session.specs.declared.Session.{Session}
 use Rattle.session.specs.Model.{sessionView, Starts}
 use Rattle.session.specs.Feeding.{Progress, atStart, fed, UsableBegun, Begins}
-use Rattle.writer.specs.Write.{placed, Wrote, Writes, WritesIf, withEnd}
-use Rattle.writer.specs.WriteLaws.{placed-none, writes-there, writes-not}
-use Rattle.writer.specs.declared.Written.{Written}
-use Rattle.writer.specs.declared.Written.the-variants.{At, NoRoom}
+use Rattle.forms.specs.Write.{placed, Wrote, Writes, WritesIf, withEnd}
+use Rattle.forms.specs.WriteLaws.{placed-none, writes-there, writes-not}
+use Rattle.forms.specs.declared.writer.Written.{Written}
+use Rattle.forms.specs.declared.writer.Written.the-variants.{At, NoRoom}
 use Rattle.stream.specs.declared.Stream.{Stream}
 use Rattle.stream.specs.declared.Fed.{Fed}
 use Rattle.stream.specs.declared.Ran.{Ran}

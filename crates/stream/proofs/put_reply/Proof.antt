@@ -3,7 +3,7 @@ use denote.Ref.{now}
 use Rattle.forms.specs.Forms.{outcomeText}
 use Rattle.forms.specs.Held.{replied, outcomeOf}
 use Rattle.rules.specs.Log.{ended}
-use Rattle.writer.specs.WriteLaws.{end-size}
+use Rattle.forms.specs.WriteLaws.{end-size}
 use Rattle.stream.specs.RunLaws.{wrote-at, wrote-not}
 use borrow.Author.Needs.{needs}
 use Rattle.stream.proofs.put_reply.Statement.{statement}

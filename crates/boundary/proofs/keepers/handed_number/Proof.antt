@@ -6,7 +6,7 @@ use Rattle.boundary.proofs.keepers.handed_number.Statement.{statement}
 use Rattle.boundary.proofs.keepers.handed_number.Tie as tie
 use Rattle.boundary.proofs.keepers.handed_number.Reads as reads
 use Rattle.boundary.proofs.keepers.handed_number.Lts as lts
-use Rattle.writer.proofs.refusal_number.Reads as refusal-number-reads
+use Rattle.forms.proofs.writer.refusal_number.Reads as refusal-number-reads
 
 enum-known-r : tie.Need-enum-known-r
 enum-known-r c = search needs

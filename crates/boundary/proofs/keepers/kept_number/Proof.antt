@@ -6,7 +6,7 @@ use Rattle.boundary.proofs.keepers.kept_number.Statement.{statement}
 use Rattle.boundary.proofs.keepers.kept_number.Tie as tie
 use Rattle.boundary.proofs.keepers.kept_number.Reads as reads
 use Rattle.boundary.proofs.keepers.kept_number.Lts as lts
-use Rattle.writer.proofs.refusal_number.Reads as refusal-number-reads
+use Rattle.forms.proofs.writer.refusal_number.Reads as refusal-number-reads
 
 enum-told : tie.Need-enum-told
 enum-told c = search needs

@@ -14,7 +14,7 @@ use Rattle.boundary.proofs.restart.site_restart.Reads as reads
 use Rattle.boundary.proofs.restart.site_restart.Lts as lts
 use Rattle.boundary.proofs.restart.code.Reads as code-reads
 use Rattle.site.proofs.Site.restart.Reads as restart-reads
-use Rattle.writer.proofs.write_reply.Reads as write-reply-reads
+use Rattle.forms.proofs.writer.write_reply.Reads as write-reply-reads
 
 -- the words of the histories before the restart
 abbrev bs : List ℕ

@@ -6,7 +6,7 @@ use Rattle.lines_demo.proofs.again.say_did_again.Tie as tie
 use Rattle.lines_demo.proofs.again.say_did_again.Reads as reads
 use Rattle.lines_demo.proofs.again.say_did_again.Lts as lts
 use Rattle.lines_demo.proofs.again.write_again.Reads as write-again-reads
-use Rattle.reader.proofs.read_did.Reads as read-did-reads
+use Rattle.forms.proofs.reader.read_did.Reads as read-did-reads
 
 -- src/again.rt:36:9
 read-did-requires : tie.Need-read-did-requires

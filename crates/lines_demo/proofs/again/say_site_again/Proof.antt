@@ -5,8 +5,8 @@ use Rattle.lines_demo.proofs.again.say_site_again.Tie as tie
 use Rattle.lines_demo.proofs.again.say_site_again.Reads as reads
 use Rattle.lines_demo.proofs.again.say_site_again.Lts as lts
 use Rattle.lines_demo.proofs.again.say_front.Reads as say-front-reads
-use Rattle.reader.proofs.read_site.Reads as read-site-reads
-use Rattle.writer.proofs.write_site.Reads as write-site-reads
+use Rattle.forms.proofs.reader.read_site.Reads as read-site-reads
+use Rattle.forms.proofs.writer.write_site.Reads as write-site-reads
 
 -- src/again.rt:48:33
 read-site-requires : tie.Need-read-site-requires

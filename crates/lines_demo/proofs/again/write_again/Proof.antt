@@ -5,7 +5,7 @@ use Rattle.lines_demo.proofs.again.write_again.Tie as tie
 use Rattle.lines_demo.proofs.again.write_again.Reads as reads
 use Rattle.lines_demo.proofs.again.write_again.Lts as lts
 use Rattle.lines_demo.proofs.again.say_front.Reads as say-front-reads
-use Rattle.writer.proofs.write_did.Reads as write-did-reads
+use Rattle.forms.proofs.writer.write_did.Reads as write-did-reads
 
 -- src/again.rt:30:31
 slice-aggregate-write-did : tie.Need-slice-aggregate-write-did

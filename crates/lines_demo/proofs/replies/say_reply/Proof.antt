@@ -5,7 +5,7 @@ use Rattle.lines_demo.proofs.replies.say_reply.Tie as tie
 use Rattle.lines_demo.proofs.replies.say_reply.Reads as reads
 use Rattle.lines_demo.proofs.replies.say_reply.Lts as lts
 use Rattle.lines_demo.proofs.again.say_front.Reads as say-front-reads
-use Rattle.writer.proofs.write_reply.Reads as write-reply-reads
+use Rattle.forms.proofs.writer.write_reply.Reads as write-reply-reads
 
 -- src/replies.rt:20:33
 slice-aggregate-write-reply : tie.Need-slice-aggregate-write-reply

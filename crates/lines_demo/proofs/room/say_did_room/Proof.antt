@@ -6,7 +6,7 @@ use Rattle.lines_demo.proofs.room.say_did_room.Tie as tie
 use Rattle.lines_demo.proofs.room.say_did_room.Reads as reads
 use Rattle.lines_demo.proofs.room.say_did_room.Lts as lts
 use Rattle.lines_demo.proofs.room.try_dids.Reads as try-dids-reads
-use Rattle.reader.proofs.read_did.Reads as read-did-reads
+use Rattle.forms.proofs.reader.read_did.Reads as read-did-reads
 
 -- src/room.rt:60:30
 slice-aggregate-read-did : tie.Need-slice-aggregate-read-did

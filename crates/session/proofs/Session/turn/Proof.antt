@@ -6,7 +6,7 @@ use Rattle.session.proofs.Session.turn.Statement.{statement}
 use Rattle.session.proofs.Session.turn.Tie as tie
 use Rattle.session.proofs.Session.turn.Reads as reads
 use Rattle.session.proofs.Session.turn.Lts as lts
-use Rattle.reader.proofs.read_command.Reads as read-command-reads
+use Rattle.forms.proofs.reader.read_command.Reads as read-command-reads
 use Rattle.session.proofs.Session.obey.Reads as obey-reads
 
 read-command-requires : tie.Need-read-command-requires

@@ -1,0 +1,73 @@
+-- Laws of reading at a position of a list of bytes.
+use Prim.Native.Nat.{ℕ, _+_, _-_, _*_, _≤_, _<_}
+use mathlib.Core.Path.{_≡_, refl, ap, sym, _∙_}
+use mathlib.Core.List.{List, _∷_}
+use mathlib.Core.Bool.{Bool, true, false, cond}
+use mathlib.Core.Logic.{_⊎_, ⊎-elim}
+use native.Mathlib.Numerals.{add-one}
+use lib.ListN.{length, drop, getD, drop-of-length-le}
+use lib.Seq.{drop-cons}
+use lib.Dec.{eqb}
+use borrow.Author.Tests.{lt-leb, eq-eqb, ne-eqb}
+use Rattle.forms.specs.Decimal.{isDigit, firstIsDigit, top, number, more, Step}
+use Rattle.forms.specs.Decimal.Step.{got, bad}
+use Rattle.forms.specs.Words.{word}
+use Rattle.forms.specs.DecimalLaws.{more-digit, more-stop}
+
+-- What stands at a position before the end.
+pub at-cons : (s : List ℕ) (at : ℕ) → at < length s → drop at s ≡ getD s at 0 ∷ drop (at + 1) s
+at-cons s at h = rw (add-one) (drop-cons s at 0 h)
+
+pub number-end : (s : List ℕ) (at : ℕ) → length s ≤ at → number (drop at s) ≡ bad
+unfolding number
+number-end s at h = rw (drop-of-length-le s h)
+
+same : (t : Bool) → _≡_ {A = Step ℕ} (cond t bad bad) bad
+same true = refl
+same false = refl
+
+module _ (s : List ℕ) (at : ℕ) (within : at < length s) where
+  pub number-none : isDigit (getD s at 0) ≡ false → number (drop at s) ≡ bad
+  unfolding number
+  number-none e = rw (at-cons s at within, e)
+
+  pub number-first : isDigit (getD s at 0) ≡ true → number (drop at s) ≡ more (getD s at 0 - 48) (drop (at + 1) s)
+  unfolding number
+  number-first e = rw (at-cons s at within, e)
+
+  pub more-none : (v : ℕ) → isDigit (getD s at 0) ≡ false → more v (drop at s) ≡ got v (drop at s)
+  more-none v e = more-stop v (drop at s) (ap firstIsDigit (at-cons s at within) ∙ e)
+
+  pub more-next : (v : ℕ) → isDigit (getD s at 0) ≡ true → 0 < v → v * 10 + (getD s at 0 - 48) ≤ top
+      → more v (drop at s) ≡ more (v * 10 + (getD s at 0 - 48)) (drop (at + 1) s)
+  more-next v e hv ht = ap (more v) (at-cons s at within) ∙ more-digit v (getD s at 0) (drop (at + 1) s) e hv ht
+
+  pub more-refused : (v : ℕ) → isDigit (getD s at 0) ≡ true → (v ≡ 0) ⊎ (top < v * 10 + (getD s at 0 - 48)) → more v (drop at s) ≡ bad
+  unfolding more
+  more-refused v e w = ap (more v) (at-cons s at within) ∙
+      ⊎-elim
+      (λ (z : v ≡ 0). rw (e, eq-eqb v 0 z))
+      (λ (h : top < v * 10 + (getD s at 0 - 48)). rw (e, lt-leb (v * 10 + (getD s at 0 - 48)) top h) (same (eqb v 0)))
+      w
+
+pub more-end : (s : List ℕ) (at : ℕ) → length s ≤ at → (v : ℕ) → more v (drop at s) ≡ got v (drop at s)
+more-end s at h v = more-stop v (drop at s) (ap firstIsDigit (drop-of-length-le s h))
+
+-- Words at positions.
+pub word-done : (w s : List ℕ) (i next : ℕ) → length w ≤ i → word (drop i w) (drop next s) ≡ got tt (drop next s)
+unfolding word
+word-done w s i next h = rw (drop-of-length-le w h)
+
+module _ (w s : List ℕ) (i next : ℕ) (more : i < length w) where
+  pub word-end : length s ≤ next → word (drop i w) (drop next s) ≡ bad
+  unfolding word
+  word-end h = rw (at-cons w i more, drop-of-length-le s h)
+
+  module _ (within : next < length s) where
+    pub word-other : (getD s next 0 ≡ getD w i 0 → ⊥) → word (drop i w) (drop next s) ≡ bad
+    unfolding word
+    word-other h = rw (at-cons w i more, at-cons s next within, ne-eqb (getD w i 0) (getD s next 0) (λ e. h (sym e)))
+
+    pub word-next : getD s next 0 ≡ getD w i 0 → word (drop i w) (drop next s) ≡ word (drop (i + 1) w) (drop (next + 1) s)
+    unfolding word
+    word-next h = rw (at-cons w i more, at-cons s next within, eq-eqb (getD w i 0) (getD s next 0) (sym h))
