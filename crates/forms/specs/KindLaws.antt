@@ -9,7 +9,7 @@ use borrow.Author.Tests.{le-leb, lt-leb, ne-eqb}
 use Rattle.forms.specs.Decimal.{isDigit}
 use Rattle.forms.specs.DecimalLaws.{digit-range}
 use Rattle.forms.specs.Read.{isLetter, kindOf}
-use Rattle.forms.specs.declared.reader.Kind.the-variants.{Digit, Letter, Open, Close, Space, Other}
+use Rattle.forms.specs.declared.tokens.Kind.the-variants.{Digit, Letter, Open, Close, Space, Other}
 
 -- a byte in a range, below it and above it
 in-range : (lo hi b : ℕ) → lo ≤ b → b ≤ hi → (leb lo b && leb b hi) ≡ true

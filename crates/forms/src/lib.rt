@@ -1,6 +1,10 @@
 // The line forms, the lowest part: the values that the lines of document 01 carry, and the refusals; `reader` reads lines and `writer`
 // writes them. How each is printed and what each line means is said in specs/.
+mod lengths;
 pub mod reader;
+mod text;
+mod tokens;
+mod updates;
 pub mod writer;
 
 // The rule of an update that is asked for.

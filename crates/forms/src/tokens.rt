@@ -1,0 +1,127 @@
+// Reading bytes, numbers and words. Each function reads one thing at a position of a line and tells the position behind it.
+ghost use mathlib.Core.Path.{_≡_};
+ghost use Prim.Native.Nat.{_≤_, _<_};
+ghost use lib.ListN.{length, drop};
+ghost use Rattle.forms.specs.Decimal.{number};
+ghost use Rattle.forms.specs.Words.{word};
+ghost use Rattle.forms.specs.Reading.{field};
+ghost use Rattle.forms.specs.Read.{kindOf, GrownTo, Is, numberSeen, wordSeen};
+
+// What a byte of a line is.
+enum Kind {
+    Digit(u8),
+    Letter,
+    Open,
+    Close,
+    Space,
+    Other,
+}
+
+fn kind_of(b: u8) -> Kind
+    ensures { λ r. ⌜ r ≡ kindOf b ⌝ }
+{
+    match b {
+        b'0'..=b'9' => Kind::Digit(b - b'0'),
+        b'a'..=b'z' => Kind::Letter,
+        b'(' => Kind::Open,
+        b')' => Kind::Close,
+        b' ' => Kind::Space,
+        _ => Kind::Other,
+    }
+}
+
+// A value with one more digit.
+enum Grown {
+    Value(u64),
+    Refused,
+}
+
+// The value whose digits are those of `value` and then `d`: none after a 0, and none above 2^64 - 1.
+fn grow(value: u64, d: u8) -> Grown
+    requires { ⌜ d < 10 ⌝ }
+    ensures { λ r. ⌜ GrownTo value d r ⌝ }
+{
+    if value == 0 {
+        return Grown::Refused;
+    }
+    if 1844674407370955161 < value {
+        return Grown::Refused;
+    }
+    if value == 1844674407370955161 {
+        if 5 < d {
+            return Grown::Refused;
+        }
+    }
+    Grown::Value(value * 10 + d as u64)
+}
+
+// A number that was read, with the position behind it.
+pub(crate) enum Number {
+    At { value: u64, next: usize },
+    Bad,
+}
+
+// Reads the decimal number at a position.
+pub(crate) fn read_number(s: &[u8], at: usize) -> Number
+    requires { ⌜ at ≤ length (now s) ⌝ }
+    ensures { λ r. ⌜ Is (now (s .entry)) (number (drop at (now (s .entry)))) (numberSeen r) ⌝ }
+{
+    if at == s.len() {
+        return Number::Bad;
+    }
+    let b = s[at];
+    let Kind::Digit(first) = kind_of(b) else {
+        return Number::Bad;
+    };
+    let mut value = first as u64;
+    let mut next = at + 1;
+    while next < s.len() {
+        let c = s[next];
+        let Kind::Digit(d) = kind_of(c) else {
+            return Number::At { value, next };
+        };
+        let Grown::Value(w) = grow(value, d) else {
+            return Number::Bad;
+        };
+        value = w;
+        next += 1;
+    }
+    Number::At { value, next }
+}
+
+// The position behind what was read, where something was read.
+pub(crate) enum Word {
+    Behind(usize),
+    Bad,
+}
+
+// Reads the word w at a position.
+pub(crate) fn read_word(s: &[u8], at: usize, w: &[u8]) -> Word
+    requires { ⌜ at ≤ length (now s) ⌝ }
+    ensures { λ r. ⌜ Is (now (s .entry)) (word (now (w .entry)) (drop at (now (s .entry)))) (wordSeen r) ⌝ }
+{
+    let mut i: usize = 0;
+    let mut next = at;
+    while i < w.len() {
+        if next == s.len() {
+            return Word::Bad;
+        }
+        if s[next] != w[i] {
+            return Word::Bad;
+        }
+        i += 1;
+        next += 1;
+    }
+    Word::Behind(next)
+}
+
+// Reads a space and a number at a position.
+pub(crate) fn read_field(s: &[u8], at: usize) -> Number
+    requires { ⌜ at ≤ length (now s) ⌝ }
+    ensures { λ r. ⌜ Is (now (s .entry)) (field (drop at (now (s .entry)))) (numberSeen r) ⌝ }
+{
+    match read_word(s, at, b" ") {
+        Word::Behind(next) => read_number(s, next),
+        Word::Bad => Number::Bad,
+    }
+}
