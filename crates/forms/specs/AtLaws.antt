@@ -1,7 +1,7 @@
 -- Laws of reading at a position of a list of bytes.
 use Prim.Native.Nat.{ℕ, _+_, _-_, _*_, _≤_, _<_}
 use mathlib.Core.Path.{_≡_, refl, ap, sym, _∙_}
-use mathlib.Core.List.{List, _∷_}
+use mathlib.Core.List.{List, [], _∷_}
 use mathlib.Core.Bool.{Bool, true, false, cond}
 use mathlib.Core.Logic.{_⊎_, ⊎-elim}
 use native.Mathlib.Numerals.{add-one}
@@ -12,6 +12,8 @@ use borrow.Author.Tests.{lt-leb, eq-eqb, ne-eqb}
 use Rattle.forms.specs.Decimal.{isDigit, firstIsDigit, top, number, more, Step}
 use Rattle.forms.specs.Decimal.Step.{got, bad}
 use Rattle.forms.specs.Words.{word}
+use Rattle.forms.specs.Plain.{isLetter, firstIsLetter}
+use Rattle.forms.specs.Names.{name, name-stop, name-goes-on, name-none, name-step}
 use Rattle.forms.specs.DecimalLaws.{more-digit, more-stop}
 
 -- What stands at a position before the end.
@@ -53,21 +55,50 @@ module _ (s : List ℕ) (at : ℕ) (within : at < length s) where
 pub more-end : (s : List ℕ) (at : ℕ) → length s ≤ at → (v : ℕ) → more v (drop at s) ≡ got v (drop at s)
 more-end s at h v = more-stop v (drop at s) (ap firstIsDigit (drop-of-length-le s h))
 
--- Words at positions.
-pub word-done : (w s : List ℕ) (i next : ℕ) → length w ≤ i → word (drop i w) (drop next s) ≡ got tt (drop next s)
-unfolding word
-word-done w s i next h = rw (drop-of-length-le w h)
+-- A bracket or a space at a position.
+module _ (m : ℕ) (s : List ℕ) (at : ℕ) where
+  pub mark-end : length s ≤ at → word (m ∷ []) (drop at s) ≡ bad
+  unfolding word
+  mark-end h = rw (drop-of-length-le s h)
+
+  module _ (within : at < length s) where
+    pub mark-other : (getD s at 0 ≡ m → ⊥) → word (m ∷ []) (drop at s) ≡ bad
+    unfolding word
+    mark-other h = rw (at-cons s at within, ne-eqb m (getD s at 0) (λ e. h (sym e)))
+
+    pub mark-here : getD s at 0 ≡ m → word (m ∷ []) (drop at s) ≡ got tt (drop (at + 1) s)
+    unfolding word
+    mark-here h = rw (at-cons s at within, eq-eqb m (getD s at 0) (sym h))
+
+-- Letters at positions.
+pub letter-here : (s : List ℕ) (at : ℕ) → at < length s → firstIsLetter (drop at s) ≡ isLetter (getD s at 0)
+letter-here s at h = ap firstIsLetter (at-cons s at h)
+
+pub letter-past : (s : List ℕ) (at : ℕ) → length s ≤ at → firstIsLetter (drop at s) ≡ false
+letter-past s at h = ap firstIsLetter (drop-of-length-le s h)
+
+-- A word at a position: i letters of w were read.
+pub name-whole : (w s : List ℕ) (i next : ℕ) → length w ≤ i → firstIsLetter (drop next s) ≡ false → name (drop i w) (drop next s) ≡ got tt (drop next s)
+name-whole w s i next h e = ap (λ (x : List ℕ). name x (drop next s)) (drop-of-length-le w h) ∙ name-stop (drop next s) e
+
+pub name-longer : (w s : List ℕ) (i next : ℕ) → length w ≤ i → firstIsLetter (drop next s) ≡ true → name (drop i w) (drop next s) ≡ bad
+name-longer w s i next h e = ap (λ (x : List ℕ). name x (drop next s)) (drop-of-length-le w h) ∙ name-goes-on (drop next s) e
 
 module _ (w s : List ℕ) (i next : ℕ) (more : i < length w) where
-  pub word-end : length s ≤ next → word (drop i w) (drop next s) ≡ bad
-  unfolding word
-  word-end h = rw (at-cons w i more, drop-of-length-le s h)
+  at-letter : name (drop i w) (drop next s) ≡ name (getD w i 0 ∷ drop (i + 1) w) (drop next s)
+  at-letter = ap (λ (x : List ℕ). name x (drop next s)) (at-cons w i more)
 
-  module _ (within : next < length s) where
-    pub word-other : (getD s next 0 ≡ getD w i 0 → ⊥) → word (drop i w) (drop next s) ≡ bad
-    unfolding word
-    word-other h = rw (at-cons w i more, at-cons s next within, ne-eqb (getD w i 0) (getD s next 0) (λ e. h (sym e)))
+  pub name-end : firstIsLetter (drop next s) ≡ false → name (drop i w) (drop next s) ≡ bad
+  name-end e = at-letter ∙ name-none (getD w i 0) (drop (i + 1) w) (drop next s) e
 
-    pub word-next : getD s next 0 ≡ getD w i 0 → word (drop i w) (drop next s) ≡ word (drop (i + 1) w) (drop (next + 1) s)
-    unfolding word
-    word-next h = rw (at-cons w i more, at-cons s next within, eq-eqb (getD w i 0) (getD s next 0) (sym h))
+  module _ (within : next < length s) (letter : isLetter (getD s next 0) ≡ true) where
+    at-byte : name (drop i w) (drop next s) ≡ cond (eqb (getD w i 0) (getD s next 0)) (name (drop (i + 1) w) (drop (next + 1) s)) bad
+    at-byte =
+        at-letter ∙ ap (name (getD w i 0 ∷ drop (i + 1) w)) (at-cons s next within)
+        ∙ name-step (getD w i 0) (drop (i + 1) w) (getD s next 0) (drop (next + 1) s) letter
+
+    pub name-other : (getD s next 0 ≡ getD w i 0 → ⊥) → name (drop i w) (drop next s) ≡ bad
+    name-other h = at-byte ∙ (rw (ne-eqb (getD w i 0) (getD s next 0) (λ e. h (sym e))))
+
+    pub name-next : getD s next 0 ≡ getD w i 0 → name (drop i w) (drop next s) ≡ name (drop (i + 1) w) (drop (next + 1) s)
+    name-next h = at-byte ∙ (rw (eq-eqb (getD w i 0) (getD s next 0) (sym h)))

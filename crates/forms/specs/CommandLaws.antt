@@ -14,6 +14,8 @@ use Rattle.forms.specs.Reading.{choose, field, rule, update, tail, did, 
 use Rattle.forms.specs.Writable.{WritableUpdate, WritableCommand}
 use Rattle.forms.specs.ReadingLaws.{never, bind-then, choose-read, orElse-read, spaced, end, field-written, field-read, Item, tail-written, list-text, list-id, list-read, one-text, one-read, readWhole-written, readWhole-read}
 use Rattle.forms.specs.DidLaws.{did-written, did-read}
+use Rattle.forms.specs.Plain.{Plain}
+use Rattle.forms.specs.PlainLaws.{command-plain}
 use Rattle.forms.specs.declared.Rule.{Rule}
 use Rattle.forms.specs.declared.Rule.the-variants.{Inc, Set, Not, Unk}
 
@@ -228,3 +230,7 @@ command-read l c rest e =
 -- Two lines that read as the same form are the same bytes.
 pub command-canonical : (l m : List ℕ) (c : Command) (rest rest′ : List ℕ) → readCommand l ≡ got c rest → readCommand m ≡ got c rest′ → l ≡ m
 command-canonical l m c rest rest′ p q = command-read l c rest p .0 ∙ sym (command-read m c rest′ q .0)
+
+-- Only digits, lower-case letters, brackets and the single space occur in a line that is read as a form.
+pub readCommand-plain : (l : List ℕ) (c : Command) (rest : List ℕ) → readCommand l ≡ got c rest → Plain l
+readCommand-plain l c rest e = subst Plain (sym (command-read l c rest e .0)) (command-plain c)

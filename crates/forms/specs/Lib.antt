@@ -7,6 +7,9 @@ pub mod Refusals
 pub mod Forms
 pub mod Reading
 pub mod Writable
+pub mod Plain
+pub mod PlainLaws
+pub mod Names
 pub mod Held
 pub mod ReadingLaws
 pub mod DidLaws

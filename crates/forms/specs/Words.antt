@@ -7,7 +7,7 @@ use borrow.Author.Tests.{eq-eqb, eqb-true, ne-eqb}
 use mathlib.Core.Logic.{_⊎_, inl, inr, ⊎-elim}
 use mathlib.Core.Path.{_≡_, refl, ap₂, sym}
 use mathlib.Core.List.{List, [], _∷_, _++_}
-use mathlib.Core.Bool.{Bool, true, false, cond}
+use mathlib.Core.Bool.{Bool, true, false, cond, not}
 use lib.Dec.{eqb}
 use Rattle.forms.specs.Decimal.{Step}
 use Rattle.forms.specs.Decimal.Step.{got, bad}
@@ -29,6 +29,14 @@ word (c ∷ w) (b ∷ l) = cond (eqb c b) (word w l) bad
 pub true-or-false : (t : Bool) → (t ≡ true) ⊎ (t ≡ false)
 true-or-false true = inl refl
 true-or-false false = inr refl
+
+pub not-so : (t : Bool) → not t ≡ true → t ≡ false
+not-so true e = sym e
+not-so false e = refl
+
+pub so : (t : Bool) → not t ≡ false → t ≡ true
+so true e = refl
+so false e = sym e
 
 -- A word that is written is read back, and a word that is read was written.
 pub word-written : (w rest : List ℕ) → word w (w ++ rest) ≡ got tt rest

@@ -1,11 +1,15 @@
 // Reading bytes, numbers and words. Each function reads one thing at a position of a line and tells the position behind it.
 ghost use mathlib.Core.Path.{_≡_};
+ghost use mathlib.Core.List.{[], _∷_};
 ghost use Prim.Native.Nat.{_≤_, _<_};
+ghost use lib.Dec.{T};
 ghost use lib.ListN.{length, drop};
 ghost use Rattle.forms.specs.Decimal.{number};
 ghost use Rattle.forms.specs.Words.{word};
+ghost use Rattle.forms.specs.Plain.{isMark, firstIsLetter};
+ghost use Rattle.forms.specs.Names.{name, wordText, WordIn};
 ghost use Rattle.forms.specs.Reading.{field};
-ghost use Rattle.forms.specs.Read.{kindOf, GrownTo, Is, numberSeen, wordSeen};
+ghost use Rattle.forms.specs.Read.{kindOf, letterKind, markOf, GrownTo, Is, numberSeen, wordSeen};
 
 // What a byte of a line is.
 enum Kind {
@@ -95,10 +99,65 @@ pub(crate) enum Word {
     Bad,
 }
 
-// Reads the word w at a position.
-pub(crate) fn read_word(s: &[u8], at: usize, w: &[u8]) -> Word
+// Whether a byte of a kind is a letter.
+fn is_letter(k: Kind) -> bool
+    ensures { λ r. ⌜ r ≡ letterKind k ⌝ }
+{
+    match k {
+        Kind::Digit(_) => false,
+        Kind::Letter => true,
+        Kind::Open => false,
+        Kind::Close => false,
+        Kind::Space => false,
+        Kind::Other => false,
+    }
+}
+
+// The byte of a bracket or of the space, and 0 for every other kind.
+fn mark_of(k: Kind) -> u8
+    ensures { λ r. ⌜ r ≡ markOf k ⌝ }
+{
+    match k {
+        Kind::Digit(_) => 0,
+        Kind::Letter => 0,
+        Kind::Open => b'(',
+        Kind::Close => b')',
+        Kind::Space => b' ',
+        Kind::Other => 0,
+    }
+}
+
+// Reads the bracket or the space m at a position.
+pub(crate) fn read_mark(s: &[u8], at: usize, m: u8) -> Word
+    requires { ⌜ (at ≤ length (now s)) × T (isMark m) ⌝ }
+    ensures { λ r. ⌜ Is (now (s .entry)) (word (m ∷ []) (drop at (now (s .entry)))) (wordSeen r) ⌝ }
+{
+    if at == s.len() {
+        return Word::Bad;
+    }
+    let b = s[at];
+    let found = mark_of(kind_of(b));
+    if found == m {
+        return Word::Behind(at + 1);
+    }
+    Word::Bad
+}
+
+// Whether a letter stands at a position.
+fn letter_at(s: &[u8], at: usize) -> bool
+    ensures { λ r. ⌜ r ≡ firstIsLetter (drop at (now (s .entry))) ⌝ }
+{
+    if at < s.len() {
+        let b = s[at];
+        return is_letter(kind_of(b));
+    }
+    false
+}
+
+// Reads the run of letters at a position, which must be the word w.
+fn read_name(s: &[u8], at: usize, w: &[u8]) -> Word
     requires { ⌜ at ≤ length (now s) ⌝ }
-    ensures { λ r. ⌜ Is (now (s .entry)) (word (now (w .entry)) (drop at (now (s .entry)))) (wordSeen r) ⌝ }
+    ensures { λ r. ⌜ Is (now (s .entry)) (name (now (w .entry)) (drop at (now (s .entry)))) (wordSeen r) ⌝ }
 {
     let mut i: usize = 0;
     let mut next = at;
@@ -106,13 +165,34 @@ pub(crate) fn read_word(s: &[u8], at: usize, w: &[u8]) -> Word
         if next == s.len() {
             return Word::Bad;
         }
-        if s[next] != w[i] {
+        let b = s[next];
+        if !is_letter(kind_of(b)) {
+            return Word::Bad;
+        }
+        if b != w[i] {
             return Word::Bad;
         }
         i += 1;
         next += 1;
     }
+    if letter_at(s, next) {
+        return Word::Bad;
+    }
     Word::Behind(next)
+}
+
+// Reads an opening bracket, the word w and the bracket or space m behind it.
+pub(crate) fn read_word(s: &[u8], at: usize, w: &[u8], m: u8) -> Word
+    requires { ⌜ (at ≤ length (now s)) × WordIn (now w) m ⌝ }
+    ensures { λ r. ⌜ Is (now (s .entry)) (word (wordText (now (w .entry)) m) (drop at (now (s .entry)))) (wordSeen r) ⌝ }
+{
+    let Word::Behind(a) = read_mark(s, at, b'(') else {
+        return Word::Bad;
+    };
+    let Word::Behind(b) = read_name(s, a, w) else {
+        return Word::Bad;
+    };
+    read_mark(s, b, m)
 }
 
 // Reads a space and a number at a position.
@@ -120,7 +200,7 @@ pub(crate) fn read_field(s: &[u8], at: usize) -> Number
     requires { ⌜ at ≤ length (now s) ⌝ }
     ensures { λ r. ⌜ Is (now (s .entry)) (field (drop at (now (s .entry)))) (numberSeen r) ⌝ }
 {
-    match read_word(s, at, b" ") {
+    match read_mark(s, at, b' ') {
         Word::Behind(next) => read_number(s, next),
         Word::Bad => Number::Bad,
     }
