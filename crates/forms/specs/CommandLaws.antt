@@ -5,6 +5,7 @@ use mathlib.Core.List.{List, [], _++_, append-assoc, append-nil}
 use mathlib.Core.Logic.{⊎-elim}
 use native.Mathlib.Omega.{arith}
 use lib.ListN.{length}
+use Rattle.forms.specs.Limits.{lineLimit}
 use Rattle.forms.specs.Decimal.{digits, number, top}
 use Rattle.forms.specs.Decimal.Step.{got, bad}
 use Rattle.forms.specs.DecimalLaws.{number-written}
@@ -215,12 +216,12 @@ front-read l c rest e =
 
 -- ### A whole line
 
-pub command-written : (c : Command) → WritableCommand c → length (commandText c) ≤ 1024 → readCommand (commandText c) ≡ got c []
+pub command-written : (c : Command) → WritableCommand c → length (commandText c) ≤ lineLimit → readCommand (commandText c) ≡ got c []
 unfolding readCommand
 command-written c f h = readWhole-written command c (commandText c) (front-written c [] f) h
 
 pub command-read : (l : List ℕ) (c : Command) (rest : List ℕ) → readCommand l ≡ got c rest
-    → (l ≡ commandText c) × (rest ≡ []) × WritableCommand c × (length l ≤ 1024)
+    → (l ≡ commandText c) × (rest ≡ []) × WritableCommand c × (length l ≤ lineLimit)
 unfolding readCommand
 command-read l c rest e =
     let w = readWhole-read command c l rest e in

@@ -9,12 +9,13 @@ use native.Mathlib.Omega.{arith}
 use lib.ListN.{length, length-append}
 use lib.Dec.{leb}
 use borrow.Author.Tests.{le-leb, leb-true}
+use Rattle.forms.specs.Limits.{lineLimit}
 use Rattle.forms.specs.Decimal.{digits, number, Step, top, firstIsDigit}
 use Rattle.forms.specs.Decimal.Step.{got, bad}
 use Rattle.forms.specs.DecimalLaws.{number-written, number-read}
 use Rattle.forms.specs.Words.{bytes, word, word-written, word-read}
 use Rattle.forms.specs.Forms.{fieldText, itemsText, tailText, listText, oneText}
-use Rattle.forms.specs.Reading.{bind, choose, orElse, whole, field, items, tail, one, readWhole, lineLimit}
+use Rattle.forms.specs.Reading.{bind, choose, orElse, whole, field, items, tail, one, readWhole}
 use Rattle.forms.specs.Writable.{Each}
 
 -- ### What a step that is put together of two tells of both
@@ -214,14 +215,14 @@ one-read w l n rest e =
 
 -- ### Whole lines
 
-pub readWhole-written : {A : Type 0} (f : List ℕ → Step A) (a : A) (l : List ℕ) → f (l ++ []) ≡ got a [] → length l ≤ 1024 → readWhole f l ≡ got a []
+pub readWhole-written : {A : Type 0} (f : List ℕ → Step A) (a : A) (l : List ℕ) → f (l ++ []) ≡ got a [] → length l ≤ lineLimit → readWhole f l ≡ got a []
 unfolding readWhole
 readWhole-written f a l e h =
     let z : f l ≡ got a [] = ap f (sym (append-nil l)) ∙ e in
     rw (le-leb (length l) lineLimit h, z)
 
 pub readWhole-read : {A : Type 0} (f : List ℕ → Step A) (a : A) (l rest : List ℕ) → readWhole f l ≡ got a rest
-    → (f l ≡ got a []) × (rest ≡ []) × (length l ≤ 1024)
+    → (f l ≡ got a []) × (rest ≡ []) × (length l ≤ lineLimit)
 unfolding readWhole
 readWhole-read f a l rest e =
     let c = cond-read (leb (length l) lineLimit) (bind (f l) whole) a rest e in
