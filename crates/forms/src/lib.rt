@@ -117,8 +117,8 @@ pub enum ReplyForm {
     Ended,
 }
 
-// A reply: its form, and how many numbers the lists have that the form has, in their printed order. The numbers stand in arrays that are lent.
-// `outcomeOf` in specs/Held.antt says what it means.
+// A reply: its form, and how many numbers the lists have that the form has, in their printed order. The numbers stand in arrays that are
+// lent. `outcomeOf` in specs/Held.antt says what it means.
 pub struct ReplyLine {
     pub form: ReplyForm,
     pub first: usize,
