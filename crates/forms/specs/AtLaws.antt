@@ -78,7 +78,8 @@ pub letter-past : (s : List ℕ) (at : ℕ) → length s ≤ at → firstIsLette
 letter-past s at h = ap firstIsLetter (drop-of-length-le s h)
 
 -- A word at a position: i letters of w were read.
-pub name-whole : (w s : List ℕ) (i next : ℕ) → length w ≤ i → firstIsLetter (drop next s) ≡ false → name (drop i w) (drop next s) ≡ got tt (drop next s)
+pub name-whole : (w s : List ℕ) (i next : ℕ) → length w ≤ i → firstIsLetter (drop next s) ≡ false
+    → name (drop i w) (drop next s) ≡ got tt (drop next s)
 name-whole w s i next h e = ap (λ (x : List ℕ). name x (drop next s)) (drop-of-length-le w h) ∙ name-stop (drop next s) e
 
 pub name-longer : (w s : List ℕ) (i next : ℕ) → length w ≤ i → firstIsLetter (drop next s) ≡ true → name (drop i w) (drop next s) ≡ bad

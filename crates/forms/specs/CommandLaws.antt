@@ -5,14 +5,19 @@ use mathlib.Core.List.{List, [], _++_, append-assoc, append-nil}
 use mathlib.Core.Logic.{⊎-elim}
 use native.Mathlib.Omega.{arith}
 use lib.ListN.{length}
+use Rattle.forms.specs.Limits.{lineLimit}
 use Rattle.forms.specs.Decimal.{digits, number, top}
 use Rattle.forms.specs.Decimal.Step.{got, bad}
 use Rattle.forms.specs.DecimalLaws.{number-written}
 use Rattle.forms.specs.Words.{bytes, word, word-written, word-read}
-use Rattle.forms.specs.Forms.{Update, Did, Command, SiteOf, Add, Finish, Withdraw, Persistent, Stable, Show, Cut, Redo, End, fieldText, tailText, oneText, ruleText, updateText, siteText, didText, redoText, commandText}
+use Rattle.forms.specs.Forms.{Update, Did, Command, SiteOf, Add, Finish, Withdraw, Persistent, Stable, Show}
+use Rattle.forms.specs.Forms.{Cut, Redo, End, fieldText, tailText, oneText, ruleText, updateText, siteText}
+use Rattle.forms.specs.Forms.{didText, redoText, commandText}
 use Rattle.forms.specs.Reading.{choose, field, rule, update, tail, did, one, add, redo, numbered, command, readCommand}
 use Rattle.forms.specs.Writable.{WritableUpdate, WritableCommand}
-use Rattle.forms.specs.ReadingLaws.{never, bind-then, choose-read, orElse-read, spaced, end, field-written, field-read, Item, tail-written, list-text, list-id, list-read, one-text, one-read, readWhole-written, readWhole-read}
+use Rattle.forms.specs.ReadingLaws.{never, bind-then, choose-read, orElse-read, spaced, end, field-written}
+use Rattle.forms.specs.ReadingLaws.{field-read, Item, tail-written, list-text, list-id, list-read, one-text}
+use Rattle.forms.specs.ReadingLaws.{one-read, readWhole-written, readWhole-read}
 use Rattle.forms.specs.DidLaws.{did-written, did-read}
 use Rattle.forms.specs.Plain.{Plain}
 use Rattle.forms.specs.PlainLaws.{command-plain}
@@ -68,7 +73,8 @@ update-written x rest f =
 abbrev updateFrom : Rule → ℕ → ℕ → ℕ → Update
 updateFrom r h v o = record { rule = r; history = h; version = v; operand = o }
 
-joined : (r : Rule) (h v o : ℕ) (l₀ l₁ l₂ l₃ l₄ : List ℕ) → l₀ ≡ fieldText h ++ l₁ → l₁ ≡ fieldText v ++ l₂ → l₂ ≡ fieldText o ++ l₃ → l₃ ≡ bytes ")" ++ l₄
+joined : (r : Rule) (h v o : ℕ) (l₀ l₁ l₂ l₃ l₄ : List ℕ) → l₀ ≡ fieldText h ++ l₁ → l₁ ≡ fieldText v ++ l₂ → l₂ ≡ fieldText o ++ l₃
+    → l₃ ≡ bytes ")" ++ l₄
     → ruleText r ++ l₀ ≡ updateText (updateFrom r h v o) ++ l₄
 joined r h v o l₀ l₁ l₂ l₃ l₄ e₁ e₂ e₃ e₄ =
     rw (update-text (updateFrom r h v o) l₄) (unfold fieldsOf in rw (e₁, e₂, e₃, e₄))
@@ -114,7 +120,8 @@ update-item = record {
 
 -- ### A form at the front of a list of bytes
 
-add-text : (i : ℕ) (us : List Update) (rest : List ℕ) → commandText (Add i us) ++ rest ≡ bytes "(add " ++ (digits i ++ (tailText updateText us ++ rest))
+add-text : (i : ℕ) (us : List Update) (rest : List ℕ)
+    → commandText (Add i us) ++ rest ≡ bytes "(add " ++ (digits i ++ (tailText updateText us ++ rest))
 unfolding commandText
 add-text i us rest = list-text update updateText WritableUpdate update-item (bytes "(add ") i us rest
 
@@ -148,8 +155,11 @@ numbered-read f w l c rest text fits e =
     bind-then (one w l) _ c rest e λ n m e₁ k₁.
     let r = one-read w l n m e₁ in
     let q : f n ≡ c = cc in
-    let z : m ≡ rest = cc in
-    (r .0 ∙ ap (λ (x : List ℕ). x ++ m) (sym (text n)) ∙ ap₂ (λ (x : Command) (y : List ℕ). commandText x ++ y) q z, subst WritableCommand q (fits n (r .1)))
+    let z : m ≡ rest = cc in (
+      r .0 ∙ ap (λ (x : List ℕ). x ++ m) (sym (text n))
+          ∙ ap₂ (λ (x : Command) (y : List ℕ). commandText x ++ y) q z,
+      subst WritableCommand q (fits n (r .1)),
+    )
 
 add-read : (l : List ℕ) (c : Command) (rest : List ℕ) → add l ≡ got c rest → (l ≡ commandText c ++ rest) × WritableCommand c
 unfolding add
@@ -183,11 +193,15 @@ redo-read l c rest e =
       subst WritableCommand q (r .1),
     )
 
-end-read : (l : List ℕ) (c : Command) (rest : List ℕ) → choose (word (bytes "(end)") l) End bad ≡ got c rest → (l ≡ commandText c ++ rest) × WritableCommand c
+end-read : (l : List ℕ) (c : Command) (rest : List ℕ) → choose (word (bytes "(end)") l) End bad ≡ got c rest
+    → (l ≡ commandText c ++ rest) × WritableCommand c
 end-read l c rest e =
     ⊎-elim
-    (λ (p : (word (bytes "(end)") l ≡ got tt rest) × (End ≡ c)).
-    (word-read (bytes "(end)") l tt rest (p .0) ∙ (unfold commandText in ap (λ (x : Command). commandText x ++ rest) (p .1)), subst WritableCommand (p .1) tt))
+    (λ (p : (word (bytes "(end)") l ≡ got tt rest) × (End ≡ c)). (
+      word-read (bytes "(end)") l tt rest (p .0)
+          ∙ (unfold commandText in ap (λ (x : Command). commandText x ++ rest) (p .1)),
+      subst WritableCommand (p .1) tt,
+    ))
     (λ (h : bad ≡ got c rest). never h)
     (choose-read (word (bytes "(end)") l) End bad c rest e)
 
@@ -215,12 +229,12 @@ front-read l c rest e =
 
 -- ### A whole line
 
-pub command-written : (c : Command) → WritableCommand c → length (commandText c) ≤ 1024 → readCommand (commandText c) ≡ got c []
+pub command-written : (c : Command) → WritableCommand c → length (commandText c) ≤ lineLimit → readCommand (commandText c) ≡ got c []
 unfolding readCommand
 command-written c f h = readWhole-written command c (commandText c) (front-written c [] f) h
 
 pub command-read : (l : List ℕ) (c : Command) (rest : List ℕ) → readCommand l ≡ got c rest
-    → (l ≡ commandText c) × (rest ≡ []) × WritableCommand c × (length l ≤ 1024)
+    → (l ≡ commandText c) × (rest ≡ []) × WritableCommand c × (length l ≤ lineLimit)
 unfolding readCommand
 command-read l c rest e =
     let w = readWhole-read command c l rest e in
@@ -228,7 +242,8 @@ command-read l c rest e =
     (r .0 ∙ append-nil (commandText c), w .1, r .1, w .2)
 
 -- Two lines that read as the same form are the same bytes.
-pub command-canonical : (l m : List ℕ) (c : Command) (rest rest′ : List ℕ) → readCommand l ≡ got c rest → readCommand m ≡ got c rest′ → l ≡ m
+pub command-canonical : (l m : List ℕ) (c : Command) (rest rest′ : List ℕ) → readCommand l ≡ got c rest → readCommand m ≡ got c rest′
+    → l ≡ m
 command-canonical l m c rest rest′ p q = command-read l c rest p .0 ∙ sym (command-read m c rest′ q .0)
 
 -- Only digits, lower-case letters, brackets and the single space occur in a line that is read as a form.

@@ -88,7 +88,8 @@ unfolding kindOf
 letter-kind b = go (isDigit b) refl (isLetter b) refl
   where
     go : (d : Bool) → isDigit b ≡ d → (l : Bool) → isLetter b ≡ l
-        → letterKind (cond d (Digit (b - 48)) (cond l Letter (cond (eqb b 40) Open (cond (eqb b 41) Close (cond (eqb b 32) Space Other))))) ≡ l
+        → letterKind (cond d (Digit (b - 48)) (cond l Letter (cond (eqb b 40) Open (cond (eqb b 41) Close (cond (eqb b 32) Space Other)))))
+        ≡ l
     go true p l q = sym (below-range 97 122 b (omega (arith, digit-range b p .1))) ∙ q
     go false p true q = refl
     go false p false q = not-letter (eqb b 40) (eqb b 41) (eqb b 32)

@@ -1,9 +1,10 @@
 -- Lists: membership, lists without repeats, prefixes, sums, and the tests `all`, `any`, `keep` of the model.
 use mathlib.Core.Path.{_≡_, refl, sym, ap, ap₂, _∙_, subst}
 use mathlib.Core.Logic.{_⊎_, inl, inr}
-use mathlib.Core.Bool.{Bool, true, false, cond, not, _&&_, _||_}
-use mathlib.Core.List.{List, [], _∷_, _++_, append-assoc, append-nil, head-eq-of-cons-eq, tail-eq-of-cons-eq, nil≢cons, append-cancel-left}
-use mathlib.Core.List.{List·Memᴰ as Mem, List·Memᴰ·head as here, List·Memᴰ·tail as there, List·Memᴰ·not-nil, List·Memᴰ·cases-cons, Memᴰ·cast, Memᴰ·append-left, Memᴰ·append-right, List·Memᴰ·append-cases}
+use mathlib.Core.Bool.{Bool, true, false, cond, _&&_, _||_}
+use mathlib.Core.List.{List, [], _∷_, _++_, append-assoc, append-nil, head-eq-of-cons-eq, tail-eq-of-cons-eq}
+use mathlib.Core.List.{List·Memᴰ as Mem, List·Memᴰ·head as here, List·Memᴰ·tail as there, List·Memᴰ·not-nil}
+use mathlib.Core.List.{List·Memᴰ·cases-cons, Memᴰ·cast, Memᴰ·append-left, Memᴰ·append-right, List·Memᴰ·append-cases}
 use Prim.Native.Nat.{ℕ, zero, suc, _+_, _≤_, _<_}
 use native.Mathlib.Omega.{arith}
 use lib.Dec.{T}
@@ -23,7 +24,8 @@ module _ {A : Type 0} where
   mid (x ∷ P) r [] d Z e = inr (P, ap (λ (z : A). z ∷ P) (head-eq-of-cons-eq e))
   mid (x ∷ P) r (y ∷ Y) d Z e = step (mid P r Y d Z (tail-eq-of-cons-eq e))
     where
-      step : ((t : List A) × (Y ≡ P ++ t)) ⊎ ((t : List A) × (P ≡ Y ++ d ∷ t)) → ((t : List A) × (y ∷ Y ≡ x ∷ P ++ t)) ⊎ ((t : List A) × (x ∷ P ≡ y ∷ Y ++ d ∷ t))
+      step : ((t : List A) × (Y ≡ P ++ t)) ⊎ ((t : List A) × (P ≡ Y ++ d ∷ t))
+          → ((t : List A) × (y ∷ Y ≡ x ∷ P ++ t)) ⊎ ((t : List A) × (x ∷ P ≡ y ∷ Y ++ d ∷ t))
       step (inl q) = inl (q .0, ap₂ (λ (z : A) (l : List A). z ∷ l) (sym (head-eq-of-cons-eq e)) (q .1))
       step (inr q) = inr (q .0, ap₂ (λ (z : A) (l : List A). z ∷ l) (head-eq-of-cons-eq e) (q .1))
 
@@ -126,7 +128,8 @@ module _ {A : Type 0} where
     prefix-same e = go cases
       where
         go : ((t : List A) × (Y ≡ P ++ t)) ⊎ ((t : List A) × (P ≡ Y ++ d ∷ t)) → P ≡ Y
-        go (inl (t, q)) = sym (q ∙ ap {B = List A} (λ l. P ++ l) (length-zero t (omega (arith, length-append P t, ap length q))) ∙ append-nil P)
+        go (inl (t, q)) =
+            sym (q ∙ ap {B = List A} (λ l. P ++ l) (length-zero t (omega (arith, length-append P t, ap length q))) ∙ append-nil P)
         go (inr (t, q)) = absurd (omega (arith, length-append Y (d ∷ t), ap length q))
 
     pub prefix-past : length Y < length P → Mem d P
@@ -141,7 +144,9 @@ module _ {A : Type 0} where
       where
         none : (t : List A) → Y ≡ P ++ t → P ≡ Y
         none [] q = sym (q ∙ append-nil P)
-        none (x ∷ t) q = absurd (nodup-apart P (subst Nodup q (nodup-left Y (d ∷ Z) (subst Nodup cut once))) (inside x (mem-along (sym q) (mem-at x P t))) (here refl))
+        none (x ∷ t) q =
+            absurd (nodup-apart P (subst Nodup q (nodup-left Y (d ∷ Z) (subst Nodup cut once)))
+            (inside x (mem-along (sym q) (mem-at x P t))) (here refl))
 
         go : ((t : List A) × (Y ≡ P ++ t)) ⊎ ((t : List A) × (P ≡ Y ++ d ∷ t)) → P ≡ Y
         go (inl (t, q)) = none t q
@@ -169,7 +174,8 @@ module _ {A : Type 0} where
   sum-sub f [] l h into = omega arith
   sum-sub f (x ∷ xs) l h into =
       let q = mem-split (into x (here refl)) in
-      last (q .0) (q .1) (q .2) (λ a b e. sum-sub f xs (a ++ b) (h .1) (λ y m. inside a b e y m (mem-mid a b (mem-along e (into y (there m))))))
+      last (q .0) (q .1) (q .2)
+      (λ a b e. sum-sub f xs (a ++ b) (h .1) (λ y m. inside a b e y m (mem-mid a b (mem-along e (into y (there m))))))
     where
       inside : (a b : List A) → l ≡ a ++ x ∷ b → (y : A) → Mem y xs → (y ≡ x) ⊎ Mem y (a ++ b) → Mem y (a ++ b)
       inside a b e y m (inl p) = absurd (h .0 (Memᴰ·cast (sym p) m))
@@ -254,7 +260,8 @@ module _ {A : Type 0} (f : A → Bool) where
   keep-append [] b = refl
   keep-append (x ∷ a) b = go (f x) (keep-append a b)
     where
-      go : (t : Bool) → keep f (a ++ b) ≡ keep f a ++ keep f b → cond t (x ∷ keep f (a ++ b)) (keep f (a ++ b)) ≡ cond t (x ∷ keep f a) (keep f a) ++ keep f b
+      go : (t : Bool) → keep f (a ++ b) ≡ keep f a ++ keep f b
+          → cond t (x ∷ keep f (a ++ b)) (keep f (a ++ b)) ≡ cond t (x ∷ keep f a) (keep f a) ++ keep f b
       go true e = ap {B = List A} (λ l. x ∷ l) e
       go false e = e
 
@@ -285,7 +292,8 @@ module _ {A : Type 0} (f : A → Bool) where
       cases t (inl e) below = (here e, subst (λ (z : A). T (f z)) (sym e) t)
       cases t (inr k) below = up (below k)
 
-      go : (b : Bool) → f y ≡ b → Mem x (cond b (y ∷ keep f l) (keep f l)) → (Mem x (keep f l) → Mem x l × T (f x)) → Mem x (y ∷ l) × T (f x)
+      go : (b : Bool) → f y ≡ b → Mem x (cond b (y ∷ keep f l) (keep f l)) → (Mem x (keep f l) → Mem x l × T (f x))
+          → Mem x (y ∷ l) × T (f x)
       go true e k below = cases (true-T (f y) e) (List·Memᴰ·cases-cons k) below
       go false e k below = up (below k)
 
@@ -349,7 +357,8 @@ module _ {A : Type 0} where
       go false h = omega arith
 
   pub length-keep-less : (f : A → Bool) {x : A} {l : List A} → Mem x l → (T (f x) → ⊥) → suc (length (keep f l)) ≤ length l
-  length-keep-less f (here {x = y} {xs = l} e) out = rw (T-false (f y) (λ t. out (subst (λ (z : A). T (f z)) (sym e) t))) (let h = length-keep f l in omega arith)
+  length-keep-less f (here {x = y} {xs = l} e) out = rw (T-false (f y) (λ t. out (subst (λ (z : A). T (f z)) (sym e) t)))
+      (let h = length-keep f l in omega arith)
   length-keep-less f (there {x = y} {xs = l} m) out = go (f y) (length-keep-less f m out)
     where
       go : (b : Bool) → suc (length (keep f l)) ≤ length l → suc (length (cond b (y ∷ keep f l) (keep f l))) ≤ suc (length l)

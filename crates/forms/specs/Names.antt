@@ -72,7 +72,8 @@ WordIn w m = T (isMark m && all isLetter w)
 mark-no-letter : (m : ℕ) → T (isMark m) → isLetter m ≡ false
 mark-no-letter m t =
     ⊎-elim (λ (p : T (eqb m 40)). is 40 refl p)
-    (λ (q : T (eqb m 41 || eqb m 32)). ⊎-elim (λ (p : T (eqb m 41)). is 41 refl p) (λ (p : T (eqb m 32)). is 32 refl p) (or-cases (eqb m 41) (eqb m 32) q))
+    (λ (q : T (eqb m 41 || eqb m 32)). ⊎-elim (λ (p : T (eqb m 41)). is 41 refl p) (λ (p : T (eqb m 32)). is 32 refl p)
+    (or-cases (eqb m 41) (eqb m 32) q))
     (or-cases (eqb m 40) (eqb m 41 || eqb m 32) t)
   where
     is : (k : ℕ) → isLetter k ≡ false → T (eqb m k) → isLetter m ≡ false

@@ -9,12 +9,13 @@ use native.Mathlib.Omega.{arith}
 use lib.ListN.{length, length-append}
 use lib.Dec.{leb}
 use borrow.Author.Tests.{le-leb, leb-true}
+use Rattle.forms.specs.Limits.{lineLimit}
 use Rattle.forms.specs.Decimal.{digits, number, Step, top, firstIsDigit}
 use Rattle.forms.specs.Decimal.Step.{got, bad}
 use Rattle.forms.specs.DecimalLaws.{number-written, number-read}
 use Rattle.forms.specs.Words.{bytes, word, word-written, word-read}
 use Rattle.forms.specs.Forms.{fieldText, itemsText, tailText, listText, oneText}
-use Rattle.forms.specs.Reading.{bind, choose, orElse, whole, field, items, tail, one, readWhole, lineLimit}
+use Rattle.forms.specs.Reading.{bind, choose, orElse, whole, field, items, tail, one, readWhole}
 use Rattle.forms.specs.Writable.{Each}
 
 -- ### What a step that is put together of two tells of both
@@ -55,7 +56,8 @@ pub field-written : (n : ℕ) (rest : List ℕ) → n ≤ top → firstIsDigit r
 unfolding field fieldText word
 field-written n rest h e = number-written n rest h e
 
-pub field-read : (l : List ℕ) (n : ℕ) (rest : List ℕ) → field l ≡ got n rest → (l ≡ fieldText n ++ rest) × (n ≤ top) × (firstIsDigit rest ≡ false)
+pub field-read : (l : List ℕ) (n : ℕ) (rest : List ℕ) → field l ≡ got n rest
+    → (l ≡ fieldText n ++ rest) × (n ≤ top) × (firstIsDigit rest ≡ false)
 unfolding field fieldText
 field-read l n rest h =
     bind-then (word (bytes " ") l) (λ u m. number m) n rest h λ u m e k.
@@ -103,7 +105,8 @@ module _ {A : Type 0} (item : List ℕ → Step A) (text : A → List ℕ) (Fit 
   none : Each Fit []
   none z m = absurd (List·Memᴰ·not-nil m)
 
-  pub items-read : (k : ℕ) (vs : List A) (l : List ℕ) (ws : List A) (rest : List ℕ) → items item k vs l ≡ got ws rest → ItemsRead l vs ws rest
+  pub items-read : (k : ℕ) (vs : List A) (l : List ℕ) (ws : List A) (rest : List ℕ) → items item k vs l ≡ got ws rest
+      → ItemsRead l vs ws rest
   unfolding items itemsText
   items-read zero vs l ws rest e = never e
   items-read (suc k) vs l ws rest e =
@@ -141,7 +144,8 @@ module _ {A : Type 0} (item : List ℕ → Step A) (text : A → List ℕ) (Fit 
   unfolding tailText
   tail-text x xs rest =
       ap (λ (z : List ℕ). 32 ∷ z)
-      (append-assoc (text x) (itemsText text xs ++ bytes ")") rest ∙ ap (λ (z : List ℕ). text x ++ z) (append-assoc (itemsText text xs) (bytes ")") rest))
+      (append-assoc (text x) (itemsText text xs ++ bytes ")") rest
+      ∙ ap (λ (z : List ℕ). text x ++ z) (append-assoc (itemsText text xs) (bytes ")") rest))
 
   pub tail-written : (xs : List A) (rest : List ℕ) → Each Fit xs → tail item (tailText text xs ++ rest) ≡ got xs rest
   unfolding tail word
@@ -155,7 +159,8 @@ module _ {A : Type 0} (item : List ℕ → Step A) (text : A → List ℕ) (Fit 
   unfolding tail
   tail-read l xs rest e =
       ⊎-elim
-      (λ (p : (word (bytes ")") l ≡ got tt rest) × ([] ≡ xs)). rw (sym (p .1)) (unfold tailText in (word-read (bytes ")") l tt rest (p .0), none)))
+      (λ (p : (word (bytes ")") l ≡ got tt rest) × ([] ≡ xs)). rw (sym (p .1))
+      (unfold tailText in (word-read (bytes ")") l tt rest (p .0), none)))
       (λ (h : bind (word (bytes " ") l) (λ u m. items item (length m) [] m) ≡ got xs rest).
       bind-then (word (bytes " ") l) _ xs rest h λ t m e₁ k₁.
       let i = items-read (length m) [] m xs rest k₁ in
@@ -170,19 +175,25 @@ module _ {A : Type 0} (item : List ℕ → Step A) (text : A → List ℕ) (Fit 
   no-digit (x ∷ xs) z = refl
 
   -- what comes after its word
-  pub list-text : (w : List ℕ) (i : ℕ) (xs : List A) (rest : List ℕ) → listText text w i xs ++ rest ≡ w ++ (digits i ++ (tailText text xs ++ rest))
+  pub list-text : (w : List ℕ) (i : ℕ) (xs : List A) (rest : List ℕ)
+      → listText text w i xs ++ rest ≡ w ++ (digits i ++ (tailText text xs ++ rest))
   unfolding listText
   list-text w i xs rest = simp append-assoc
 
-  pub list-id : (i : ℕ) (xs : List A) (rest : List ℕ) → i ≤ top → number (digits i ++ (tailText text xs ++ rest)) ≡ got i (tailText text xs ++ rest)
+  pub list-id : (i : ℕ) (xs : List A) (rest : List ℕ) → i ≤ top
+      → number (digits i ++ (tailText text xs ++ rest)) ≡ got i (tailText text xs ++ rest)
   list-id i xs rest h = number-written i (tailText text xs ++ rest) h (no-digit xs rest)
 
   pub list-read : (w l l₁ l₂ l₃ : List ℕ) (i : ℕ) (xs : List A) → word w l ≡ got tt l₁ → number l₁ ≡ got i l₂ → tail item l₂ ≡ got xs l₃
       → (l ≡ listText text w i xs ++ l₃) × (i ≤ top) × Each Fit xs
   list-read w l l₁ l₂ l₃ i xs e₁ e₂ e₃ =
       let n = number-read l₁ i l₂ e₂ in
-      let t = tail-read l₂ xs l₃ e₃ in
-      (word-read w l tt l₁ e₁ ∙ ap (λ (z : List ℕ). w ++ z) (n .same ∙ ap (λ (z : List ℕ). digits i ++ z) (t .0)) ∙ sym (list-text w i xs l₃), n .small, t .1)
+      let t = tail-read l₂ xs l₃ e₃ in (
+        word-read w l tt l₁ e₁ ∙ ap (λ (z : List ℕ). w ++ z) (n .same ∙ ap (λ (z : List ℕ). digits i ++ z) (t .0))
+            ∙ sym (list-text w i xs l₃),
+        n .small,
+        t .1,
+      )
 
 -- ### A form with a word and a number
 
@@ -214,14 +225,15 @@ one-read w l n rest e =
 
 -- ### Whole lines
 
-pub readWhole-written : {A : Type 0} (f : List ℕ → Step A) (a : A) (l : List ℕ) → f (l ++ []) ≡ got a [] → length l ≤ 1024 → readWhole f l ≡ got a []
+pub readWhole-written : {A : Type 0} (f : List ℕ → Step A) (a : A) (l : List ℕ) → f (l ++ []) ≡ got a [] → length l ≤ lineLimit
+    → readWhole f l ≡ got a []
 unfolding readWhole
 readWhole-written f a l e h =
     let z : f l ≡ got a [] = ap f (sym (append-nil l)) ∙ e in
     rw (le-leb (length l) lineLimit h, z)
 
 pub readWhole-read : {A : Type 0} (f : List ℕ → Step A) (a : A) (l rest : List ℕ) → readWhole f l ≡ got a rest
-    → (f l ≡ got a []) × (rest ≡ []) × (length l ≤ 1024)
+    → (f l ≡ got a []) × (rest ≡ []) × (length l ≤ lineLimit)
 unfolding readWhole
 readWhole-read f a l rest e =
     let c = cond-read (leb (length l) lineLimit) (bind (f l) whole) a rest e in

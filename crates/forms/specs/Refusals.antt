@@ -1,7 +1,10 @@
 -- The refusals, with the paper's number for each.
 use Prim.Native.Nat.{ℕ}
 use Rattle.forms.specs.declared.Refusal.{Refusal}
-use Rattle.forms.specs.declared.Refusal.the-variants.{Unreadable, WrongCount, NoSuchHistory, HistoryTwice, OperandRange, NothingOrders, IdPending, AlreadyDone, ReadOvertaken, TableFull, WrongState, NoRoom, AboveLimit, OutOfTurn, BadLog}
+use Rattle.forms.specs.declared.Refusal.the-variants.{Unreadable, WrongCount, NoSuchHistory, HistoryTwice}
+use Rattle.forms.specs.declared.Refusal.the-variants.{OperandRange, NothingOrders, IdPending, AlreadyDone}
+use Rattle.forms.specs.declared.Refusal.the-variants.{ReadOvertaken, TableFull, WrongState, NoRoom, AboveLimit}
+use Rattle.forms.specs.declared.Refusal.the-variants.{OutOfTurn, BadLog}
 
 -- "A refusal returns its number only": the column `no.` of the table in "Refusals".
 unfoldable pub numberOf : Refusal → ℕ

@@ -1,7 +1,7 @@
 -- What can be written: "Numbers are decimal, at most 2^64 − 1".
 use mathlib.Core.List.{List}
 use mathlib.Core.List.{List·Memᴰ as Mem}
-use Prim.Native.Nat.{ℕ, _≤_}
+use Prim.Native.Nat.{_≤_}
 use Rattle.forms.specs.Decimal.{top}
 use Rattle.forms.specs.Forms.{Update, Change, Did, Command, SiteOf, Add, Finish, Withdraw, Persistent, Stable, Show, Cut, Redo, End}
 

@@ -11,6 +11,7 @@ ghost use mathlib.Core.Path.{_≡_};
 ghost use Prim.Native.Nat.{_+_, _≤_};
 ghost use lib.ListN.{length};
 ghost use lib.Dec.{leb};
+ghost use Rattle.forms.specs.Limits.{liveLimit};
 ghost use Rattle.forms.specs.Decimal.{digits};
 ghost use Rattle.forms.specs.Forms.{fieldsText, changeText};
 ghost use Rattle.forms.specs.Held.{asChange};
@@ -60,7 +61,7 @@ pub(crate) fn changes_length(h: DoneHeld) -> usize
 
 // The length of at most 64 numbers, each with the space before it.
 fn fields_length(ns: &[u64]) -> usize
-    requires { ⌜ length (now ns) ≤ 64 ⌝ }
+    requires { ⌜ length (now ns) ≤ liveLimit ⌝ }
     ensures { λ r. ⌜ Measured (fieldsText (now (ns .entry))) 1344 r ⌝ }
 {
     let mut i: usize = 0;

@@ -1,11 +1,15 @@
 // The line forms, the lowest part: the values that the lines of document 01 carry, and the refusals; `reader` reads lines and `writer`
 // writes them. How each is printed and what each line means is said in specs/.
 mod lengths;
+pub mod limits;
 pub mod reader;
 mod text;
 mod tokens;
 mod updates;
 pub mod writer;
+
+use limits::LIVE;
+use limits::UPDATES;
 
 // The rule of an update that is asked for.
 pub enum Rule {
@@ -51,13 +55,13 @@ pub struct Done {
 // The first four updates of an add line, and how many it has.
 pub struct AskedHeld {
     pub count: usize,
-    pub first: [Asked; 4],
+    pub first: [Asked; UPDATES],
 }
 
 // The first four updates of a did line, and how many it has.
 pub struct DoneHeld {
     pub count: usize,
-    pub first: [Done; 4],
+    pub first: [Done; UPDATES],
 }
 
 // A did line: the operation's id, and what is held of its updates.
@@ -86,7 +90,7 @@ pub enum Refusal {
 }
 
 // Room for a list of at most 64 numbers: ids, histories or profiles.
-pub type ListWords = [u64; 64];
+pub type ListWords = [u64; LIVE];
 
 // A history as `show` gives it.
 pub struct Shown {
@@ -113,8 +117,8 @@ pub enum ReplyForm {
     Ended,
 }
 
-// A reply: its form, and how many numbers the lists have that the form has, in their printed order. The numbers stand in arrays that are lent.
-// `outcomeOf` in specs/Held.antt says what it means.
+// A reply: its form, and how many numbers the lists have that the form has, in their printed order. The numbers stand in arrays that are
+// lent. `outcomeOf` in specs/Held.antt says what it means.
 pub struct ReplyLine {
     pub form: ReplyForm,
     pub first: usize,

@@ -151,7 +151,8 @@ fn write_listed(buf: &mut [u8], at: usize, w: &[u8], ns: &[u64]) -> usize
 // Writes two lists of numbers, and the bracket that closes the reply.
 fn write_pair(buf: &mut [u8], at: usize, w: &[u8], xs: &[u64], v: &[u8], ys: &[u64]) -> usize
     requires { ⌜ at + length (pairText (now w) (now xs) (now v) (now ys)) ≤ length (now buf) ⌝ }
-    ensures { λ n. ⌜ Wrote (now (buf .entry)) at (pairText (now (w .entry)) (now (xs .entry)) (now (v .entry)) (now (ys .entry))) n (now (buf .exit)) ⌝ }
+    ensures { λ n. ⌜ Wrote (now (buf .entry)) at (pairText (now (w .entry)) (now (xs .entry)) (now (v .entry)) (now (ys .entry))) n
+        (now (buf .exit)) ⌝ }
 {
     let a = write_numbers(buf, at, w, xs);
     let b = write_numbers(buf, a, v, ys);
@@ -199,7 +200,8 @@ fn write_restarted(buf: &mut [u8], at: usize, lines: u64, used: u64) -> usize
 // Writes a reply without its end.
 fn write_form(buf: &mut [u8], at: usize, form: ReplyForm, xs: &[u64], ys: &[u64]) -> usize
     requires { ⌜ at + length (outcomeText (outcomeWith form (now xs) (now ys))) ≤ length (now buf) ⌝ }
-    ensures { λ r. ⌜ Wrote (now (buf .entry)) at (outcomeText (outcomeWith form (now (xs .entry)) (now (ys .entry)))) r (now (buf .exit)) ⌝ }
+    ensures { λ r. ⌜ Wrote (now (buf .entry)) at (outcomeText (outcomeWith form (now (xs .entry)) (now (ys .entry)))) r
+        (now (buf .exit)) ⌝ }
 {
     match form {
         ReplyForm::Refused(r) => write_one(buf, at, b"(refused", refusal_number(r)),

@@ -1,0 +1,30 @@
+-- The limits of document 01, each once. The code has the same numbers in src/limits.rt.
+use Prim.Native.Nat.{ℕ}
+
+-- "A site has 1 to 16 histories, numbered from 0."
+abbrev pub historyLimit : ℕ
+historyLimit = 16
+
+-- "At most 64 operations are live (waiting redo lines and operations not yet stable)."
+abbrev pub liveLimit : ℕ
+liveLimit = 64
+
+-- "An operation has a 64-bit id and 1 to 4 updates, each in another history."
+abbrev pub updateLimit : ℕ
+updateLimit = 4
+
+-- "unreadable line, or above 1,024 bytes without its end"
+abbrev pub lineLimit : ℕ
+lineLimit = 1024
+
+-- "A did line has at most 272 bytes", its end among them.
+abbrev pub didLimit : ℕ
+didLimit = 272
+
+-- "a log buffer at most 65,536"
+abbrev pub logLimit : ℕ
+logLimit = 65536
+
+-- What the longest reply has, its end among them: it has two lists of 64 numbers. 01 does not say it; `outcome-length` shows it.
+abbrev pub replyLimit : ℕ
+replyLimit = 2730

@@ -1,0 +1,22 @@
+// The limits of document 01, each once. The definitions have the same numbers in specs/Limits.antt.
+
+// "A site has 1 to 16 histories, numbered from 0."
+pub const HISTORIES: usize = 16;
+
+// "At most 64 operations are live (waiting redo lines and operations not yet stable)."
+pub const LIVE: usize = 64;
+
+// "An operation has a 64-bit id and 1 to 4 updates, each in another history."
+pub const UPDATES: usize = 4;
+
+// "unreadable line, or above 1,024 bytes without its end"
+pub const LINE_BYTES: usize = 1024;
+
+// "A did line has at most 272 bytes", its end among them.
+pub const DID_BYTES: usize = 272;
+
+// "a log buffer at most 65,536"
+pub const LOG_BYTES: usize = 65536;
+
+// What the longest reply has, its end among them: it has two lists of 64 numbers.
+pub const REPLY_BYTES: usize = 2730;
