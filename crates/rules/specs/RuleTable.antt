@@ -52,16 +52,20 @@ pub record Case : Type 0 where
 unfoldable pub begins : List ℕ → Turn
 begins log = turnOf (restart (log ++ replicate 300 0) (length log)) none
 
+-- the reply to the restart, and those to the lines behind it
 unfoldable pub answers : List ℕ → List ℕ → List ℕ
 answers log input = ended (outcomeText (begins log .reply)) ++ replies 0 (linesOf input) (begins log .after)
 
+-- the bytes of a session's log
 unfoldable pub logOf : Session → List ℕ
 logOf none = []
 logOf (some st) = logBytes st
 
+-- the bytes of the log at the end
 unfoldable pub leaves : List ℕ → List ℕ → List ℕ
 leaves log input = logOf (afterLines 0 (linesOf input) (begins log .after))
 
+-- The test of a case: replies and log are these, byte for byte.
 unfoldable caseHolds : Case → Bool
 caseHolds c = sameBytes (answers (c .log) (c .input)) (c .replies) && sameBytes (leaves (c .log) (c .input)) (c .after)
 
@@ -74,7 +78,7 @@ unfoldable pub lines : List (List ℕ) → List ℕ
 lines [] = []
 lines (l ∷ ls) = ended l ++ lines ls
 
--- A line with this change, to stand behind it.
+-- A line with this change, to stand behind `at4`.
 abbrev did2 : String → List ℕ
 did2 change = bytes "(did 2 " ++ bytes change ++ bytes ")\n"
 
@@ -87,6 +91,7 @@ taken change n =
 abbrev bad : String → Case
 bad change = record { log = at4 ++ did2 change; input = []; replies = bytes "(refused 15)\n"; after = [] }
 
+-- A redo of the change, and `show`.
 abbrev redoing : String → List ℕ → List ℕ → Case
 redoing change answers after =
     record {
@@ -108,6 +113,7 @@ staysBack change = redoing change (bytes "(ok 0)\n(history 0 4 4 4 1 67305985)\n
 abbrev redoRefused : String → String → Case
 redoRefused change n = redoing change (bytes "(refused " ++ bytes n ++ bytes ")\n(history 0 4 4 4 1 67305985)\n") at4
 
+-- An add of an operation, its finish, and `show`.
 abbrev adding : List ℕ → String → List ℕ → List ℕ → Case
 adding log updates answers after =
     record {
@@ -266,18 +272,23 @@ pub record RuleRow : Type 0 where
   -- profile, version and place that the book holds after its logged rule with V = 6 and the operand 513, from C = 4 and place 1
   pub booked : List ℕ
 
+-- 1 for true, 0 for false
 abbrev pub flag : Bool → ℕ
 flag b = cond b 1 0
 
+-- U = C − 1, C, C + 1 and C + 2, at C = 4
 abbrev pub around4 : List ℕ
 around4 = 3 ∷ 4 ∷ 5 ∷ 6 ∷ []
 
+-- a history at C = 4 and place 1, as the book holds it
 abbrev pub cell4 : Cell
 cell4 = record { profile = 67305985; version = 4; place = 1 }
 
+-- profile, version and place
 abbrev pub numbersIn : Cell → List ℕ
 numbersIn c = c .profile ∷ c .version ∷ c .place ∷ []
 
+-- The test of a row.
 unfoldable pub ruleRowHolds : RuleRow → Bool
 ruleRowHolds c =
     sameBytes (map (λ u. flag (mayRun (c .rule) 4 u)) around4) (c .may)
@@ -286,6 +297,7 @@ ruleRowHolds c =
     && sameBytes (flag (strong (c .rule)) ∷ flag (ordered (c .rule)) ∷ []) (c .is)
     && sameBytes (numbersIn (entered (loggedAs (c .rule)) 6 513 cell4)) (c .booked)
 
+-- 01's table, with strong and ordered.
 abbrev pub ruleRows : List RuleRow
 ruleRows =
     record {
@@ -324,6 +336,7 @@ ruleRows =
 
 -- ### The test
 
+-- The whole table.
 abbrev pub cases : List Case
 cases = versions ++ places ++ operands ++ parts ++ highest ++ strengths
 
