@@ -1,23 +1,23 @@
 -- The recovery claim of the code's site, proved: a chain of calls that keep their contracts is `run` of the list of calls.
-use mathlib.Core.Path.{_≡_, refl, sym, ap, ap₂, _∙_, subst}
+use mathlib.Core.Path.{_≡_, refl, sym, ap, _∙_, subst}
 use mathlib.Core.Bool.{Bool}
-use mathlib.Core.List.{List, [], _∷_, _++_}
-use Prim.Native.Nat.{ℕ, _≤_, _<_}
+use mathlib.Core.List.{List, _∷_, _++_}
+use Prim.Native.Nat.{ℕ, _≤_}
 use native.Mathlib.Omega.{arith}
-use lib.ListN.{length, take}
+use lib.ListN.{length}
 use Rattle.forms.specs.Decimal.{top}
 use Rattle.forms.specs.Forms.{Did, Answer}
 use Rattle.rules.specs.Book.{Cell}
 use Rattle.rules.specs.Log.{logText}
 use Rattle.rules.specs.State.{State, Reply, refused, ok, settle, logBytes}
-use Rattle.rules.specs.Calls.{openSite, restart, Call, Cut, step}
+use Rattle.rules.specs.Calls.{restart, Call, Cut, step}
 use Rattle.rules.specs.Run.{run}
 use Rattle.recovery.specs.Claim.{Start, justOpened, justRestarted, counted, Fair, lostBy, came, Asked, Shows, Recovered}
 use Rattle.recovery.specs.Recovery.{run-append, recovery}
 use Rattle.site.specs.declared.Called.{Called}
 use Rattle.site.specs.Whole.{Sound}
 use Rattle.site.specs.OpenLaws.{blankSite}
-use Rattle.site.specs.Model.{Lent, whole, view, Valid, AcceptedAs, Does, Steps}
+use Rattle.site.specs.Model.{Lent, whole, AcceptedAs, Does}
 use Rattle.site.specs.RestartLaws.{cut-restarts, log-limit, used-limit}
 use Rattle.marking.specs.SiteCalls.{Memory, memory, stateIn, ValidIn, logIn, goesOn, Transition, calls, restarts}
 use Rattle.marking.specs.SiteCalls.{Execution, none, next}
