@@ -10,3 +10,6 @@ pub mod ExaminationLaws
 pub mod Sample
 pub mod Stations
 pub mod Code
+pub mod SiteCalls
+pub mod SiteCallsLaws
+pub mod RefusedReply

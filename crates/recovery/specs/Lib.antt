@@ -12,3 +12,4 @@ pub mod Host
 pub mod HostLaws
 pub mod Flagged
 pub mod Lone
+pub mod LostIds

@@ -25,3 +25,4 @@ pub mod Examples
 pub mod When
 pub mod WhenLaws
 pub mod LiveLaws
+pub mod RuleTable

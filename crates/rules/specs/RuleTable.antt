@@ -1,0 +1,374 @@
+-- 01's rule table, cell by cell, on both sides of each edge: computed from the definitions, so that an edit of any rule makes a case false.
+use mathlib.Core.Path.{_≡_}
+use mathlib.Core.Bool.{Bool, cond, _&&_}
+use mathlib.Core.List.{List, [], _∷_, _++_, map}
+use mathlib.Core.List.{List·Memᴰ as Mem}
+use mathlib.Core.Option.{none, some}
+use Prim.Native.Nat.{ℕ}
+use Prim.Native.String.{String}
+use lib.Dec.{T, eqb}
+use lib.ListN.{length, replicate}
+use Rattle.forms.specs.Lists.{all, below}
+use Rattle.forms.specs.ListLaws.{and-left, and-right, all-at}
+use Rattle.forms.specs.Words.{bytes, word}
+use Rattle.forms.specs.Decimal.{digitsWithin, digits, more, number}
+use Rattle.forms.specs.Refusals.{numberOf}
+use Rattle.forms.specs.Forms.{fieldText, fieldsText, itemsText, tailText, listText, updateText, changeText, oneText}
+use Rattle.forms.specs.Forms.{siteText, didText, redoText, numbersText, answerText, outcomeText}
+use Rattle.forms.specs.Reading as reading
+use Rattle.forms.specs.Reading.{readDid, readSite, readCommand, readWhole}
+use Rattle.forms.specs.declared.Rule.{Rule}
+use Rattle.forms.specs.declared.Rule.the-variants.{Inc, Set, Not, Unk}
+use Rattle.rules.specs.Rules.{replaced, loggedAs, mayRun, versionAfter, profileAfter, strong, ordered}
+use Rattle.rules.specs.Book.{Cell, entered, enter, enterAll, cellFrom, cell, touches, runsAt, canRun}
+use Rattle.rules.specs.Checks.{check, andThen, wrongCount, noSuchHistory, historyTwice, updateMisfits, changeMisfits}
+use Rattle.rules.specs.Checks.{formRefusal, updatesRefusal, changesRefusal}
+use Rattle.rules.specs.Log.{ended, didsText, logText, linesFrom, linesOf, restFrom}
+use Rattle.rules.specs.Log.{historiesFit, accepts, readLines, readFirst, readLog}
+use Rattle.rules.specs.State.{logBytes, versionAt, liveDone, live, asks, dry, becameDry, rose, lineBytes}
+use Rattle.rules.specs.Calls.{unless, blockedBy, blocked, mayRunNow, ready, attempt, tryFrom, madeReady}
+use Rattle.rules.specs.Calls.{nothingOrders, idPending, idDone, alreadyDone, readOvertaken, tableFull, addRefusal, arrived}
+use Rattle.rules.specs.Calls.{add, changeOf, lineOf}
+use Rattle.rules.specs.Calls.{valuesAfter, inProgress, future, without, logFull, finished, finishFound, finish}
+use Rattle.rules.specs.Calls.{show, restarted, restartAs, restart, stale, redoRefusal, behind, pick, drain, delivered}
+use Rattle.rules.specs.Calls.{redoRead, redo, end, writableUpdate, writable, perform, step}
+use Rattle.rules.specs.Keeper.{sameBytes}
+use Rattle.rules.specs.Session.{Session, Turn, turnOf, calling, obey, onCommand, turn, replies, afterLines}
+use Rattle.rules.specs.Examples.{same-bytes}
+
+-- ### Cases: a log that restart reads, and then lines of a session
+
+pub record Case : Type 0 where
+  -- the bytes that restart takes
+  pub log : List ℕ
+  -- the lines of a session behind it
+  pub input : List ℕ
+  -- the reply to the restart, and those to the lines
+  pub replies : List ℕ
+  -- the log at the end; none where restart refuses
+  pub after : List ℕ
+
+-- restart from a log, with 300 bytes of the buffer behind it
+unfoldable pub begins : List ℕ → Turn
+begins log = turnOf (restart (log ++ replicate 300 0) (length log)) none
+
+-- the reply to the restart, and those to the lines behind it
+unfoldable pub answers : List ℕ → List ℕ → List ℕ
+answers log input = ended (outcomeText (begins log .reply)) ++ replies 0 (linesOf input) (begins log .after)
+
+-- the bytes of a session's log
+unfoldable pub logOf : Session → List ℕ
+logOf none = []
+logOf (some st) = logBytes st
+
+-- the bytes of the log at the end
+unfoldable pub leaves : List ℕ → List ℕ → List ℕ
+leaves log input = logOf (afterLines 0 (linesOf input) (begins log .after))
+
+-- The test of a case: replies and log are these, byte for byte.
+unfoldable caseHolds : Case → Bool
+caseHolds c = sameBytes (answers (c .log) (c .input)) (c .replies) && sameBytes (leaves (c .log) (c .input)) (c .after)
+
+-- Version C = 4, place 1, and the parts 1, 2, 3 and 4, in history 0 of two.
+abbrev at4 : List ℕ
+at4 = bytes "(site 2)\n(did 1 (set 0 4 1 67305985))\n"
+
+-- lines of a session, each with its end
+unfoldable pub lines : List (List ℕ) → List ℕ
+lines [] = []
+lines (l ∷ ls) = ended l ++ lines ls
+
+-- A line with this change, to stand behind `at4`.
+abbrev did2 : String → List ℕ
+did2 change = bytes "(did 2 " ++ bytes change ++ bytes ")\n"
+
+-- "have each place one above the last in its history, and may run there": restart takes the change, and counts so many bytes
+abbrev taken : String → String → Case
+taken change n =
+    record { log = at4 ++ did2 change; input = []; replies = bytes "(ok 2 " ++ bytes n ++ bytes ")\n"; after = at4 ++ did2 change }
+
+-- .. or does not: 15
+abbrev bad : String → Case
+bad change = record { log = at4 ++ did2 change; input = []; replies = bytes "(refused 15)\n"; after = [] }
+
+-- A redo of the change, and `show`.
+abbrev redoing : String → List ℕ → List ℕ → Case
+redoing change answers after =
+    record {
+      log = at4;
+      input = bytes "(redo (did 2 " ++ bytes change ++ bytes "))\n(show 0)\n";
+      replies = bytes "(ok 1 38)\n" ++ answers;
+      after = after;
+    }
+
+-- Redo of the change runs, and then `show` has version, persistent and stable version, place and profile.
+abbrev reruns : String → String → Case
+reruns change shown = redoing change (bytes "(ok 1)\n(history 0 " ++ bytes shown ++ bytes ")\n") (at4 ++ did2 change)
+
+-- .. or waits
+abbrev staysBack : String → Case
+staysBack change = redoing change (bytes "(ok 0)\n(history 0 4 4 4 1 67305985)\n") at4
+
+-- .. or is refused
+abbrev redoRefused : String → String → Case
+redoRefused change n = redoing change (bytes "(refused " ++ bytes n ++ bytes ")\n(history 0 4 4 4 1 67305985)\n") at4
+
+-- An add of an operation, its finish, and `show`.
+abbrev adding : List ℕ → String → List ℕ → List ℕ → Case
+adding log updates answers after =
+    record {
+      log = log;
+      input = bytes "(end)\n(add 2 " ++ bytes updates ++ bytes ")\n(finish 2)\n(show 0)\n";
+      replies = answers;
+      after = after;
+    }
+
+-- An added operation is ready; finishing it gives these values, logs these changes, and `show` has these numbers.
+abbrev runs : String → String → String → String → Case
+runs updates values changes shown =
+    adding at4 updates
+    (bytes "(ok 1 38)\n(ok (waiting))\n(ok (ready 2))\n(ok 2 (values " ++ bytes values
+    ++ bytes ")(ready))\n(history 0 " ++ bytes shown ++ bytes ")\n")
+    (at4 ++ did2 changes)
+
+-- .. waits (finishing it is refused 11)
+abbrev waits : String → Case
+waits updates =
+    adding at4 updates (bytes "(ok 1 38)\n(ok (waiting))\n(ok (ready))\n(refused 11)\n(history 0 4 4 4 1 67305985)\n") at4
+
+-- .. or is refused
+abbrev addRefused : String → String → Case
+addRefused updates n =
+    adding at4 updates
+    (bytes "(ok 1 38)\n(ok (waiting))\n(refused " ++ bytes n ++ bytes ")\n(refused 11)\n(history 0 4 4 4 1 67305985)\n")
+    at4
+
+-- "may run if", at C = 4 and U = 3, 4, 5 and 6: of a line that restart reads, of a redo, and of an added operation.
+abbrev pub versions : List Case
+versions =
+    -- inc: "U = C + 1"; "version U"
+    bad "(inc 0 3 2 0)" ∷ bad "(inc 0 4 2 0)" ∷ taken "(inc 0 5 2 0)" "60" ∷ bad "(inc 0 6 2 0)"
+    ∷ staysBack "(inc 0 3 2 0)" ∷ staysBack "(inc 0 4 2 0)" ∷ reruns "(inc 0 5 2 0)" "5 4 4 2 67305984" ∷ staysBack "(inc 0 6 2 0)"
+    ∷ addRefused "(inc 0 3 0)" "8" ∷ addRefused "(inc 0 4 0)" "8"
+    ∷ runs "(inc 0 5 0)" "67305984" "(inc 0 5 2 0)" "5 4 4 2 67305984" ∷ waits "(inc 0 6 0)"
+    -- set: "U > C"; "version U"
+    ∷ bad "(set 0 3 2 7)" ∷ bad "(set 0 4 2 7)" ∷ taken "(set 0 5 2 7)" "60" ∷ taken "(set 0 6 2 7)" "60"
+    ∷ staysBack "(set 0 3 2 7)" ∷ staysBack "(set 0 4 2 7)" ∷ reruns "(set 0 5 2 7)" "5 4 4 2 7" ∷ reruns "(set 0 6 2 7)" "6 4 4 2 7"
+    ∷ addRefused "(set 0 3 7)" "8" ∷ addRefused "(set 0 4 7)" "8"
+    ∷ runs "(set 0 5 7)" "7" "(set 0 5 2 7)" "5 4 4 2 7" ∷ runs "(set 0 6 7)" "7" "(set 0 6 2 7)" "6 4 4 2 7"
+    -- not: "U = C"; "version kept"
+    ∷ bad "(not 0 3 2 0)" ∷ taken "(not 0 4 2 0)" "60" ∷ bad "(not 0 5 2 0)" ∷ bad "(not 0 6 2 0)"
+    ∷ staysBack "(not 0 3 2 0)" ∷ reruns "(not 0 4 2 0)" "4 4 4 2 67305985" ∷ staysBack "(not 0 5 2 0)" ∷ staysBack "(not 0 6 2 0)"
+    ∷ addRefused "(not 0 3 0)" "9" ∷ runs "(not 0 4 0)" "67305985" "(not 0 4 2 0)" "4 4 4 2 67305985"
+    ∷ waits "(not 0 5 0)" ∷ waits "(not 0 6 0)"
+    -- unk: "U is written 0"; "as inc; version C + 1", and recorded as inc
+    ∷ runs "(inc 1 1 0)(unk 0 0 7)" "0 67305991" "(inc 1 1 1 0)(inc 0 5 2 7)" "5 4 4 2 67305991"
+    ∷ addRefused "(inc 1 1 0)(unk 0 1 7)" "5" ∷ addRefused "(inc 1 1 0)(unk 0 4 7)" "5" ∷ addRefused "(inc 1 1 0)(unk 0 5 7)" "5"
+    ∷ []
+
+-- "each place one above the last in its history": equal, one and two above; "redo: a place not above the history's" is refused 8.
+abbrev pub places : List Case
+places =
+    bad "(inc 0 5 1 0)" ∷ bad "(inc 0 5 3 0)" ∷ bad "(set 0 6 1 7)" ∷ bad "(set 0 6 3 7)" ∷ bad "(not 0 4 1 0)" ∷ bad "(not 0 4 3 0)"
+    ∷ redoRefused "(inc 0 5 1 0)" "8" ∷ staysBack "(inc 0 5 3 0)" ∷ redoRefused "(set 0 6 1 7)" "8" ∷ staysBack "(set 0 6 3 7)"
+    ∷ redoRefused "(not 0 4 1 0)" "8" ∷ staysBack "(not 0 4 3 0)" ∷ []
+
+-- Operands at both ends of their range, and one behind it: 5, and 15 of a line that restart reads.
+abbrev pub operands : List Case
+operands =
+    taken "(inc 0 5 2 1023)" "63" ∷ bad "(inc 0 5 2 1024)"
+    ∷ reruns "(inc 0 5 2 1023)" "5 4 4 2 4278387201" ∷ redoRefused "(inc 0 5 2 1024)" "5"
+    ∷ runs "(inc 0 5 1023)" "4278387201" "(inc 0 5 2 1023)" "5 4 4 2 4278387201" ∷ addRefused "(inc 0 5 1024)" "5"
+    ∷ taken "(set 0 5 2 0)" "60" ∷ taken "(set 0 5 2 4294967295)" "69" ∷ bad "(set 0 5 2 4294967296)"
+    ∷ reruns "(set 0 5 2 4294967295)" "5 4 4 2 4294967295" ∷ redoRefused "(set 0 5 2 4294967296)" "5"
+    ∷ runs "(set 0 5 0)" "0" "(set 0 5 2 0)" "5 4 4 2 0"
+    ∷ runs "(set 0 5 4294967295)" "4294967295" "(set 0 5 2 4294967295)" "5 4 4 2 4294967295" ∷ addRefused "(set 0 5 4294967296)" "5"
+    ∷ bad "(not 0 4 2 1)" ∷ redoRefused "(not 0 4 2 1)" "5" ∷ addRefused "(not 0 4 1)" "5"
+    ∷ runs "(inc 1 1 0)(unk 0 0 1023)" "0 4278387201" "(inc 1 1 1 0)(inc 0 5 2 1023)" "5 4 4 2 4278387201"
+    ∷ addRefused "(inc 1 1 0)(unk 0 0 1024)" "5" ∷ []
+
+-- "one part replaced: operand = part × 256 + byte": each part with the bytes 0 and 255.
+abbrev pub parts : List Case
+parts =
+    reruns "(inc 0 5 2 0)" "5 4 4 2 67305984" ∷ reruns "(inc 0 5 2 255)" "5 4 4 2 67306239"
+    ∷ reruns "(inc 0 5 2 256)" "5 4 4 2 67305473" ∷ reruns "(inc 0 5 2 511)" "5 4 4 2 67370753"
+    ∷ reruns "(inc 0 5 2 512)" "5 4 4 2 67109377" ∷ reruns "(inc 0 5 2 767)" "5 4 4 2 83821057"
+    ∷ reruns "(inc 0 5 2 768)" "5 4 4 2 197121" ∷ reruns "(inc 0 5 2 1023)" "5 4 4 2 4278387201" ∷ []
+
+-- A version C near the highest in history 0.
+abbrev atHigh : String → List ℕ
+atHigh c = bytes "(site 2)\n(did 1 (set 0 " ++ bytes c ++ bytes " 1 7))\n"
+
+-- At C = 2^64 − 2 an added operation runs, and the version after is 2^64 − 1.
+abbrev runsHigh : String → String → String → Case
+runsHigh updates values changes =
+    adding (atHigh "18446744073709551614") updates
+    (bytes "(ok 1 50)\n(ok (waiting))\n(ok (ready 2))\n(ok 2 (values " ++ bytes values ++ bytes ")(ready))\n"
+    ++ bytes "(history 0 18446744073709551615 18446744073709551614 18446744073709551614 2 0)\n")
+    (atHigh "18446744073709551614" ++ did2 changes)
+
+-- At C = 2^64 − 1 it does not: it gets this reply.
+abbrev staysHigh : String → String → Case
+staysHigh updates answer =
+    adding (atHigh "18446744073709551615") updates
+    (bytes "(ok 1 50)\n(ok (waiting))\n" ++ bytes answer ++ bytes "\n(refused 11)\n"
+    ++ bytes "(history 0 18446744073709551615 18446744073709551615 18446744073709551615 1 7)\n")
+    (atHigh "18446744073709551615")
+
+-- unk: "C is below 2^64 − 1"; inc: "a true sum"; set up to 2^64 − 1.
+abbrev pub highest : List Case
+highest =
+    runsHigh "(inc 1 1 0)(unk 0 0 0)" "0 0" "(inc 1 1 1 0)(inc 0 18446744073709551615 2 0)"
+    ∷ runsHigh "(inc 0 18446744073709551615 0)" "0" "(inc 0 18446744073709551615 2 0)"
+    ∷ runsHigh "(set 0 18446744073709551615 0)" "0" "(set 0 18446744073709551615 2 0)"
+    ∷ staysHigh "(inc 1 1 0)(unk 0 0 0)" "(ok (ready))" ∷ staysHigh "(inc 0 0 0)" "(refused 8)"
+    ∷ staysHigh "(inc 0 18446744073709551616 0)" "(refused 1)" ∷ staysHigh "(set 0 18446744073709551615 0)" "(refused 8)"
+    ∷ record { log = atHigh "18446744073709551615" ++ did2 "(inc 0 0 2 0)"; input = []; replies = bytes "(refused 15)\n"; after = [] }
+    ∷ []
+
+-- Calls that finish nothing, and the replies to them.
+abbrev calls : List (List ℕ) → List (List ℕ) → Case
+calls input answers =
+    record {
+      log = at4;
+      input = bytes "(end)\n" ++ lines input;
+      replies = bytes "(ok 1 38)\n(ok (waiting))\n" ++ lines answers;
+      after = at4;
+    }
+
+-- "`not` is weak, the others strong; all but `unk` are ordered": what blocks what, and what nothing orders (6).
+abbrev pub strengths : List Case
+strengths =
+    calls
+    (bytes "(add 2 (not 0 4 0))" ∷ bytes "(add 3 (not 0 4 0))" ∷ bytes "(add 4 (inc 0 5 0))" ∷ bytes "(add 5 (inc 1 1 0)(unk 0 0 0))" ∷ [])
+    (bytes "(ok (ready 2))" ∷ bytes "(ok (ready 3))" ∷ bytes "(ok (ready))" ∷ bytes "(ok (ready))" ∷ [])
+    ∷ calls
+    (bytes "(add 2 (inc 0 5 0))" ∷ bytes "(add 3 (not 0 4 0))" ∷ bytes "(add 4 (set 0 5 0))" ∷ [])
+    (bytes "(ok (ready 2))" ∷ bytes "(ok (ready))" ∷ bytes "(ok (ready))" ∷ [])
+    ∷ calls
+    (bytes "(add 2 (set 0 5 0))" ∷ bytes "(add 3 (not 0 4 0))" ∷ bytes "(add 4 (inc 0 5 0))" ∷ [])
+    (bytes "(ok (ready 2))" ∷ bytes "(ok (ready))" ∷ bytes "(ok (ready))" ∷ [])
+    ∷ calls
+    (bytes "(add 2 (inc 1 1 0)(unk 0 0 0))" ∷ bytes "(add 3 (not 0 4 0))" ∷ bytes "(add 4 (inc 0 5 0))" ∷ [])
+    (bytes "(ok (ready 2))" ∷ bytes "(ok (ready))" ∷ bytes "(ok (ready))" ∷ [])
+    ∷ calls
+    (bytes "(add 2 (unk 0 0 0))" ∷ bytes "(add 2 (unk 0 0 0)(not 1 0 0))" ∷ bytes "(add 2 (not 0 4 0)(not 1 0 0))" ∷ [])
+    (bytes "(refused 6)" ∷ bytes "(refused 6)" ∷ bytes "(ok (ready 2))" ∷ [])
+    ∷ []
+
+-- ### The definitions themselves, also where no call of a site could tell
+
+-- A rule's row of the table.
+pub record RuleRow : Type 0 where
+  pub rule : Rule
+  -- may run (1) or not (0), at C = 4 and U = 3, 4, 5 and 6
+  pub may : List ℕ
+  -- the version after, at these
+  pub version : List ℕ
+  -- the profile of the parts 1, 2, 3 and 4 after the operand 513
+  pub profile : ℕ
+  -- strong, ordered
+  pub is : List ℕ
+  -- profile, version and place that the book holds after its logged rule with V = 6 and the operand 513, from C = 4 and place 1
+  pub booked : List ℕ
+
+-- 1 for true, 0 for false
+abbrev pub flag : Bool → ℕ
+flag b = cond b 1 0
+
+-- U = C − 1, C, C + 1 and C + 2, at C = 4
+abbrev pub around4 : List ℕ
+around4 = 3 ∷ 4 ∷ 5 ∷ 6 ∷ []
+
+-- a history at C = 4 and place 1, as the book holds it
+abbrev pub cell4 : Cell
+cell4 = record { profile = 67305985; version = 4; place = 1 }
+
+-- profile, version and place
+abbrev pub numbersIn : Cell → List ℕ
+numbersIn c = c .profile ∷ c .version ∷ c .place ∷ []
+
+-- The test of a row.
+unfoldable pub ruleRowHolds : RuleRow → Bool
+ruleRowHolds c =
+    sameBytes (map (λ u. flag (mayRun (c .rule) 4 u)) around4) (c .may)
+    && sameBytes (map (versionAfter (c .rule) 4) around4) (c .version)
+    && eqb (profileAfter (c .rule) 513 67305985) (c .profile)
+    && sameBytes (flag (strong (c .rule)) ∷ flag (ordered (c .rule)) ∷ []) (c .is)
+    && sameBytes (numbersIn (entered (loggedAs (c .rule)) 6 513 cell4)) (c .booked)
+
+-- 01's table, with strong and ordered.
+abbrev pub ruleRows : List RuleRow
+ruleRows =
+    record {
+      rule = Inc;
+      may = 0 ∷ 0 ∷ 1 ∷ 0 ∷ [];
+      version = 3 ∷ 4 ∷ 5 ∷ 6 ∷ [];
+      profile = 67174913;
+      is = 1 ∷ 1 ∷ [];
+      booked = 67174913 ∷ 6 ∷ 2 ∷ [];
+    }
+    ∷ record {
+      rule = Set;
+      may = 0 ∷ 0 ∷ 1 ∷ 1 ∷ [];
+      version = 3 ∷ 4 ∷ 5 ∷ 6 ∷ [];
+      profile = 513;
+      is = 1 ∷ 1 ∷ [];
+      booked = 513 ∷ 6 ∷ 2 ∷ [];
+    }
+    ∷ record {
+      rule = Not;
+      may = 0 ∷ 1 ∷ 0 ∷ 0 ∷ [];
+      version = 4 ∷ 4 ∷ 4 ∷ 4 ∷ [];
+      profile = 67305985;
+      is = 0 ∷ 1 ∷ [];
+      booked = 67305985 ∷ 4 ∷ 2 ∷ [];
+    }
+    ∷ record {
+      rule = Unk;
+      may = 1 ∷ 1 ∷ 1 ∷ 1 ∷ [];
+      version = 5 ∷ 5 ∷ 5 ∷ 5 ∷ [];
+      profile = 67174913;
+      is = 1 ∷ 0 ∷ [];
+      booked = 67174913 ∷ 6 ∷ 2 ∷ [];
+    }
+    ∷ []
+
+-- ### The test
+
+-- The whole table.
+abbrev pub cases : List Case
+cases = versions ++ places ++ operands ++ parts ++ highest ++ strengths
+
+-- The one computed test, over the whole table.
+computed : T (all ruleRowHolds ruleRows && all caseHolds cases)
+computed =
+    unfold ruleRowHolds caseHolds begins answers logOf leaves lines sameBytes below word digitsWithin digits more number numberOf in
+    unfold fieldText fieldsText itemsText tailText listText updateText changeText oneText siteText didText redoText in
+    unfold numbersText answerText outcomeText in
+    unfold reading.field reading.rule reading.doneRule reading.update reading.change reading.one reading.items reading.tail in
+    unfold reading.did reading.add reading.redo reading.numbered reading.command readDid readSite readCommand readWhole in
+    unfold replaced entered enter enterAll cellFrom cell touches runsAt canRun in
+    unfold check andThen wrongCount noSuchHistory historyTwice updateMisfits changeMisfits formRefusal updatesRefusal changesRefusal in
+    unfold ended didsText logText linesFrom restFrom historiesFit accepts readLines readFirst readLog in
+    unfold logBytes versionAt liveDone live asks dry becameDry rose lineBytes in
+    unfold unless blockedBy blocked mayRunNow ready attempt tryFrom madeReady nothingOrders idPending idDone in
+    unfold alreadyDone readOvertaken tableFull addRefusal arrived add changeOf lineOf valuesAfter inProgress future without in
+    unfold logFull finished finishFound finish show restarted restartAs restart stale redoRefusal behind pick in
+    unfold drain delivered redoRead redo end writableUpdate writable perform step in
+    unfold turnOf calling obey onCommand turn replies afterLines in
+    tt
+
+both : (a b c d : List ℕ) → T (sameBytes a b && sameBytes c d) → (a ≡ b) × (c ≡ d)
+both a b c d t =
+    (same-bytes a b (and-left (sameBytes a b) (sameBytes c d) t), same-bytes c d (and-right (sameBytes a b) (sameBytes c d) t))
+
+-- Every case holds: the replies, and the log's bytes at the end.
+pub cases-hold : (c : Case) → Mem c cases → (answers (c .log) (c .input) ≡ c .replies) × (leaves (c .log) (c .input) ≡ c .after)
+unfolding caseHolds
+cases-hold c m =
+    both _ _ _ _ (all-at caseHolds cases (and-right (all ruleRowHolds ruleRows) (all caseHolds cases) computed) c m)
+
+-- Every row holds.
+pub rule-rows-hold : (c : RuleRow) → Mem c ruleRows → T (ruleRowHolds c)
+rule-rows-hold c m = all-at ruleRowHolds ruleRows (and-left (all ruleRowHolds ruleRows) (all caseHolds cases) computed) c m
