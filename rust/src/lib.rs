@@ -1,4 +1,4 @@
-//! The fitting ledger a second time, from its paper (document 01) alone.
+//! The fitting ledger a second time, from its papers (documents 01 and 02) alone.
 //!
 //! From the bottom up: [`forms`] are the things that lines say, [`reader`] and [`writer`]
 //! turn bytes into them and back, [`rules`] decides, [`site`] and [`keeper`] carry the state,

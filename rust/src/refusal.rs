@@ -1,4 +1,4 @@
-//! The refusals, with the paper's numbers.
+//! The refusals, with the papers' numbers.
 
 /// Why a call was refused. Nothing has changed then.
 #[derive(Clone, Copy, Debug, PartialEq, Eq)]
@@ -34,6 +34,8 @@ pub enum Refusal {
     WrongTime = 14,
     /// The log cannot be restarted from.
     BadLog = 15,
+    /// The line is in conflict with one that the keeper holds.
+    Conflict = 20,
 }
 
 impl Refusal {

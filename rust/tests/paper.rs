@@ -323,6 +323,7 @@ mod keeper {
             ("(did 5 (inc 0 1 1 0)(not 0 1 2 1))", 4),
             ("(did 5 (not 0 1 1 1))", 5),
             (LINES[1], 8),
+            ("(did 6 (set 1 4 2 1001))", 20),
             ("(did 8 (inc 0 2 2 0))", 12),
         ] {
             assert_eq!(keep(&full, 85, line), (Err(number), full.clone()), "{line}");
@@ -333,6 +334,46 @@ mod keeper {
         assert_eq!(drop_up_to(&large, 0, 16, 1).0, Err(3));
         assert_eq!(hand_out(&large, 0, [0; 16], 0).0, Err(13));
         assert_eq!(hand_out(&full, 85, [0; 16], ROOM + 1).0, Err(13));
+    }
+
+    /// Document 02, (f): another rule, version, operand or order is a conflict; another id, place
+    /// or history, and a part of the histories, is none.
+    #[test]
+    fn lines_in_conflict() {
+        let buffer = filled(200);
+        for line in [
+            "(did 5 (set 0 1 1 513)(not 1 0 1 0))",
+            "(did 5 (inc 0 2 1 513)(not 1 0 1 0))",
+            "(did 5 (inc 0 1 1 514)(not 1 0 1 0))",
+            "(did 5 (not 1 0 1 0)(inc 0 1 1 513))",
+            "(did 7 (set 15 1 1 0))",
+        ] {
+            assert_eq!(keep(&buffer, 85, line), (Err(20), buffer.clone()), "{line}");
+        }
+        for line in [
+            "(did 9 (inc 0 1 1 513)(not 1 0 1 0))",
+            "(did 5 (inc 0 1 2 513)(not 1 0 1 0))",
+            "(did 5 (inc 0 1 1 513)(not 2 0 1 0))",
+            "(did 5 (inc 0 1 1 513))",
+            "(did 5 (inc 0 1 1 513)(not 1 0 1 0)(not 2 0 1 0))",
+        ] {
+            assert_eq!(keep(&buffer, 85, line).0, Ok(85 + line.len() + 1), "{line}");
+        }
+    }
+
+    /// Only held lines count: after a drop the other line is kept, and the first is in conflict.
+    #[test]
+    fn a_conflict_ends_with_a_drop() {
+        let other = "(did 5 (not 1 0 1 0)(inc 0 1 1 513))";
+        let buffer = filled(100);
+        assert_eq!(keep(&buffer, 85, LINES[0]).0, Err(8));
+        assert_eq!(keep(&buffer, 85, other).0, Err(20));
+        let (dropped, buffer) = drop_up_to(&buffer, 85, 0, 1);
+        assert_eq!(dropped, Ok(48));
+        let (kept, buffer) = keep(&buffer, 48, other);
+        assert_eq!(kept, Ok(85));
+        assert_eq!(keep(&buffer, 85, LINES[0]).0, Err(20));
+        assert_eq!(keep(&buffer, 85, other).0, Err(8));
     }
 
     #[test]

@@ -1,12 +1,12 @@
--- The refusals, with the paper's number for each.
+-- The refusals, with the papers' number for each.
 use Prim.Native.Nat.{ℕ}
 use Rattle.forms.specs.declared.Refusal.{Refusal}
 use Rattle.forms.specs.declared.Refusal.the-variants.{Unreadable, WrongCount, NoSuchHistory, HistoryTwice}
 use Rattle.forms.specs.declared.Refusal.the-variants.{OperandRange, NothingOrders, IdPending, AlreadyDone}
 use Rattle.forms.specs.declared.Refusal.the-variants.{ReadOvertaken, TableFull, WrongState, NoRoom, AboveLimit}
-use Rattle.forms.specs.declared.Refusal.the-variants.{OutOfTurn, BadLog}
+use Rattle.forms.specs.declared.Refusal.the-variants.{OutOfTurn, BadLog, Conflict}
 
--- "A refusal returns its number only": the column `no.` of the table in "Refusals".
+-- "A refusal returns its number only": the column `no.` of the table in "Refusals", and 02's 20, "a line in conflict with a held one".
 unfoldable pub numberOf : Refusal → ℕ
 numberOf Unreadable = 1
 numberOf WrongCount = 2
@@ -23,3 +23,4 @@ numberOf NoRoom = 12
 numberOf AboveLimit = 13
 numberOf OutOfTurn = 14
 numberOf BadLog = 15
+numberOf Conflict = 20

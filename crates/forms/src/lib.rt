@@ -70,7 +70,7 @@ pub struct DidLine {
     pub held: DoneHeld,
 }
 
-// Why a call is refused. The numbers of document 01 are given by `numberOf` in specs/Refusals.antt.
+// Why a call is refused. The papers' numbers are given by `numberOf` in specs/Refusals.antt.
 pub enum Refusal {
     Unreadable,
     WrongCount,
@@ -87,6 +87,7 @@ pub enum Refusal {
     AboveLimit,
     OutOfTurn,
     BadLog,
+    Conflict,
 }
 
 // Room for a list of at most 64 numbers: ids, histories or profiles.

@@ -43,6 +43,7 @@ pub fn say_refusals() {
     say_plain(ReplyForm::Refused(Refusal::AboveLimit));
     say_plain(ReplyForm::Refused(Refusal::OutOfTurn));
     say_plain(ReplyForm::Refused(Refusal::BadLog));
+    say_plain(ReplyForm::Refused(Refusal::Conflict));
 }
 
 // What show gives of a history.

@@ -22,6 +22,7 @@ pub mod StartLaws
 pub mod Run
 pub mod GoodLaws
 pub mod Examples
+pub mod KeeperExamples
 pub mod When
 pub mod WhenLaws
 pub mod LiveLaws

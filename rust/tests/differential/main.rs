@@ -263,7 +263,7 @@ fn the_trials_reach_everything() {
     let expected = KINDS.iter().map(|kind| kind.to_string()).chain(
         (1..=15)
             .map(|number| format!("(refused {number})"))
-            .chain(refusals("keep ", &[1, 2, 3, 4, 5, 8, 12, 13, NO_KEEPER]))
+            .chain(refusals("keep ", &[1, 2, 3, 4, 5, 8, 12, 13, 20, NO_KEEPER]))
             .chain(refusals("drop ", &[3, 13, NO_KEEPER]))
             .chain(refusals("hand out ", &[12, 13, NO_KEEPER])),
     );

@@ -257,7 +257,7 @@ fn hand_out(random: &mut Random, program: &Second, kept: &Kept) -> KeeperCall {
     KeeperCall::HandOut { kept: places, room }
 }
 
-/// A did line for a keeper: a new one, one that came before, or a damaged one.
+/// A did line for a keeper: a new one, one that came before, one like that, or a damaged one.
 fn kept_line(random: &mut Random, made: &[KeeperCall]) -> Vec<u8> {
     let known: Vec<&Vec<u8>> = made
         .iter()
@@ -272,6 +272,10 @@ fn kept_line(random: &mut Random, made: &[KeeperCall]) -> Vec<u8> {
             let line = new_line(random);
             damage::line(random, &line)
         }
+        19..=44 if !known.is_empty() => {
+            let line = random.pick(&known).clone();
+            like(random, &line)
+        }
         18 => {
             let length = random.between(1010, 1030);
             let line = damage::long_line(random, length);
@@ -279,6 +283,33 @@ fn kept_line(random: &mut Random, made: &[KeeperCall]) -> Vec<u8> {
         }
         _ => new_line(random),
     }
+}
+
+/// A line like another: its updates in another order, or one of them with another rule, version,
+/// place or operand, or left out; now and then with another id.
+fn like(random: &mut Random, line: &[u8]) -> Vec<u8> {
+    let text = String::from_utf8_lossy(line).into_owned();
+    let Some((head, inside)) = text.strip_suffix("))").and_then(|text| text.split_once(" ("))
+    else {
+        return line.to_vec();
+    };
+    let mut updates: Vec<Vec<&str>> =
+        inside.split(")(").map(|update| update.split(' ').collect()).collect();
+    let one = random.index(updates.len());
+    let other = random.pick(&["0", "1", "2", "3", "7"]);
+    match random.below(10) {
+        0..=3 => random.shuffle(&mut updates),
+        4 => updates[one][0] = random.pick(&["inc", "set", "not"]),
+        at @ 5..=8 if updates[one].len() == 5 => updates[one][at as usize - 4] = other,
+        _ => drop(updates.remove(one)),
+    }
+    if random.percent(30) {
+        random.shuffle(&mut updates);
+    }
+    let head = if random.percent(5) { "(did 7" } else { head };
+    let updates: String = updates.iter().map(|update| format!("({})", update.join(" "))).collect();
+    let space = if updates.is_empty() { "" } else { " " };
+    format!("{head}{space}{updates})").into_bytes()
 }
 
 fn new_line(random: &mut Random) -> Vec<u8> {
