@@ -8,7 +8,8 @@ use lib.ListN.{length, getD, set, take, length-set}
 use lib.Seq.{take-suc, take-set-le, getD-set-same}
 
 -- One element more.
-pub copied-next : (s a : List ℕ) (i : ℕ) → i < length s → i < length a → take i a ≡ take i s → take (i + 1) (set a i (getD s i 0)) ≡ take (i + 1) s
+pub copied-next : (s a : List ℕ) (i : ℕ) → i < length s → i < length a → take i a ≡ take i s →
+    take (i + 1) (set a i (getD s i 0)) ≡ take (i + 1) s
 copied-next s a i m n e =
     let one : i + 1 ≡ suc i = add-one i in
     ap (λ (k : ℕ). take k (set a i (getD s i 0))) one

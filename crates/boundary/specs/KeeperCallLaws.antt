@@ -20,7 +20,8 @@ use Rattle.keeper.specs.declared.Resumed.the-variants.{Found, NoKeeper}
 use Rattle.keeper.specs.Model.{view, Valid, resumable, resumedOf, Does, handAnswer, HandsOut}
 use Rattle.keeper.specs.WalkLaws.{holds-now, used-is}
 use Rattle.keeper.specs.ResumeLaws.{resumable-valid}
-use Rattle.boundary.specs.KeeperCalls.{keeperIn, verdictNumber, replyNumber, replyBytes, Replies, handOutNumber, handedNumber, HandsOver}
+use Rattle.boundary.specs.KeeperCalls.{keeperIn, verdictNumber, replyNumber, replyBytes, Replies, handOutNumber, handedNumber}
+use Rattle.boundary.specs.KeeperCalls.{HandsOver}
 
 -- ### Whether a keeper is taken up
 
@@ -30,7 +31,8 @@ pub record TakenUp (used : ℕ) (bytes : List ℕ) (k : Keeper) : Type 0 where
   pub same : k ≡ record { used = used }
   pub valid : Valid k bytes
 
-pub taken-up : (used : ℕ) (bytes : List ℕ) (k : Keeper) (r : Resumed) → r ≡ resumedOf (resumable used bytes) used → r ≡ Found k → TakenUp used bytes k
+pub taken-up : (used : ℕ) (bytes : List ℕ) (k : Keeper) (r : Resumed) → r ≡ resumedOf (resumable used bytes) used → r ≡ Found k →
+    TakenUp used bytes k
 unfolding resumedOf
 taken-up used bytes k r e f = go (resumable used bytes) refl (sym f ∙ e)
   where
@@ -40,7 +42,8 @@ taken-up used bytes k r e f = go (resumable used bytes) refl (sym f ∙ e)
         record { test = t; same = same; valid = subst (λ (x : Keeper). Valid x bytes) (sym same) (resumable-valid used bytes t) }
     go false t q = let z : _≡_ {A = ℕ} 0 1 = cc in absurd (omega arith)
 
-pub not-taken-up : (used : ℕ) (bytes : List ℕ) (r : Resumed) → r ≡ resumedOf (resumable used bytes) used → r ≡ NoKeeper → resumable used bytes ≡ false
+pub not-taken-up : (used : ℕ) (bytes : List ℕ) (r : Resumed) → r ≡ resumedOf (resumable used bytes) used → r ≡ NoKeeper →
+    resumable used bytes ≡ false
 unfolding resumedOf
 not-taken-up used bytes r e f = go (resumable used bytes) (sym f ∙ e)
   where
@@ -59,10 +62,12 @@ kept-whole : (k : Keeper) (new old : List ℕ) (b : book.Keeper) → Valid k new
 unfolding keptBytes
 kept-whole k new old b v e past =
     let h = holds-now k new v in
-    let n : k .used ≡ length (didsText (b .lines)) = used-is k new (view k new .lines) h ∙ ap (λ (x : book.Keeper). length (didsText (x .lines))) e in (
+    let n : k .used ≡ length (didsText (b .lines)) = used-is k new (view k new .lines) h
+    ∙ ap (λ (x : book.Keeper). length (didsText (x .lines))) e in (
       n,
       sym (take-append-drop (k .used) new)
-          ∙ ap₂ (λ (x y : List ℕ). x ++ y) (h .text ∙ ap (λ (x : book.Keeper). didsText (x .lines)) e) (past ∙ ap (λ (i : ℕ). drop i old) n),
+          ∙ ap₂ (λ (x y : List ℕ). x ++ y) (h .text ∙ ap (λ (x : book.Keeper). didsText (x .lines)) e)
+          (past ∙ ap (λ (i : ℕ). drop i old) n),
     )
 
 module _ (used : ℕ) (old : List ℕ) (k : Keeper) (up : TakenUp used old k) where
@@ -83,7 +88,8 @@ module _ (used : ℕ) (old : List ℕ) (k : Keeper) (up : TakenUp used old k) wh
       go (book.ok b) x =
           let w = kept-whole (r .keeper) new old b (x .valid) (x .lines) (x .past) in
           record {
-            answer = e ∙ ap (λ (v : Verdict). verdictNumber v (r .keeper .used)) (x .answer) ∙ ap (λ (i : ℕ). i + 1000) (w .0) ∙ rw (up .test) refl;
+            answer = e ∙ ap (λ (v : Verdict). verdictNumber v (r .keeper .used)) (x .answer) ∙ ap (λ (i : ℕ). i + 1000) (w .0)
+                ∙ rw (up .test) refl;
             bytes = w .1 ∙ rw (up .test) refl;
           }
 
@@ -96,11 +102,14 @@ module _ (used : ℕ) (old : List ℕ) (k : Keeper) (up : TakenUp used old k) wh
 pub hands-none : (used : ℕ) (buf places old : List ℕ) → resumable used buf ≡ false → HandsOver used buf places old 999 old
 hands-none used buf places old e = record { answer = rw e; bytes = rw e }
 
-pub hands-not-sixteen : (used : ℕ) (buf places old : List ℕ) → resumable used buf ≡ true → (length places ≡ 16 → ⊥) → HandsOver used buf places old 998 old
-hands-not-sixteen used buf places old e h = record { answer = rw (e, ne-eqb (length places) 16 h); bytes = rw (e, ne-eqb (length places) 16 h) }
+pub hands-not-sixteen : (used : ℕ) (buf places old : List ℕ) → resumable used buf ≡ true → (length places ≡ 16 → ⊥) →
+    HandsOver used buf places old 998 old
+hands-not-sixteen used buf places old e h =
+    record { answer = rw (e, ne-eqb (length places) 16 h); bytes = rw (e, ne-eqb (length places) 16 h) }
 
 -- What is handed out is what is replied.
-pub hands-over : (used : ℕ) (buf places old : List ℕ) (k : Keeper) → TakenUp used buf k → length places ≡ 16 → (r : HandOut) (new : List ℕ) → HandsOut (view k buf) places old r new
+pub hands-over : (used : ℕ) (buf places old : List ℕ) (k : Keeper) → TakenUp used buf k → length places ≡ 16 →
+    (r : HandOut) (new : List ℕ) → HandsOut (view k buf) places old r new
     → (n : ℕ) → n ≡ handOutNumber r → HandsOver used buf places old n new
 unfolding handOutNumber handedNumber
 hands-over used buf places old k up h r new d n e =

@@ -52,7 +52,8 @@ handedNumber none bytes = length bytes + 1000
 pub record HandsOver (used : ℕ) (buf places old : List ℕ) (n : ℕ) (new : List ℕ) : Type 0 where
   pub answer : n ≡
       cond (resumable used buf)
-      (cond (eqb (length places) 16) (handedNumber (handOutRefusal places (length old) (keeperIn used buf)) (handedOut places (keeperIn used buf))) 998)
+      (cond (eqb (length places) 16)
+      (handedNumber (handOutRefusal places (length old) (keeperIn used buf)) (handedOut places (keeperIn used buf))) 998)
       999
   pub bytes : new ≡
       cond (resumable used buf && eqb (length places) 16)

@@ -12,7 +12,8 @@ abbrev pub wholeCode : Bool → ℕ → ℕ
 wholeCode true n = n
 wholeCode false n = top
 
--- The input's session has run over the log buffer that was `old` and is `new`, and its replies stand in the buffer that was `out` and is `page`.
+-- The input's session has run over the log buffer that was `old` and is `new`, and its replies stand in the buffer that was `out` and is
+-- `page`.
 pub record Plays (input old : List ℕ) (r : ℕ) (new out page : List ℕ) : Type 0 where
   pub ran : Ran
   pub runs : Runs input old ran new out page

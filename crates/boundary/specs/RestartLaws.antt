@@ -31,7 +31,8 @@ unlisted r = ap₂ (λ (xs ys : List ℕ). outcomeWith (r .form) xs ys) (take-ni
 
 -- What is written of it is the rule book's reply.
 pub puts-reply : (s : Site) (old : Lent) (reply : Reply) (r : Called) (log book out written : List ℕ) (w : Written) (n : ℕ) →
-    Does s old reply r (lent log [] [] book [] []) → Writes out 0 (withEnd (outcomeText (outcomeWith (r .reply .form) [] []))) w written → n ≡ codeOf w →
+    Does s old reply r (lent log [] [] book [] []) → Writes out 0 (withEnd (outcomeText (outcomeWith (r .reply .form) [] []))) w written →
+    n ≡ codeOf w →
     PutsText (replyText reply) out n written
 unfolding ended
 puts-reply s old reply r log book out written w n d text e =

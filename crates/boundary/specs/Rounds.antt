@@ -51,7 +51,8 @@ unfoldable pub roundsCalls : ℕ → List Call
 roundsCalls zero = []
 roundsCalls (suc n) = roundsCalls n ++ roundCalls n
 
--- What n rounds from the state st leave: how many bytes the log of the state that they reach has, and every byte of the buffer that was `old`.
+-- What n rounds from the state st leave: how many bytes the log of the state that they reach has, and every byte of the buffer that was
+-- `old`.
 pub record RoundsFrom (st : State) (n : ℕ) (old : List ℕ) (r : ℕ) (new : List ℕ) : Type 0 where
   pub used : r ≡ length (logBytes (run (roundsCalls n) st))
   pub bytes : new ≡ written (roundsCalls n) st (overlaid (some st) old)

@@ -26,7 +26,8 @@ use Rattle.stream.specs.LoggingLaws.{over-site}
 use Rattle.boundary.specs.Rounds.{written, Reaches, incOf, roundCalls, roundsCalls, markedIf, workCalls, Rounds}
 
 -- A site whose state is st, over a buffer that is as `old` was behind the log.
-stands-over : (r : Site) (old : List ℕ) (new : Lent) (st : State) → Valid r new → view r new ≡ st → drop (r .used) (new .log) ≡ drop (r .used) old
+stands-over : (r : Site) (old : List ℕ) (new : Lent) (st : State) → Valid r new → view r new ≡ st →
+    drop (r .used) (new .log) ≡ drop (r .used) old
     → new .log ≡ overlaid (some st) old
 unfolding overlaid
 stands-over r old new st v e past = over-site r new old v past ∙ ap (λ (x : State). overlaid (some x) old) e
@@ -52,7 +53,8 @@ call-reaches s old c r new v d = go (step c (view s old)) refl d
     go (ok st a) e h = reached st (settled (ok st a) e) (h .valid) (h .state) (h .past)
 
 -- The buffer after calls, and then others.
-written-append : (cs ds : List Call) (st : State) (bytes : List ℕ) → written (cs ++ ds) st bytes ≡ written ds (run cs st) (written cs st bytes)
+written-append : (cs ds : List Call) (st : State) (bytes : List ℕ) →
+    written (cs ++ ds) st bytes ≡ written ds (run cs st) (written cs st bytes)
 unfolding run written
 written-append [] ds st bytes = refl
 written-append (c ∷ cs) ds st bytes = written-append cs ds (settle (step c st) st) (overlaid (some (settle (step c st) st)) bytes)
@@ -64,7 +66,8 @@ reaches-then s old cs r mid ds t new a b =
     record {
       valid = b .valid;
       state = b .state ∙ ap (λ (st : State). run ds st) (a .state) ∙ sym (run-append cs ds (view s old));
-      bytes = b .bytes ∙ ap₂ (λ (st : State) (l : List ℕ). written ds st l) (a .state) (a .bytes) ∙ sym (written-append cs ds (view s old) (old .log));
+      bytes = b .bytes ∙ ap₂ (λ (st : State) (l : List ℕ). written ds st l) (a .state) (a .bytes)
+          ∙ sym (written-append cs ds (view s old) (old .log));
     }
 
 -- No call.
@@ -74,7 +77,8 @@ reaches-none s old v = record { valid = v; state = refl; bytes = refl }
 
 -- A call, and then another.
 pub two-reach : (s : Site) (old : Lent) (c : Call) (r : Called) (mid : Lent) (d : Call) (t : Called) (new : Lent) → Valid s old →
-    Does s old (step c (view s old)) r mid → Does (r .site) mid (step d (view (r .site) mid)) t new → Reaches s old (c ∷ d ∷ []) (t .site) new
+    Does s old (step c (view s old)) r mid → Does (r .site) mid (step d (view (r .site) mid)) t new →
+    Reaches s old (c ∷ d ∷ []) (t .site) new
 two-reach s old c r mid d t new v a b =
     let first = call-reaches s old c r mid v a in
     reaches-then s old (c ∷ []) (r .site) mid (d ∷ []) (t .site) new first (call-reaches (r .site) mid d t new (first .valid) b)
@@ -88,7 +92,8 @@ adds s old id us vs r new e d = subst (λ (x : List Update). Does s old (step (C
 pub marked-reach : (s : Site) (old : Lent) (id : ℕ) (r : Site) (mid : Lent) (t : Site) (new : Lent) (b : Bool) → b ≡ true →
     Reaches s old (workCalls id) r mid → Reaches r mid (markedIf true id) t new → Reaches s old (workCalls id ++ markedIf b id) t new
 marked-reach s old id r mid t new b e x y =
-    subst (λ (z : Bool). Reaches s old (workCalls id ++ markedIf z id) t new) (sym e) (reaches-then s old (workCalls id) r mid (markedIf true id) t new x y)
+    subst (λ (z : Bool). Reaches s old (workCalls id ++ markedIf z id) t new) (sym e)
+    (reaches-then s old (workCalls id) r mid (markedIf true id) t new x y)
 
 pub unmarked-reach : (s : Site) (old : Lent) (id : ℕ) (r : Site) (mid : Lent) (b : Bool) → b ≡ false →
     Reaches s old (workCalls id) r mid → Reaches s old (workCalls id ++ markedIf b id) r mid
@@ -120,12 +125,14 @@ not-opened (refused q) n old c new d e = (refl, ap (λ (m : Lent). m .log) (d .k
 not-opened (ok st a) n old c new d e = absurd (no-histories (c .site) new (d .valid) e)
 
 -- An opened site is valid.
-pub opened-valid : (reply : Reply) (old : Lent) (c : Called) (new : Lent) → Does blankSite old reply c new → (c .site .count ≡ 0 → ⊥) → Valid (c .site) new
+pub opened-valid : (reply : Reply) (old : Lent) (c : Called) (new : Lent) → Does blankSite old reply c new → (c .site .count ≡ 0 → ⊥) →
+    Valid (c .site) new
 opened-valid (refused q) old c new d e = absurd (e (ap (λ (s : Site). s .count) (d .site)))
 opened-valid (ok st a) old c new d e = d .valid
 
 -- What stands in the buffer after the rounds.
-pub rounds-stand : (reply : Reply) (n id : ℕ) (old : Lent) (c : Called) (mid : Lent) (t : Site) (new : Lent) → Does blankSite old reply c mid →
+pub rounds-stand : (reply : Reply) (n id : ℕ) (old : Lent) (c : Called) (mid : Lent) (t : Site) (new : Lent) →
+    Does blankSite old reply c mid →
     (c .site .count ≡ 0 → ⊥) → id ≡ n → Reaches (c .site) mid (roundsCalls id) t new → Rounds reply n (old .log) (t .used) (new .log)
 unfolding Sound
 rounds-stand (refused q) n id old c mid t new d e same r = absurd (e (ap (λ (s : Site). s .count) (d .site)))
@@ -133,7 +140,8 @@ rounds-stand (ok st a) n id old c mid t new d e same r =
     record {
       used = size ∙ ap (λ (x : State). length (logBytes x)) reached;
       bytes = r .bytes
-          ∙ ap₂ (λ (x : State) (l : List ℕ). written (roundsCalls id) x l) (d .state) (stands-over (c .site) (old .log) mid st (d .valid) (d .state) (d .past))
+          ∙ ap₂ (λ (x : State) (l : List ℕ). written (roundsCalls id) x l) (d .state)
+          (stands-over (c .site) (old .log) mid st (d .valid) (d .state) (d .past))
           ∙ ap (λ (i : ℕ). written (roundsCalls i) st (overlaid (some st) (old .log))) same;
     }
   where

@@ -1,4 +1,5 @@
-// A keeper's calls. The first `used` bytes of a buffer are the kept lines; a call returns a refusal's number, or 1,000 more than a number of bytes.
+// A keeper's calls. The first `used` bytes of a buffer are the kept lines; a call returns a refusal's number, or 1,000 more than
+// a number of bytes.
 use history::Verdict;
 use keeper::HandOut;
 use keeper::Keeper;
@@ -32,7 +33,8 @@ fn kept_number(r: Kept) -> u64
 // Keeps a did line, given without its end: 1,000 more than the bytes in use after it.
 #[no_mangle]
 pub extern "C" fn keeper_keep(buf: &mut [u8], used: usize, line: &[u8]) -> u64
-    ensures { λ n. ⌜ Replies used (now (buf .entry)) (keepLine (now (line .entry)) (keeperIn used (now (buf .entry)))) n (now (buf .exit)) ⌝ }
+    ensures { λ n. ⌜ Replies used (now (buf .entry)) (keepLine (now (line .entry)) (keeperIn used (now (buf .entry)))) n
+        (now (buf .exit)) ⌝ }
 {
     let Resumed::Found(k) = Keeper::resume(buf, used) else {
         return NO_KEEPER;

@@ -4,7 +4,7 @@ ghost use mathlib.Core.List.{[], _∷_};
 ghost use Prim.Native.Nat.{_<_};
 ghost use lib.ListN.{length};
 ghost use Rattle.rules.specs.Calls.{openSite};
-ghost use Rattle.site.specs.Model.{lent, Valid};
+ghost use Rattle.site.specs.Model.{lent, came, old, new, Valid};
 ghost use Rattle.site.specs.Trim.{updatesHeld};
 ghost use Rattle.boundary.specs.Rounds.{Reaches, incOf, workCalls, markCalls, roundCalls, Rounds};
 use forms::Asked;
@@ -44,9 +44,9 @@ fn one_operation(
     second: &mut ListWords,
     id: u64,
 ) -> Site
-    requires { ⌜ Valid site (lent (now log) (now queued) (now done) (now book) [] []) ⌝ }
-    ensures { λ r. ⌜ Reaches site (lent (now (log .entry)) (now (queued .entry)) (now (done .entry)) (now (book .entry)) (now (first .entry)) (now (second .entry))) (workCalls id) r
-        (lent (now (log .exit)) (now (queued .exit)) (now (done .exit)) (now (book .exit)) (now (first .exit)) (now (second .exit))) ⌝ }
+    requires { ⌜ Valid site (came log queued done book) ⌝ }
+    ensures { λ r. ⌜ Reaches site (old log queued done book first second) (workCalls id) r
+        (new log queued done book first second) ⌝ }
 {
     let asked = asked_inc(id % 4, id / 4 + 1);
     let a = site.add(log, queued, done, book, first, id, asked);
@@ -66,8 +66,8 @@ fn mark(
     second: &mut ListWords,
     n: u64,
 ) -> Site
-    requires { ⌜ Valid site (lent (now log) (now queued) (now done) (now book) [] []) ⌝ }
-    ensures { λ r. ⌜ Reaches site (lent (now (log .entry)) (now (queued .entry)) (now (done .entry)) (now (book .entry)) (now (first .entry)) (now (second .entry))) (markCalls n) r
+    requires { ⌜ Valid site (came log queued done book) ⌝ }
+    ensures { λ r. ⌜ Reaches site (old log queued done book first second) (markCalls n) r
         (lent (now (log .entry)) (now (queued .entry)) (now (done .exit)) (now (book .exit)) (now (first .exit)) (now (second .exit))) ⌝ }
 {
     let p = site.persistent(log, queued, done, book, first, second, n);
@@ -87,10 +87,10 @@ fn round(
     second: &mut ListWords,
     id: u64,
 ) -> Site
-    requires { ⌜ Valid site (lent (now log) (now queued) (now done) (now book) [] []) ⌝ }
+    requires { ⌜ Valid site (came log queued done book) ⌝ }
     requires { ⌜ id < 18446744073709551615 ⌝ }
-    ensures { λ r. ⌜ Reaches site (lent (now (log .entry)) (now (queued .entry)) (now (done .entry)) (now (book .entry)) (now (first .entry)) (now (second .entry))) (roundCalls id) r
-        (lent (now (log .exit)) (now (queued .exit)) (now (done .exit)) (now (book .exit)) (now (first .exit)) (now (second .exit))) ⌝ }
+    ensures { λ r. ⌜ Reaches site (old log queued done book first second) (roundCalls id) r
+        (new log queued done book first second) ⌝ }
 {
     let worked = one_operation(site, log, queued, done, book, first, second, id);
     if id % 32 == 31 {

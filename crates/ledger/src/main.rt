@@ -1,9 +1,8 @@
 // The fitting ledger: a session's forms from standard input, as they come, and its replies to standard output.
-ghost use mathlib.Core.List.{[]};
 ghost use Prim.Native.Nat.{_≤_};
 ghost use lib.ListN.{length};
 ghost use Rattle.session.specs.Feeding.{UsableBegun};
-ghost use Rattle.site.specs.Model.{lent};
+ghost use Rattle.site.specs.Model.{came};
 ghost use Rattle.stream.specs.Model.{ValidStream};
 use forms::ListWords;
 use forms::writer::Written;
@@ -32,9 +31,9 @@ fn answer(
     chunk: &[u8],
     out: &mut [u8],
 ) -> Going
-    requires { ⌜ ValidStream start (lent (now log) (now queued) (now done) (now book) [] []) ⌝ }
+    requires { ⌜ ValidStream start (came log queued done book) ⌝ }
     requires { ⌜ 2730 ≤ length (now out) ⌝ }
-    ensures { λ r. ⌜ ValidStream (r .stream) (lent (now (log .exit)) (now (queued .exit)) (now (done .exit)) (now (book .exit)) [] []) ⌝ }
+    ensures { λ r. ⌜ ValidStream (r .stream) (came (log .exit) (queued .exit) (done .exit) (book .exit)) ⌝ }
 {
     let mut stream = start;
     let mut at: usize = 0;
@@ -71,9 +70,9 @@ fn step(
     chunk: &mut [u8],
     out: &mut [u8],
 ) -> Going
-    requires { ⌜ ValidStream stream (lent (now log) (now queued) (now done) (now book) [] []) ⌝ }
+    requires { ⌜ ValidStream stream (came log queued done book) ⌝ }
     requires { ⌜ 2730 ≤ length (now out) ⌝ }
-    ensures { λ r. ⌜ ValidStream (r .stream) (lent (now (log .exit)) (now (queued .exit)) (now (done .exit)) (now (book .exit)) [] []) ⌝ }
+    ensures { λ r. ⌜ ValidStream (r .stream) (came (log .exit) (queued .exit) (done .exit) (book .exit)) ⌝ }
 {
     let got = libc::read(STDIN_FILENO, chunk);
     if got < 0 {

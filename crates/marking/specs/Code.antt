@@ -24,11 +24,13 @@ run-page input old r new out page f e lines h c site p t =
     let whole : RunsWhole input old r out page = subst (λ (b : Bool). RunsIf b input old r out page) e (f .replies) in
     whole .replies .bytes ∙ ap (λ (text : List ℕ). text ++ drop (r .written) out) (p input t)
 
--- What calls of `feed` from the start have written, one behind the other, and the reply to the unended rest: the replies to the lines, then the marking
--- sheet, in whatever chunks the input came.
+-- What calls of `feed` from the start have written, one behind the other, and the reply to the unended rest: the replies to the lines, then
+-- the marking sheet, in whatever chunks the input came.
 pub fed-page : (cs : List Call) (s : Stream) (bytes : Lent) → StartsStream s bytes → FedBy s bytes cs →
-    (lines : List (List ℕ)) (h : ℕ) (c : Cell) (site : State) → Prints (length (bytes .log)) lines h c site → Text (joined (usedIn cs)) (asking lines h) →
-    (w : Whole (length (bytes .log)) s cs) × (writtenIn cs ++ restReply (w .rest) ≡ replies (length (bytes .log)) lines none ++ sheet h c site)
+    (lines : List (List ℕ)) (h : ℕ) (c : Cell) (site : State) → Prints (length (bytes .log)) lines h c site →
+    Text (joined (usedIn cs)) (asking lines h) →
+    (w : Whole (length (bytes .log)) s cs) ×
+    (writtenIn cs ++ restReply (w .rest) ≡ replies (length (bytes .log)) lines none ++ sheet h c site)
 fed-page cs s bytes start f lines h c site p t =
     let w = calls-whole cs s bytes start f in
     (w, w .text ∙ p (joined (usedIn cs)) t)

@@ -20,12 +20,16 @@ pub starts : (s : Session) → s .opened ≡ false → (bytes : Lent) → Starts
 starts s e bytes =
     record {
       view = ap (λ (b : Bool). viewIf b (s .site) bytes) e;
-      valid = record { site = λ o. absurd (let z : _≡_ {A = Bool} true false = sym o ∙ e in let k : _≡_ {A = ℕ} 0 1 = cc in omega arith) };
+      valid =
+          record {
+            site = λ o. absurd (let z : _≡_ {A = Bool} true false = sym o ∙ e in let k : _≡_ {A = ℕ} 0 1 = cc in omega arith);
+          };
     }
 
 -- What is written of a turn's reply is the rule book's reply.
-pub answers : (s : Session) (old : Lent) (t : Turn) (r : Turned) (new : Lent) (n : Written) (out written : List ℕ) → Turns s old t r new →
-    Writes out 0 (withEnd (outcomeText (outcomeOf (replied (r .reply) (new .first) (new .second))))) n written → Answers s old t (record { session = r .session; next = n }) new out written
+pub answers : (s : Session) (old : Lent) (t : Turn) (r : Turned) (new : Lent) (n : Written) (out written : List ℕ) →
+    Turns s old t r new → Writes out 0 (withEnd (outcomeText (outcomeOf (replied (r .reply) (new .first) (new .second))))) n written →
+    Answers s old t (record { session = r .session; next = n }) new out written
 answers s old t r new n out written h w =
     record {
       turned = r;

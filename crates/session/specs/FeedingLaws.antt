@@ -12,14 +12,17 @@ use Rattle.session.specs.Feeding.{Progress, atStart, fed, fedAll, joined
 
 -- ### Lines in two parts
 
-pub replies-append : (room : ℕ) (a b : List (List ℕ)) (s : Option State) → replies room (a ++ b) s ≡ replies room a s ++ replies room b (afterLines room a s)
+pub replies-append : (room : ℕ) (a b : List (List ℕ)) (s : Option State) →
+    replies room (a ++ b) s ≡ replies room a s ++ replies room b (afterLines room a s)
 unfolding replies afterLines
 replies-append room [] b s = refl
 replies-append room (l ∷ a) b s =
     ap (λ (x : List ℕ). ended (outcomeText (turn room l s .reply)) ++ x) (replies-append room a b (turn room l s .after))
-    ∙ sym (append-assoc (ended (outcomeText (turn room l s .reply))) (replies room a (turn room l s .after)) (replies room b (afterLines room a (turn room l s .after))))
+    ∙ sym (append-assoc (ended (outcomeText (turn room l s .reply))) (replies room a (turn room l s .after))
+    (replies room b (afterLines room a (turn room l s .after))))
 
-pub after-append : (room : ℕ) (a b : List (List ℕ)) (s : Option State) → afterLines room (a ++ b) s ≡ afterLines room b (afterLines room a s)
+pub after-append : (room : ℕ) (a b : List (List ℕ)) (s : Option State) →
+    afterLines room (a ++ b) s ≡ afterLines room b (afterLines room a s)
 unfolding afterLines
 after-append room [] b s = refl
 after-append room (l ∷ a) b s = after-append room a b (turn room l s .after)
@@ -41,14 +44,16 @@ fed-append room a b g = λ i. record { begun = begun i; session = session i; rep
     begun = sym (rest-append (g .begun) a b)
 
     session : afterLines room back (afterLines room front (g .session)) ≡ afterLines room (linesFrom (g .begun) (a ++ b)) (g .session)
-    session = sym (after-append room front back (g .session)) ∙ ap (λ (x : List (List ℕ)). afterLines room x (g .session)) (sym (lines-append (g .begun) a b))
+    session = sym (after-append room front back (g .session))
+        ∙ ap (λ (x : List (List ℕ)). afterLines room x (g .session)) (sym (lines-append (g .begun) a b))
 
     replied : (g .replied ++ replies room front (g .session)) ++ replies room back (afterLines room front (g .session))
         ≡ g .replied ++ replies room (linesFrom (g .begun) (a ++ b)) (g .session)
     replied =
         append-assoc (g .replied) (replies room front (g .session)) (replies room back (afterLines room front (g .session)))
         ∙ ap (λ (x : List ℕ). g .replied ++ x)
-        (sym (replies-append room front back (g .session)) ∙ ap (λ (x : List (List ℕ)). replies room x (g .session)) (sym (lines-append (g .begun) a b)))
+        (sym (replies-append room front back (g .session))
+        ∙ ap (λ (x : List (List ℕ)). replies room x (g .session)) (sym (lines-append (g .begun) a b)))
 
 pub fed-none : (room : ℕ) (g : Progress) → fed room [] g ≡ g
 unfolding fed linesFrom restFrom replies afterLines
@@ -58,7 +63,8 @@ fed-none room g = λ i. record { begun = g .begun; session = g .session; replied
 pub fed-byte : (room b : ℕ) (g : Progress) → (b ≡ 10 → ⊥) →
     fed room (b ∷ []) g ≡ record { begun = g .begun ++ (b ∷ []); session = g .session; replied = g .replied }
 unfolding fed replies afterLines
-fed-byte room b g h = λ i. record { begun = rest-from-open (g .begun) (b ∷ []) (no-end-one b h) i; session = session i; replied = replied i }
+fed-byte room b g h =
+    λ i. record { begun = rest-from-open (g .begun) (b ∷ []) (no-end-one b h) i; session = session i; replied = replied i }
   where
     none-ended : linesFrom (g .begun) (b ∷ []) ≡ []
     none-ended = lines-from-open (g .begun) (b ∷ []) (no-end-one b h)

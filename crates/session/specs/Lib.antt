@@ -1,7 +1,7 @@
 pub mod Model
 pub mod TurnLaws
-pub mod Feeding
-pub mod FeedingLaws
+pub mod AnswerLaws
 pub mod OpenLaws
 pub mod ReadLaws
-pub mod AnswerLaws
+pub mod Feeding
+pub mod FeedingLaws

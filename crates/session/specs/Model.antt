@@ -1,22 +1,28 @@
 -- The session and the bytes of its log buffer as the rule book has them, and what a line does.
-use Prim.Native.Nat.{ℕ}
+use Prim.Native.Nat.{ℕ, _+_, _≤_}
 use mathlib.Core.Path.{_≡_}
 use mathlib.Core.Bool.{Bool, true, false}
 use mathlib.Core.List.{List, []}
 use mathlib.Core.Option.{Option, none, some}
 use lib.ListN.{length, drop}
-use Rattle.forms.specs.Forms.{Update, Did, Outcome, Refused, Accepted, didText, outcomeText}
-use Rattle.forms.specs.Held.{replied}
+use denote.Ref.{now}
+use Rattle.forms.specs.Forms.{Outcome, Refused, Accepted, outcomeText}
+use Rattle.forms.specs.Held.{Replied, replied, outcomeOf}
 use Rattle.forms.specs.declared.Refusal.{Refusal}
-use Rattle.forms.specs.declared.Refusal.the-variants.{Unreadable}
-use Rattle.rules.specs.State.{State, refused}
-use Rattle.rules.specs.Calls.{Call}
-use Rattle.rules.specs.Session.{Turn, turnOf, opening, calling, turn}
+use Rattle.forms.specs.declared.Refusal.the-variants.{Unreadable, OutOfTurn}
+use Rattle.forms.specs.declared.AskedHeld.{AskedHeld}
+use Rattle.forms.specs.declared.DidLine.{DidLine}
+use Rattle.rules.specs.State.{State, Reply, refused}
+use Rattle.rules.specs.Calls.{openSite, Call, step}
+use Rattle.rules.specs.Session.{Turn, turnOf, turn}
 use Rattle.forms.specs.declared.reader.CommandForm.{CommandForm}
+use Rattle.forms.specs.declared.reader.CommandRead.{CommandRead}
 use Rattle.site.specs.declared.Site.{Site}
 use Rattle.site.specs.declared.Called.{Called}
 use Rattle.site.specs.Whole.{Whole, Sound}
-use Rattle.site.specs.Model.{Lent, whole, view, Says}
+use Rattle.site.specs.Model.{Lent, lent, Ends, whole, view, Says, Does}
+use Rattle.site.specs.Trim.{updatesHeld, didHeld, redoOf}
+use Rattle.forms.specs.declared.writer.Written.{Written}
 use Rattle.forms.specs.Write.{Writes, withEnd}
 use Rattle.session.specs.declared.Session.{Session}
 use Rattle.session.specs.declared.Turned.{Turned}
@@ -53,7 +59,8 @@ pub record Unchanged (s : Session) (old : Lent) (r : Turned) (new : Lent) : Type
 
 -- "An accepted call alters no byte of a lent buffer past those in use": no byte of the log's.
 pub record PastKept (old : Lent) (r : Turned) (new : Lent) : Type 0 where
-  pub past : drop (usedIf (r .session .opened) (r .session .site)) (new .log) ≡ drop (usedIf (r .session .opened) (r .session .site)) (old .log)
+  pub past : drop (usedIf (r .session .opened) (r .session .site)) (new .log)
+      ≡ drop (usedIf (r .session .opened) (r .session .site)) (old .log)
 
 abbrev pub Keeps : Outcome → Session → Lent → Turned → Lent → Type 0
 Keeps (Refused q) s old r new = Unchanged s old r new
@@ -66,10 +73,7 @@ pub record Turns (s : Session) (old : Lent) (t : Turn) (r : Turned) (new : Lent)
   pub valid : ValidSession (r .session) new
   pub keeps : Keeps (t .reply) s old r new
 
--- .. the turn of a call of the site, and of a line of the input
-abbrev pub TurnsCall : Session → Lent → Call → Turned → Lent → Type 0
-TurnsCall s old c r new = Turns s old (calling c (sessionView s old)) r new
-
+-- .. the turn of a line of the input
 abbrev pub TurnsLine : Session → Lent → List ℕ → Turned → Lent → Type 0
 TurnsLine s old line r new = Turns s old (turn (length (old .log)) line (sessionView s old)) r new
 
@@ -87,6 +91,12 @@ pub record Starts (s : Session) (bytes : Lent) : Type 0 where
   pub view : sessionView s bytes ≡ none
   pub valid : ValidSession s bytes
 
+-- The reply with its end is written at a position of the buffer that was `out` and is `written`, if it fits there. It has at most 2,730
+-- bytes.
+pub record WritesTurn (r : Replied) (out : List ℕ) (at : ℕ) (n : Written) (written : List ℕ) : Type 0 where
+  pub text : Writes out at (withEnd (outcomeText (outcomeOf r))) n written
+  pub short : length (outcomeText (outcomeOf r)) + 1 ≤ 2730
+
 -- The turn t is taken, and its reply with its end stands at the front of the buffer that was `out` and is `written`, if it fits there.
 pub record Answers (s : Session) (old : Lent) (t : Turn) (r : Answered) (new : Lent) (out written : List ℕ) : Type 0 where
   pub turned : Turned
@@ -94,18 +104,55 @@ pub record Answers (s : Session) (old : Lent) (t : Turn) (r : Answered) (new : L
   pub turns : Turns s old t turned new
   pub text : Writes out 0 (withEnd (outcomeText (t .reply))) (r .next) written
 
+-- .. the turn of a line of the input
+abbrev pub AnswersLine : Session → Lent → List ℕ → Answered → Lent → List ℕ → List ℕ → Type 0
+AnswersLine s old line r new out written = Answers s old (turn (length (old .log)) line (sessionView s old)) r new out written
+
 -- ### The forms of a line
 
--- The turn that a form asks for, with the updates of an add and the did line of a redo beside it.
-unfoldable pub obeyed : ℕ → CommandForm → List Update → Did → Option State → Turn
-obeyed room CommandForm.Bad us d s = turnOf (refused Unreadable) s
-obeyed room (CommandForm.SiteOf n) us d s = opening room n s
-obeyed room (CommandForm.Add i) us d s = calling (Call.Add i us) s
-obeyed room (CommandForm.Finish i) us d s = calling (Call.Finish i) s
-obeyed room (CommandForm.Withdraw i) us d s = calling (Call.Withdraw i) s
-obeyed room (CommandForm.Persistent n) us d s = calling (Call.Persistent n) s
-obeyed room (CommandForm.Stable n) us d s = calling (Call.Stable n) s
-obeyed room (CommandForm.Show h) us d s = calling (Call.Show h) s
-obeyed room (CommandForm.Cut k) us d s = calling (Call.Cut k room) s
-obeyed room CommandForm.Redo us d s = calling (Call.Redo (didText d)) s
-obeyed room CommandForm.End us d s = calling Call.End s
+-- The reply of an open site to a form that was read, for every value that the code can have: 1, 14 ("site twice"), or that of the call.
+unfoldable pub siteReply : ℕ → CommandForm → AskedHeld → DidLine → State → Reply
+siteReply room CommandForm.Bad a d st = refused Unreadable
+siteReply room (CommandForm.SiteOf n) a d st = refused OutOfTurn
+siteReply room (CommandForm.Add i) a d st = step (Call.Add i (updatesHeld a)) st
+siteReply room (CommandForm.Finish i) a d st = step (Call.Finish i) st
+siteReply room (CommandForm.Withdraw i) a d st = step (Call.Withdraw i) st
+siteReply room (CommandForm.Persistent n) a d st = step (Call.Persistent n) st
+siteReply room (CommandForm.Stable n) a d st = step (Call.Stable n) st
+siteReply room (CommandForm.Show h) a d st = step (Call.Show h) st
+siteReply room (CommandForm.Cut k) a d st = step (Call.Cut k room) st
+siteReply room CommandForm.Redo a d st = redoOf (didHeld d) st
+siteReply room CommandForm.End a d st = step Call.End st
+
+-- The reply to a form "before site": 1, that of opening, or 14.
+unfoldable pub closedReply : ℕ → CommandForm → Reply
+closedReply room CommandForm.Bad = refused Unreadable
+closedReply room (CommandForm.SiteOf n) = openSite n room
+closedReply room (CommandForm.Add i) = refused OutOfTurn
+closedReply room (CommandForm.Finish i) = refused OutOfTurn
+closedReply room (CommandForm.Withdraw i) = refused OutOfTurn
+closedReply room (CommandForm.Persistent n) = refused OutOfTurn
+closedReply room (CommandForm.Stable n) = refused OutOfTurn
+closedReply room (CommandForm.Show h) = refused OutOfTurn
+closedReply room (CommandForm.Cut k) = refused OutOfTurn
+closedReply room CommandForm.Redo = refused OutOfTurn
+closedReply room CommandForm.End = refused OutOfTurn
+
+-- The turn of a form that was read.
+unfoldable pub obeyed : ℕ → CommandRead → Option State → Turn
+obeyed room c none = turnOf (closedReply room (c .form)) none
+obeyed room c (some st) = turnOf (siteReply room (c .form) (c .asked) (c .did) st) (some st)
+
+-- The session takes the turn of the form that was read.
+abbrev pub TurnsForm : Session → Lent → CommandRead → Turned → Lent → Type 0
+TurnsForm s old c r new = Turns s old (obeyed (length (old .log)) c (sessionView s old)) r new
+
+-- The open site does what it is asked for.
+abbrev pub DoesForm : Site → Lent → CommandRead → Called → Lent → Type 0
+DoesForm s old c r new = Does s old (siteReply (length (old .log)) (c .form) (c .asked) (c .did) (view s old)) r new
+
+-- The session, which is not open, takes the turn of opening a site of n histories, whatever is lent beside the log and the histories.
+abbrev pub Opens : Session → ℕ → Ends → Ends → Turned → Type 0
+Opens s n log book r =
+    (qs ds xs ys : List ℕ) → Turns s (lent (now (log .entry)) qs ds (now (book .entry)) xs ys)
+    (turnOf (openSite n (length (now (log .entry)))) none) r (lent (now (log .exit)) qs ds (now (book .exit)) xs ys)

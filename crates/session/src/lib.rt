@@ -1,22 +1,12 @@
 // A session: one form a line in, one reply a line out, over a site whose log stands in a lent buffer.
 ghost use mathlib.Core.Path.{_≡_};
-ghost use Prim.Native.Nat.{ℕ, _+_, _≤_};
-ghost use mathlib.Core.List.{List, []};
-ghost use lib.Dec.{T};
-ghost use lib.ListN.{length};
-ghost use Rattle.forms.specs.Lists.{all};
-ghost use Rattle.forms.specs.Decimal.Step.{got};
-ghost use Rattle.forms.specs.Forms.{Update, Did, didText, outcomeText};
-ghost use Rattle.forms.specs.Reading.{readDid};
-ghost use Rattle.forms.specs.Held.{heldUpdates, heldDid, replied, outcomeOf};
-ghost use Rattle.rules.specs.Calls.{Call, writableUpdate};
-ghost use Rattle.rules.specs.Session.{calling, opening, turn};
-ghost use Rattle.site.specs.Model.{Lent, lent, Printable};
-ghost use Rattle.forms.specs.Write.{Writes, withEnd};
-ghost use Rattle.session.specs.Model.{sessionView, ValidSession, turnedOf, Refuses, Turns, TurnsCall, TurnsLine, obeyed, Starts, Answers};
+ghost use mathlib.Core.Bool.{false};
+ghost use mathlib.Core.List.{[]};
+ghost use Rattle.forms.specs.Held.{replied};
+ghost use Rattle.site.specs.Model.{Lent, came, old, new, Valid, RefusedAs, Printable};
+ghost use Rattle.session.specs.Model.{ValidSession, Refuses, Starts, TurnsLine, AnswersLine, WritesTurn};
+ghost use Rattle.session.specs.Model.{turnedOf, Opens, DoesForm, TurnsForm};
 ghost use Rattle.session.specs.Feeding.{Begins};
-use forms::AskedHeld;
-use forms::DidLine;
 use forms::ListWords;
 use forms::Refusal;
 use forms::ReplyLine;
@@ -68,23 +58,64 @@ pub fn no_line() -> Begun
     }
 }
 
-// What the session's site handed back.
-pub fn called(c: Called) -> Turned
-    ensures { λ r. ⌜ r ≡ turnedOf c ⌝ }
+// What an open site hands back where it refuses.
+fn refused(site: Site, q: Refusal) -> Called
+    ensures { λ r. ⌜ ((m : Lent) → RefusedAs site m q r m) ⌝ }
 {
-    let site = c.site;
-    let reply = c.reply;
+    Called {
+        site,
+        reply: refusal(q),
+    }
+}
+
+// What the session's site handed back.
+fn called(r: Called) -> Turned
+    ensures { λ t. ⌜ t ≡ turnedOf r ⌝ }
+{
+    let site = r.site;
+    let reply = r.reply;
     Turned {
         session: Session { opened: true, site },
         reply,
     }
 }
 
+// What a form asks of an open site.
+fn call(
+    site: Site,
+    log: &mut [u8],
+    queued: &mut QueueWords,
+    done: &mut DoneWords,
+    book: &mut BookWords,
+    first: &mut ListWords,
+    second: &mut ListWords,
+    c: CommandRead,
+) -> Called
+    requires { ⌜ Valid site (came log queued done book) ⌝ }
+    ensures { λ r. ⌜ DoesForm site (old log queued done book first second) c r (new log queued done book first second) ⌝ }
+{
+    let form = c.form;
+    let asked = c.asked;
+    let did = c.did;
+    match form {
+        CommandForm::Bad => refused(site, Refusal::Unreadable),
+        CommandForm::SiteOf(_) => refused(site, Refusal::OutOfTurn),
+        CommandForm::Add(i) => site.add(log, queued, done, book, first, i, asked),
+        CommandForm::Finish(i) => site.finish(log, queued, done, book, first, second, i),
+        CommandForm::Withdraw(i) => site.withdraw(log, queued, done, book, first, i),
+        CommandForm::Persistent(n) => site.persistent(log, queued, done, book, first, second, n),
+        CommandForm::Stable(n) => site.stable(log, queued, done, book, first, n),
+        CommandForm::Show(h) => site.show(log, queued, done, book, h),
+        CommandForm::Cut(k) => site.cut(log, queued, done, book, k),
+        CommandForm::Redo => site.redo_did(log, queued, done, book, did),
+        CommandForm::End => site.end(log, queued, done, book, first),
+    }
+}
+
 // Writes the reply of a turn, with its end: its lists stand at the front of what was lent for them. It has at most 2,730 bytes.
 pub fn write_turn(out: &mut [u8], at: usize, r: ReplyLine, first: &[u64], second: &[u64]) -> Written
     requires { ⌜ Printable (replied r (now first) (now second)) ⌝ }
-    ensures { λ w. ⌜ Writes (now (out .entry)) at (withEnd (outcomeText (outcomeOf (replied r (now (first .entry)) (now (second .entry)))))) w (now (out .exit)) ⌝ }
-    ensures { λ w. ⌜ length (outcomeText (outcomeOf (replied r (now (first .entry)) (now (second .entry))))) + 1 ≤ 2730 ⌝ }
+    ensures { λ w. ⌜ WritesTurn (replied r (now (first .entry)) (now (second .entry))) (now (out .entry)) at w (now (out .exit)) ⌝ }
 {
     let form = r.form;
     let n = r.first;
@@ -103,222 +134,11 @@ impl Session {
         }
     }
 
-    // `(show H)`
-    pub fn show(
-        self,
-        log: &[u8],
-        queued: &QueueWords,
-        done: &DoneWords,
-        book: &BookWords,
-        h: u64,
-    ) -> Turned
-        requires { ⌜ ValidSession self (lent (now log) (now queued) (now done) (now book) [] []) ⌝ }
-        ensures { λ r. ⌜ ((xs ys : List ℕ) → TurnsCall self (lent (now (log .entry)) (now (queued .entry)) (now (done .entry)) (now (book .entry)) xs ys) (Call.Show h) r
-            (lent (now (log .entry)) (now (queued .entry)) (now (done .entry)) (now (book .entry)) xs ys)) ⌝ }
+    // `(site N)` "before site": a refused opening hands back a site without histories.
+    fn open_site(self, log: &mut [u8], book: &mut BookWords, n: u64) -> Turned
+        requires { ⌜ self .opened ≡ false ⌝ }
+        ensures { λ r. ⌜ Opens self n log book r ⌝ }
     {
-        if self.opened {
-            let site = self.site;
-            called(site.show(log, queued, done, book, h))
-        } else {
-            self.refuse(Refusal::OutOfTurn)
-        }
-    }
-
-    // `(end)`
-    pub fn end(
-        self,
-        log: &[u8],
-        queued: &QueueWords,
-        done: &DoneWords,
-        book: &BookWords,
-        first: &mut ListWords,
-    ) -> Turned
-        requires { ⌜ ValidSession self (lent (now log) (now queued) (now done) (now book) [] []) ⌝ }
-        ensures { λ r. ⌜ ((ys : List ℕ) → TurnsCall self (lent (now (log .entry)) (now (queued .entry)) (now (done .entry)) (now (book .entry)) (now (first .entry)) ys) Call.End r
-            (lent (now (log .entry)) (now (queued .entry)) (now (done .entry)) (now (book .entry)) (now (first .exit)) ys)) ⌝ }
-    {
-        if self.opened {
-            let site = self.site;
-            called(site.end(log, queued, done, book, first))
-        } else {
-            self.refuse(Refusal::OutOfTurn)
-        }
-    }
-
-    // `(persistent N)`
-    pub fn persistent(
-        self,
-        log: &[u8],
-        queued: &QueueWords,
-        done: &DoneWords,
-        book: &mut BookWords,
-        first: &mut ListWords,
-        second: &mut ListWords,
-        n: u64,
-    ) -> Turned
-        requires { ⌜ ValidSession self (lent (now log) (now queued) (now done) (now book) [] []) ⌝ }
-        ensures { λ r. ⌜ TurnsCall self (lent (now (log .entry)) (now (queued .entry)) (now (done .entry)) (now (book .entry)) (now (first .entry)) (now (second .entry))) (Call.Persistent n) r
-            (lent (now (log .entry)) (now (queued .entry)) (now (done .entry)) (now (book .exit)) (now (first .exit)) (now (second .exit))) ⌝ }
-    {
-        if self.opened {
-            let site = self.site;
-            called(site.persistent(log, queued, done, book, first, second, n))
-        } else {
-            self.refuse(Refusal::OutOfTurn)
-        }
-    }
-
-    // `(stable N)`
-    pub fn stable(
-        self,
-        log: &[u8],
-        queued: &QueueWords,
-        done: &mut DoneWords,
-        book: &mut BookWords,
-        first: &mut ListWords,
-        n: u64,
-    ) -> Turned
-        requires { ⌜ ValidSession self (lent (now log) (now queued) (now done) (now book) [] []) ⌝ }
-        ensures { λ r. ⌜ ((ys : List ℕ) → TurnsCall self (lent (now (log .entry)) (now (queued .entry)) (now (done .entry)) (now (book .entry)) (now (first .entry)) ys) (Call.Stable n) r
-            (lent (now (log .entry)) (now (queued .entry)) (now (done .exit)) (now (book .exit)) (now (first .exit)) ys)) ⌝ }
-    {
-        if self.opened {
-            let site = self.site;
-            called(site.stable(log, queued, done, book, first, n))
-        } else {
-            self.refuse(Refusal::OutOfTurn)
-        }
-    }
-
-    // `(withdraw ID)`
-    pub fn withdraw(
-        self,
-        log: &[u8],
-        queued: &mut QueueWords,
-        done: &DoneWords,
-        book: &BookWords,
-        first: &mut ListWords,
-        id: u64,
-    ) -> Turned
-        requires { ⌜ ValidSession self (lent (now log) (now queued) (now done) (now book) [] []) ⌝ }
-        ensures { λ r. ⌜ ((ys : List ℕ) → TurnsCall self (lent (now (log .entry)) (now (queued .entry)) (now (done .entry)) (now (book .entry)) (now (first .entry)) ys) (Call.Withdraw id) r
-            (lent (now (log .entry)) (now (queued .exit)) (now (done .entry)) (now (book .entry)) (now (first .exit)) ys)) ⌝ }
-    {
-        if self.opened {
-            let site = self.site;
-            called(site.withdraw(log, queued, done, book, first, id))
-        } else {
-            self.refuse(Refusal::OutOfTurn)
-        }
-    }
-
-    // `(cut K)`
-    pub fn cut(
-        self,
-        log: &[u8],
-        queued: &QueueWords,
-        done: &DoneWords,
-        book: &mut BookWords,
-        k: u64,
-    ) -> Turned
-        requires { ⌜ ValidSession self (lent (now log) (now queued) (now done) (now book) [] []) ⌝ }
-        ensures { λ r. ⌜ ((xs ys : List ℕ) → TurnsCall self (lent (now (log .entry)) (now (queued .entry)) (now (done .entry)) (now (book .entry)) xs ys) (Call.Cut k (length (now (log .entry)))) r
-            (lent (now (log .entry)) (now (queued .entry)) (now (done .entry)) (now (book .exit)) xs ys)) ⌝ }
-    {
-        if self.opened {
-            let site = self.site;
-            called(site.cut(log, queued, done, book, k))
-        } else {
-            self.refuse(Refusal::OutOfTurn)
-        }
-    }
-
-    // `(add ID (RULE H U O)...)`
-    pub fn add(
-        self,
-        log: &[u8],
-        queued: &mut QueueWords,
-        done: &DoneWords,
-        book: &BookWords,
-        first: &mut ListWords,
-        id: u64,
-        asked: AskedHeld,
-    ) -> Turned
-        requires { ⌜ ValidSession self (lent (now log) (now queued) (now done) (now book) [] []) ⌝ }
-        ensures { λ r. ⌜ ((ys : List ℕ) → ((us : List Update) → asked ≡ heldUpdates us → T (all writableUpdate us) →
-            TurnsCall self (lent (now (log .entry)) (now (queued .entry)) (now (done .entry)) (now (book .entry)) (now (first .entry)) ys) (Call.Add id us) r
-            (lent (now (log .entry)) (now (queued .exit)) (now (done .entry)) (now (book .entry)) (now (first .exit)) ys))) ⌝ }
-    {
-        if self.opened {
-            let site = self.site;
-            called(site.add(log, queued, done, book, first, id, asked))
-        } else {
-            self.refuse(Refusal::OutOfTurn)
-        }
-    }
-
-    // `(finish ID)`
-    pub fn finish(
-        self,
-        log: &mut [u8],
-        queued: &mut QueueWords,
-        done: &mut DoneWords,
-        book: &mut BookWords,
-        first: &mut ListWords,
-        second: &mut ListWords,
-        id: u64,
-    ) -> Turned
-        requires { ⌜ ValidSession self (lent (now log) (now queued) (now done) (now book) [] []) ⌝ }
-        ensures { λ r. ⌜ TurnsCall self (lent (now (log .entry)) (now (queued .entry)) (now (done .entry)) (now (book .entry)) (now (first .entry)) (now (second .entry))) (Call.Finish id) r
-            (lent (now (log .exit)) (now (queued .exit)) (now (done .exit)) (now (book .exit)) (now (first .exit)) (now (second .exit))) ⌝ }
-    {
-        if self.opened {
-            let site = self.site;
-            called(site.finish(log, queued, done, book, first, second, id))
-        } else {
-            self.refuse(Refusal::OutOfTurn)
-        }
-    }
-
-    // `(redo (did ID (RULE H U P O)...))`
-    pub fn redo(
-        self,
-        log: &mut [u8],
-        queued: &mut QueueWords,
-        done: &mut DoneWords,
-        book: &mut BookWords,
-        d: DidLine,
-    ) -> Turned
-        requires { ⌜ ValidSession self (lent (now log) (now queued) (now done) (now book) [] []) ⌝ }
-        ensures { λ r. ⌜ ((xs ys : List ℕ) → ((did : Did) → d ≡ heldDid did → readDid (didText did) ≡ got did [] →
-            TurnsCall self (lent (now (log .entry)) (now (queued .entry)) (now (done .entry)) (now (book .entry)) xs ys) (Call.Redo (didText did)) r
-            (lent (now (log .exit)) (now (queued .exit)) (now (done .exit)) (now (book .exit)) xs ys))) ⌝ }
-    {
-        if self.opened {
-            let site = self.site;
-            called(site.redo_did(log, queued, done, book, d))
-        } else {
-            self.refuse(Refusal::OutOfTurn)
-        }
-    }
-
-    // `(site N)`: a refused opening hands back a site without histories.
-    pub fn open_site(
-        self,
-        log: &mut [u8],
-        queued: &QueueWords,
-        done: &DoneWords,
-        book: &mut BookWords,
-        n: u64,
-    ) -> Turned
-        requires { ⌜ ValidSession self (lent (now log) (now queued) (now done) (now book) [] []) ⌝ }
-        ensures { λ r. ⌜ ((xs ys : List ℕ) → Turns self (lent (now (log .entry)) (now (queued .entry)) (now (done .entry)) (now (book .entry)) xs ys)
-            (opening (length (now (log .entry))) n (sessionView self (lent (now (log .entry)) (now (queued .entry)) (now (done .entry)) (now (book .entry)) xs ys))) r
-            (lent (now (log .exit)) (now (queued .entry)) (now (done .entry)) (now (book .exit)) xs ys)) ⌝ }
-    {
-        if self.opened {
-            return self.refuse(Refusal::OutOfTurn);
-        }
         let c = Site::open(log, book, n);
         let site = c.site;
         let reply = c.reply;
@@ -332,8 +152,8 @@ impl Session {
         }
     }
 
-    // What a form asks for.
-    pub fn obey(
+    // What a form asks for: of the open site, or "before site".
+    fn obey(
         self,
         log: &mut [u8],
         queued: &mut QueueWords,
@@ -343,36 +163,18 @@ impl Session {
         second: &mut ListWords,
         c: CommandRead,
     ) -> Turned
-        requires { ⌜ ValidSession self (lent (now log) (now queued) (now done) (now book) [] []) ⌝ }
-        ensures { λ r. ⌜ ((us : List Update) (did : Did) → c .asked ≡ heldUpdates us → T (all writableUpdate us) → c .did ≡ heldDid did → readDid (didText did) ≡ got did [] →
-            Turns self (lent (now (log .entry)) (now (queued .entry)) (now (done .entry)) (now (book .entry)) (now (first .entry)) (now (second .entry)))
-            (obeyed (length (now (log .entry))) (c .form) us did
-            (sessionView self (lent (now (log .entry)) (now (queued .entry)) (now (done .entry)) (now (book .entry)) (now (first .entry)) (now (second .entry))))) r
-            (lent (now (log .exit)) (now (queued .exit)) (now (done .exit)) (now (book .exit)) (now (first .exit)) (now (second .exit)))) ⌝ }
+        requires { ⌜ ValidSession self (came log queued done book) ⌝ }
+        ensures { λ r. ⌜ TurnsForm self (old log queued done book first second) c r (new log queued done book first second) ⌝ }
     {
         let form = c.form;
-        let asked = c.asked;
-        let did = c.did;
+        if self.opened {
+            let site = self.site;
+            return called(call(site, log, queued, done, book, first, second, c));
+        }
         match form {
             CommandForm::Bad => self.refuse(Refusal::Unreadable),
-            CommandForm::SiteOf(n) => self.open_site(log, queued, done, book, n),
-            CommandForm::Add(i) => self.add(log, queued, done, book, first, i, asked),
-            CommandForm::Finish(i) => self.finish(log, queued, done, book, first, second, i),
-            CommandForm::Withdraw(i) => self.withdraw(log, queued, done, book, first, i),
-            CommandForm::Persistent(n) => self.persistent(
-                log,
-                queued,
-                done,
-                book,
-                first,
-                second,
-                n,
-            ),
-            CommandForm::Stable(n) => self.stable(log, queued, done, book, first, n),
-            CommandForm::Show(h) => self.show(log, queued, done, book, h),
-            CommandForm::Cut(k) => self.cut(log, queued, done, book, k),
-            CommandForm::Redo => self.redo(log, queued, done, book, did),
-            CommandForm::End => self.end(log, queued, done, book, first),
+            CommandForm::SiteOf(n) => self.open_site(log, book, n),
+            _ => self.refuse(Refusal::OutOfTurn),
         }
     }
 
@@ -387,9 +189,9 @@ impl Session {
         second: &mut ListWords,
         line: &[u8],
     ) -> Turned
-        requires { ⌜ ValidSession self (lent (now log) (now queued) (now done) (now book) [] []) ⌝ }
-        ensures { λ r. ⌜ TurnsLine self (lent (now (log .entry)) (now (queued .entry)) (now (done .entry)) (now (book .entry)) (now (first .entry)) (now (second .entry))) (now (line .entry)) r
-            (lent (now (log .exit)) (now (queued .exit)) (now (done .exit)) (now (book .exit)) (now (first .exit)) (now (second .exit))) ⌝ }
+        requires { ⌜ ValidSession self (came log queued done book) ⌝ }
+        ensures { λ r. ⌜ TurnsLine self (old log queued done book first second) (now (line .entry)) r
+            (new log queued done book first second) ⌝ }
     {
         let c = read_command(line);
         self.obey(log, queued, done, book, first, second, c)
@@ -417,11 +219,9 @@ impl Session {
         line: &[u8],
         out: &mut [u8],
     ) -> Answered
-        requires { ⌜ ValidSession self (lent (now log) (now queued) (now done) (now book) [] []) ⌝ }
-        ensures { λ r. ⌜ Answers self (lent (now (log .entry)) (now (queued .entry)) (now (done .entry)) (now (book .entry)) (now (first .entry)) (now (second .entry)))
-            (turn (length (now (log .entry))) (now (line .entry))
-            (sessionView self (lent (now (log .entry)) (now (queued .entry)) (now (done .entry)) (now (book .entry)) (now (first .entry)) (now (second .entry)))))
-            r (lent (now (log .exit)) (now (queued .exit)) (now (done .exit)) (now (book .exit)) (now (first .exit)) (now (second .exit))) (now (out .entry)) (now (out .exit)) ⌝ }
+        requires { ⌜ ValidSession self (came log queued done book) ⌝ }
+        ensures { λ r. ⌜ AnswersLine self (old log queued done book first second) (now (line .entry)) r
+            (new log queued done book first second) (now (out .entry)) (now (out .exit)) ⌝ }
     {
         let t = self.turn(log, queued, done, book, first, second, line);
         let session = t.session;

@@ -1,8 +1,10 @@
 -- The site and what is lent to it as a state of the rule book, the invariant of the two, and what a call promises.
 use Prim.Native.Nat.{ℕ, _≤_}
 use mathlib.Core.Path.{_≡_}
-use mathlib.Core.List.{List}
+use mathlib.Core.List.{List, []}
 use lib.ListN.{length, drop}
+use denote.Ref.{RefT, now}
+use denote.Triple.Both.{Both}
 use Rattle.forms.specs.Forms.{Outcome, Refused, Accepted, Answer}
 use Rattle.forms.specs.Held.{Numbers, Replied, replied, outcomeOf}
 use Rattle.forms.specs.declared.Refusal.{Refusal}
@@ -28,6 +30,23 @@ pub record Lent : Type 0 where
 
 abbrev pub lent : List ℕ → List ℕ → List ℕ → List ℕ → List ℕ → List ℕ → Lent
 lent log queue done book first second = record { log = log; queue = queue; done = done; book = book; first = first; second = second }
+
+-- a lent array in an `ensures`: as it came, and as it is left
+abbrev pub Ends : Type 0
+Ends = Both (RefT (List ℕ)) (RefT (List ℕ))
+
+-- What was lent, in a `requires`: the lists of a reply do not matter there.
+abbrev pub came : RefT (List ℕ) → RefT (List ℕ) → RefT (List ℕ) → RefT (List ℕ) → Lent
+came log queue done book = lent (now log) (now queue) (now done) (now book) [] []
+
+-- What was lent, in an `ensures`, as it came and as it is left.
+abbrev pub old : Ends → Ends → Ends → Ends → Ends → Ends → Lent
+old log queue done book first second =
+    lent (now (log .entry)) (now (queue .entry)) (now (done .entry)) (now (book .entry)) (now (first .entry)) (now (second .entry))
+
+abbrev pub new : Ends → Ends → Ends → Ends → Ends → Ends → Lent
+new log queue done book first second =
+    lent (now (log .exit)) (now (queue .exit)) (now (done .exit)) (now (book .exit)) (now (first .exit)) (now (second .exit))
 
 -- The site with the histories and the entries that stand in what is lent.
 abbrev pub whole : Site → Lent → Whole

@@ -51,7 +51,8 @@ streamAfter s (c ∷ cs) = streamAfter (c .result .stream) cs
 abbrev quiet : Progress → Progress
 quiet g = record { begun = g .begun; session = g .session; replied = [] }
 
-replied-behind : (room : ℕ) (cs : List (List ℕ)) (g : Progress) → fedAll room cs g .replied ≡ g .replied ++ fedAll room cs (quiet g) .replied
+replied-behind : (room : ℕ) (cs : List (List ℕ)) (g : Progress) →
+    fedAll room cs g .replied ≡ g .replied ++ fedAll room cs (quiet g) .replied
 unfolding fed
 replied-behind room cs g =
     ap (λ (x : Progress). x .replied) (chunks room cs g) ∙ sym (ap (λ (x : Progress). g .replied ++ x .replied) (chunks room cs (quiet g)))
@@ -61,7 +62,8 @@ unfolding fed
 begun-same room cs g = ap (λ (x : Progress). x .begun) (chunks room cs g) ∙ sym (ap (λ (x : Progress). x .begun) (chunks room cs (quiet g)))
 
 -- What a stream that has come to g's session and unended line is.
-comes-quiet : (g : Progress) (s : Stream) (bytes : Lent) → sessionView (s .session) bytes ≡ g .session → quiet g ≡ standing s (g .begun) bytes
+comes-quiet : (g : Progress) (s : Stream) (bytes : Lent) → sessionView (s .session) bytes ≡ g .session →
+    quiet g ≡ standing s (g .begun) bytes
 comes-quiet g s bytes e = λ i. record { begun = g .begun; session = sym e i; replied = [] }
 
 front-is : (text out page : List ℕ) (n : ℕ) → Fronts text out page n → take n page ≡ text
@@ -72,7 +74,8 @@ pub record Replied (room : ℕ) (s : Stream) (g : Progress) (cs : List Call) : T
   pub text : writtenIn cs ≡ fedAll room (usedIn cs) g .replied
   pub begun : Begins (streamAfter s cs .begun) (fedAll room (usedIn cs) g .begun)
 
-module _ (c : Call) (cs : List Call) (s : Stream) (line : List ℕ) (bytes : Lent) (f : Feeds s bytes (c .chunk) (c .result) (c .lent) (c .out) (c .page))
+module _ (c : Call) (cs : List Call) (s : Stream) (line : List ℕ) (bytes : Lent)
+    (f : Feeds s bytes (c .chunk) (c .result) (c .lent) (c .out) (c .page))
     (h : Begins (s .begun) line) where
   -- after the first call
   abbrev next : Progress
@@ -82,9 +85,11 @@ module _ (c : Call) (cs : List Call) (s : Stream) (line : List ℕ) (bytes : Len
   soFar = standing (c .result .stream) (next .begun) (c .lent)
 
   same : fedAll (length (c .lent .log)) (usedIn cs) soFar ≡ fedAll (length (bytes .log)) (usedIn cs) (quiet next)
-  same = ap₂ (λ (k : ℕ) (p : Progress). fedAll k (usedIn cs) p) (f .room) (sym (comes-quiet next (c .result .stream) (c .lent) (f .does line h .session)))
+  same = ap₂ (λ (k : ℕ) (p : Progress). fedAll k (usedIn cs) p) (f .room)
+      (sym (comes-quiet next (c .result .stream) (c .lent) (f .does line h .session)))
 
-  replied-more : Replied (length (c .lent .log)) (c .result .stream) soFar cs → Replied (length (bytes .log)) s (standing s line bytes) (c ∷ cs)
+  replied-more : Replied (length (c .lent .log)) (c .result .stream) soFar cs →
+      Replied (length (bytes .log)) s (standing s line bytes) (c ∷ cs)
   unfolding fedAll usedIn writtenIn streamAfter
   replied-more later =
       record {
@@ -102,7 +107,8 @@ pub calls-replied : (cs : List Call) (s : Stream) (line : List ℕ) (bytes : Len
 unfolding fedAll usedIn writtenIn streamAfter
 calls-replied [] s line bytes h f = record { text = refl; begun = h }
 calls-replied (c ∷ cs) s line bytes h f =
-    replied-more c cs s line bytes (f .0) h (calls-replied cs (c .result .stream) (next c cs s line bytes (f .0) h .begun) (c .lent) (f .0 .does line h .begun) (f .1))
+    replied-more c cs s line bytes (f .0) h
+    (calls-replied cs (c .result .stream) (next c cs s line bytes (f .0) h .begun) (c .lent) (f .0 .does line h .begun) (f .1))
 
 -- The calls have used the input, in whatever chunks: what they have written, and the reply to the unended rest, is the rule book's session.
 pub record Whole (room : ℕ) (s : Stream) (cs : List Call) : Type 0 where
@@ -115,7 +121,8 @@ calls-whole cs s bytes starts f =
     record {
       rest = fedAll (length (bytes .log)) (usedIn cs) atStart .begun;
       begun = r .begun;
-      text = ap (λ (l : List ℕ). l ++ restReply (fedAll (length (bytes .log)) (usedIn cs) atStart .begun)) (r .text) ∙ sym (whole-input (length (bytes .log)) (usedIn cs));
+      text = ap (λ (l : List ℕ). l ++ restReply (fedAll (length (bytes .log)) (usedIn cs) atStart .begun)) (r .text)
+          ∙ sym (whole-input (length (bytes .log)) (usedIn cs));
     }
   where
     r : Replied (length (bytes .log)) s atStart cs
@@ -124,7 +131,8 @@ calls-whole cs s bytes starts f =
 -- ### Each call moves on
 
 -- With 2,730 bytes for replies, a call uses something of a chunk that is not empty.
-pub moves : (s : Stream) (old : Lent) (chunk : List ℕ) (r : Fed) (new : Lent) (out page : List ℕ) → ValidStream s old → Feeds s old chunk r new out page →
+pub moves : (s : Stream) (old : Lent) (chunk : List ℕ) (r : Fed) (new : Lent) (out page : List ℕ) → ValidStream s old →
+    Feeds s old chunk r new out page →
     2730 ≤ length out → 0 < length chunk → 0 < r .used
 moves s old chunk r new out page v f long some = by-used (r .used) refl
   where

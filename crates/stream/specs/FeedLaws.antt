@@ -42,11 +42,13 @@ pub record Along (s : Stream) (old : Lent) (chunk : List ℕ) (r : Fed) (new : L
   pub long : length page ≡ length out
   pub before : ValidStream s old
   pub valid : ValidStream (r .stream) new
-  pub log : (line : List ℕ) → Begins (s .begun) line → new .log ≡ logged (length (old .log)) (linesFrom line (take (r .used) chunk)) (sessionView (s .session) old) (old .log)
+  pub log : (line : List ℕ) → Begins (s .begun) line →
+      new .log ≡ logged (length (old .log)) (linesFrom line (take (r .used) chunk)) (sessionView (s .session) old) (old .log)
   pub does : (line : List ℕ) → Begins (s .begun) line →
       Comes (fed (length (old .log)) (take (r .used) chunk) (standing s line old)) (r .stream) new out page (r .written)
 
-pub along-start : (s : Stream) (old : Lent) (chunk out : List ℕ) → ValidStream s old → Along s old chunk (record { stream = s; used = 0; written = 0 }) old out out
+pub along-start : (s : Stream) (old : Lent) (chunk out : List ℕ) → ValidStream s old →
+    Along s old chunk (record { stream = s; used = 0; written = 0 }) old out out
 unfolding logged linesFrom
 along-start s old chunk out v =
     record {
@@ -66,7 +68,8 @@ module _ (s : Stream) (old : Lent) (chunk : List ℕ) (r : Fed) (new : Lent) (ou
   pub along-fits : r .written ≤ length out
   along-fits =
       let l = some-line (s .begun) (a .before .begun) in
-      fronts-fits (fed (length (old .log)) (take (r .used) chunk) (standing s (l .line) old) .replied) out page (r .written) (a .does (l .line) (l .begins) .replies) (a .long)
+      fronts-fits (fed (length (old .log)) (take (r .used) chunk) (standing s (l .line) old) .replied) out page (r .written)
+      (a .does (l .line) (l .begins) .replies) (a .long)
 
   pub along-feeds : (r .used < length chunk → length out < r .written + 2730) → Feeds s old chunk r new out page
   along-feeds h =
@@ -83,7 +86,8 @@ module _ (s : Stream) (old : Lent) (chunk : List ℕ) (r : Fed) (new : Lent) (ou
   -- No line ends any more: the rest is kept.
   pub along-rest : (b : Begun) → NoEnd (drop (r .used) chunk) →
       ((line : List ℕ) → Begins (r .stream .begun) line → Begins b (line ++ take (length chunk - r .used) (drop (r .used) chunk))) →
-      Along s old chunk (record { stream = record { session = r .stream .session; begun = b }; used = length chunk; written = r .written }) new out page
+      Along s old chunk
+      (record { stream = record { session = r .stream .session; begun = b }; used = length chunk; written = r .written }) new out page
   along-rest b h w =
       record {
         within = omega arith;
@@ -91,11 +95,16 @@ module _ (s : Stream) (old : Lent) (chunk : List ℕ) (r : Fed) (new : Lent) (ou
         long = a .long;
         before = a .before;
         valid = record { session = a .valid .session; begun = held };
-        log = λ line begins. a .log line begins ∙ ap (λ (ls : List (List ℕ)). logged (length (old .log)) ls (sessionView (s .session) old) (old .log)) (sym (same-lines line));
+        log = λ line begins. a .log line begins
+            ∙ ap (λ (ls : List (List ℕ)). logged (length (old .log)) ls (sessionView (s .session) old) (old .log)) (sym (same-lines line));
         does = λ line begins.
             let x = a .does line begins in
             subst (λ (g : Progress). Comes g (record { session = r .stream .session; begun = b }) new out page (r .written)) (sym (is line))
-            (record { begun = keeps (fed (length (old .log)) (take (r .used) chunk) (standing s line old) .begun) (x .begun); session = x .session; replies = x .replies });
+            (record {
+              begun = keeps (fed (length (old .log)) (take (r .used) chunk) (standing s line old) .begun) (x .begun);
+              session = x .session;
+              replies = x .replies;
+            });
       }
     where
       keeps : (line : List ℕ) → Begins (r .stream .begun) line → Begins b (line ++ drop (r .used) chunk)
@@ -107,7 +116,8 @@ module _ (s : Stream) (old : Lent) (chunk : List ℕ) (r : Fed) (new : Lent) (ou
       same-lines line =
           ap (λ (l : List ℕ). linesFrom line l) (take-length chunk ∙ sym (take-append-drop (r .used) chunk))
           ∙ lines-append line (take (r .used) chunk) (drop (r .used) chunk)
-          ∙ ap (λ (ls : List (List ℕ)). linesFrom line (take (r .used) chunk) ++ ls) (lines-from-open (restFrom line (take (r .used) chunk)) (drop (r .used) chunk) h)
+          ∙ ap (λ (ls : List (List ℕ)). linesFrom line (take (r .used) chunk) ++ ls)
+          (lines-from-open (restFrom line (take (r .used) chunk)) (drop (r .used) chunk) h)
           ∙ append-nil (linesFrom line (take (r .used) chunk))
 
       held : UsableBegun b
@@ -126,14 +136,16 @@ module _ (s : Stream) (old : Lent) (chunk : List ℕ) (r : Fed) (new : Lent) (ou
   -- One line more.
   module _ (e : ℕ) (ends : EndAt chunk (r .used) e) (t : Turned) (after : Lent)
       (turns : (line : List ℕ) → Begins (r .stream .begun) line →
-      Turns (r .stream .session) new (turn (length (new .log)) (line ++ take (e - r .used) (drop (r .used) chunk)) (sessionView (r .stream .session) new)) t after) where
+      Turns (r .stream .session) new
+      (turn (length (new .log)) (line ++ take (e - r .used) (drop (r .used) chunk)) (sessionView (r .stream .session) new)) t after) where
     abbrev part : List ℕ
     part = take (e - r .used) (drop (r .used) chunk)
 
     pub line-printable : Printable (replied (t .reply) (after .first) (after .second))
     line-printable = let l = some-line (r .stream .begun) (a .valid .begun) in turns (l .line) (l .begins) .answer .printable
 
-    pub along-line : (b : Begun) (n : ℕ) (next : List ℕ) → length (after .log) ≡ length (new .log) → length next ≡ length page → Begins b [] →
+    pub along-line : (b : Begun) (n : ℕ) (next : List ℕ) → length (after .log) ≡ length (new .log) → length next ≡ length page →
+        Begins b [] →
         Wrote page (r .written) (ended (outcomeText (outcomeOf (replied (t .reply) (after .first) (after .second))))) n next →
         Along s old chunk (record { stream = record { session = t .session; begun = b }; used = e + 1; written = n }) after out next
     unfolding logged fed
@@ -143,48 +155,62 @@ module _ (s : Stream) (old : Lent) (chunk : List ℕ) (r : Fed) (new : Lent) (ou
           room = same ∙ a .room;
           long = long ∙ a .long;
           before = a .before;
-          valid = record { session = let l = some-line (r .stream .begun) (a .valid .begun) in turns (l .line) (l .begins) .valid; begun = usable b [] none };
+          valid = record {
+            session = let l = some-line (r .stream .begun) (a .valid .begun) in turns (l .line) (l .begins) .valid;
+            begun = usable b [] none;
+          };
           log = λ line begins. logs line begins;
-          does = λ line begins. subst (λ (g : Progress). Comes g (record { session = t .session; begun = b }) after out next n) (sym (is line)) (comes line begins);
+          does = λ line begins. subst (λ (g : Progress). Comes g (record { session = t .session; begun = b }) after out next n)
+              (sym (is line)) (comes line begins);
         }
       where
         soFar : List ℕ → Progress
         soFar line = fed (length (old .log)) (take (r .used) chunk) (standing s line old)
 
-        is : (line : List ℕ) → fed (length (old .log)) (take (e + 1) chunk) (standing s line old) ≡ answered (length (old .log)) part (soFar line)
+        is : (line : List ℕ) →
+            fed (length (old .log)) (take (e + 1) chunk) (standing s line old) ≡ answered (length (old .log)) part (soFar line)
         is line =
             ap (λ (l : List ℕ). fed (length (old .log)) l (standing s line old)) (take-line chunk (r .used) e ends)
             ∙ sym (fed-append (length (old .log)) (take (r .used) chunk) (ended part) (standing s line old))
             ∙ fed-line (length (old .log)) part (soFar line) (ends .unended)
 
-        more-lines : (line : List ℕ) → linesFrom line (take (e + 1) chunk) ≡ linesFrom line (take (r .used) chunk) ++ ((soFar line .begun ++ part) ∷ [])
+        more-lines : (line : List ℕ) →
+            linesFrom line (take (e + 1) chunk) ≡ linesFrom line (take (r .used) chunk) ++ ((soFar line .begun ++ part) ∷ [])
         more-lines line =
             ap (λ (l : List ℕ). linesFrom line l) (take-line chunk (r .used) e ends)
             ∙ lines-append line (take (r .used) chunk) (ended part)
-            ∙ ap (λ (ls : List (List ℕ)). linesFrom line (take (r .used) chunk) ++ ls) (line-ended (restFrom line (take (r .used) chunk)) part (ends .unended))
+            ∙ ap (λ (ls : List (List ℕ)). linesFrom line (take (r .used) chunk) ++ ls)
+            (line-ended (restFrom line (take (r .used) chunk)) part (ends .unended))
 
         -- the line's turn, as the rule book has it
         same-turn : (line : List ℕ) → Begins (s .begun) line →
-            turn (length (new .log)) (soFar line .begun ++ part) (sessionView (r .stream .session) new) ≡ turn (length (old .log)) (soFar line .begun ++ part) (soFar line .session)
+            turn (length (new .log)) (soFar line .begun ++ part) (sessionView (r .stream .session) new)
+            ≡ turn (length (old .log)) (soFar line .begun ++ part) (soFar line .session)
         same-turn line begins = ap₂ (λ (k : ℕ) v. turn k (soFar line .begun ++ part) v) (a .room) (a .does line begins .session)
 
-        logs : (line : List ℕ) → Begins (s .begun) line → after .log ≡ logged (length (old .log)) (linesFrom line (take (e + 1) chunk)) (sessionView (s .session) old) (old .log)
+        logs : (line : List ℕ) → Begins (s .begun) line →
+            after .log ≡ logged (length (old .log)) (linesFrom line (take (e + 1) chunk)) (sessionView (s .session) old) (old .log)
         logs line begins =
             turn-logs (r .stream .session) new _ t after (a .valid .session) (turns (soFar line .begun) (a .does line begins .begun))
             ∙ ap₂ (λ (y : Turn) (l : List ℕ). overlaid (y .after) l) (same-turn line begins) (a .log line begins)
-            ∙ sym (logged-append (length (old .log)) (linesFrom line (take (r .used) chunk)) ((soFar line .begun ++ part) ∷ []) (sessionView (s .session) old) (old .log))
+            ∙ sym (logged-append (length (old .log)) (linesFrom line (take (r .used) chunk)) ((soFar line .begun ++ part) ∷ [])
+            (sessionView (s .session) old) (old .log))
             ∙ ap (λ (ls : List (List ℕ)). logged (length (old .log)) ls (sessionView (s .session) old) (old .log)) (sym (more-lines line))
 
-        comes : (line : List ℕ) → Begins (s .begun) line → Comes (answered (length (old .log)) part (soFar line)) (record { session = t .session; begun = b }) after out next n
+        comes : (line : List ℕ) → Begins (s .begun) line →
+            Comes (answered (length (old .log)) part (soFar line)) (record { session = t .session; begun = b }) after out next n
         comes line begins =
             record {
               begun = none;
               session = x .after ∙ ap (λ (y : Turn). y .after) (same-turn line begins);
               replies =
-                  fronts-more (soFar line .replied) out page (r .written) (ended (outcomeText (turn (length (old .log)) (soFar line .begun ++ part) (soFar line .session) .reply))) n next
+                  fronts-more (soFar line .replied) out page (r .written)
+                  (ended (outcomeText (turn (length (old .log)) (soFar line .begun ++ part) (soFar line .session) .reply))) n next
                   (a .does line begins .replies)
-                  (subst (λ (o : Outcome). Wrote page (r .written) (ended (outcomeText o)) n next) (x .answer .outcome ∙ ap (λ (y : Turn). y .reply) (same-turn line begins)) w);
+                  (subst (λ (o : Outcome). Wrote page (r .written) (ended (outcomeText o)) n next)
+                  (x .answer .outcome ∙ ap (λ (y : Turn). y .reply) (same-turn line begins)) w);
             }
           where
-            x : Turns (r .stream .session) new (turn (length (new .log)) (soFar line .begun ++ part) (sessionView (r .stream .session) new)) t after
+            x : Turns (r .stream .session) new
+                (turn (length (new .log)) (soFar line .begun ++ part) (sessionView (r .stream .session) new)) t after
             x = turns (soFar line .begun) (a .does line begins .begun)

@@ -37,7 +37,11 @@ some-line b u = by-over (b .over) refl
     by-over true e =
         record {
           line = replicate 1025 0;
-          begins = record { few = u .few; long = u .long; is = rw e (let m : length (replicate {A = ℕ} 1025 0) ≡ 1025 = length-replicate {A = ℕ} 1025 0 in omega (arith, m)) };
+          begins = record {
+            few = u .few;
+            long = u .long;
+            is = rw e (let m : length (replicate {A = ℕ} 1025 0) ≡ 1025 = length-replicate {A = ℕ} 1025 0 in omega (arith, m));
+          };
         }
 
 pub usable : (b : Begun) (line : List ℕ) → Begins b line → UsableBegun b
@@ -105,9 +109,12 @@ module _ (b : Begun) (line part : List ℕ) (h : Begins b line) where
 -- ### Its turn
 
 -- 1: "above 1,024 bytes without its end"
-pub turns-over : (s : Session) (old : Lent) (line : List ℕ) (r : Turned) → ValidSession s old → 1024 < length line → Refuses s Unreadable r →
+pub turns-over : (s : Session) (old : Lent) (line : List ℕ) (r : Turned) → ValidSession s old → 1024 < length line →
+    Refuses s Unreadable r →
     Turns s old (turn (length (old .log)) line (sessionView s old)) r old
-turns-over s old line r v h q = turn-refused s old (turn (length (old .log)) line (sessionView s old)) Unreadable r v (turn-over (length (old .log)) line (sessionView s old) h) q
+turns-over s old line r v h q =
+    turn-refused s old (turn (length (old .log)) line (sessionView s old)) Unreadable r v
+    (turn-over (length (old .log)) line (sessionView s old) h) q
 
 -- a line is above the limit where its beginning is
 pub over-is : (b : Begun) (line : List ℕ) → Begins b line → b .over ≡ true → 1024 < length line
@@ -124,6 +131,7 @@ held-is b line h e = subst (λ (o : Bool). LineIs o (take (b .len) (b .bytes)) l
 pub none-held : (b : Begun) (line : List ℕ) → Begins b line → b .over ≡ false → b .len ≡ 0 → line ≡ []
 none-held b line h e z = sym (held-is b line h e) ∙ ap (λ (k : ℕ). take k (b .bytes)) z
 
-pub turns-as : (s : Session) (old : Lent) (r : Turned) (new : Lent) (line other : List ℕ) → other ≡ line → Turns s old (turn (length (old .log)) other (sessionView s old)) r new →
+pub turns-as : (s : Session) (old : Lent) (r : Turned) (new : Lent) (line other : List ℕ) → other ≡ line →
+    Turns s old (turn (length (old .log)) other (sessionView s old)) r new →
     Turns s old (turn (length (old .log)) line (sessionView s old)) r new
 turns-as s old r new line other e h = subst (λ (l : List ℕ). Turns s old (turn (length (old .log)) l (sessionView s old)) r new) e h

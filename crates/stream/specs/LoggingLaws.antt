@@ -29,19 +29,22 @@ over-site s m other v e =
     size : s .used ≡ length (logBytes (view s m))
     size = sym (length-take-le (s .used) (m .log) (v .carries .within)) ∙ ap length (v .carries .text)
 
-over-view : (o : Bool) (s : Site) (m : Lent) (other : List ℕ) → (o ≡ true → Valid s m) → drop (usedIf o s) (m .log) ≡ drop (usedIf o s) other →
+over-view : (o : Bool) (s : Site) (m : Lent) (other : List ℕ) → (o ≡ true → Valid s m) →
+    drop (usedIf o s) (m .log) ≡ drop (usedIf o s) other →
     m .log ≡ overlaid (viewIf o s m) other
 unfolding overlaid
 over-view true s m other v e = over-site s m other (v refl) e
 over-view false s m other v e = e
 
 -- The buffer after a turn.
-pub turn-logs : (s : Session) (old : Lent) (t : Turn) (r : Turned) (new : Lent) → ValidSession s old → Turns s old t r new → new .log ≡ overlaid (t .after) (old .log)
+pub turn-logs : (s : Session) (old : Lent) (t : Turn) (r : Turned) (new : Lent) → ValidSession s old → Turns s old t r new →
+    new .log ≡ overlaid (t .after) (old .log)
 turn-logs s old t r new v h = by-reply (t .reply) (h .keeps) ∙ ap (λ (x : Option State). overlaid x (old .log)) (h .after)
   where
     by-reply : (o : Outcome) → Keeps o s old r new → new .log ≡ overlaid (sessionView (r .session) new) (old .log)
     by-reply (Refused q) k =
-        over-view (r .session .opened) (r .session .site) new (old .log) (h .valid .site) (ap (λ (l : Lent). drop (usedIf (r .session .opened) (r .session .site)) (l .log)) (k .kept))
+        over-view (r .session .opened) (r .session .site) new (old .log) (h .valid .site)
+        (ap (λ (l : Lent). drop (usedIf (r .session .opened) (r .session .site)) (l .log)) (k .kept))
     by-reply (Accepted a) k = over-view (r .session .opened) (r .session .site) new (old .log) (h .valid .site) (k .past)
 
 -- Lines in two parts.

@@ -59,7 +59,8 @@ pub record Feeds (s : Stream) (old : Lent) (chunk : List ℕ) (r : Fed) (new : L
   pub room : length (new .log) ≡ length (old .log)
   pub valid : ValidStream (r .stream) new
   -- the log buffer, to its last byte
-  pub log : (line : List ℕ) → Begins (s .begun) line → new .log ≡ logged (length (old .log)) (linesFrom line (take (r .used) chunk)) (sessionView (s .session) old) (old .log)
+  pub log : (line : List ℕ) → Begins (s .begun) line →
+      new .log ≡ logged (length (old .log)) (linesFrom line (take (r .used) chunk)) (sessionView (s .session) old) (old .log)
   pub does : (line : List ℕ) → Begins (s .begun) line →
       Comes (fed (length (old .log)) (take (r .used) chunk) (standing s line old)) (r .stream) new out page (r .written)
 

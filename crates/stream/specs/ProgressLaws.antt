@@ -44,7 +44,8 @@ answered room part g =
 
 pub fed-line : (room : ℕ) (part : List ℕ) (g : Progress) → NoEnd part → fed room (ended part) g ≡ answered room part g
 unfolding ended
-fed-line room part g h = sym (fed-append room part (10 ∷ []) g) ∙ ap (λ (x : Progress). fed room (10 ∷ []) x) (fed-open room part g h) ∙ fed-end room (opened part g)
+fed-line room part g h = sym (fed-append room part (10 ∷ []) g) ∙ ap (λ (x : Progress). fed room (10 ∷ []) x) (fed-open room part g h)
+    ∙ fed-end room (opened part g)
 
 -- What was replied stands before what is replied later.
 pub replied-grows : (room : ℕ) (a b : List ℕ) (g : Progress) → length (fed room a g .replied) ≤ length (fed room (a ++ b) g .replied)
@@ -56,7 +57,8 @@ replied-grows room a b g =
     omega (arith, e, k)
 
 -- A whole input's session: what it has replied, and the reply to its unended rest.
-pub session-is : (room : ℕ) (input : List ℕ) → sessionIn room input ≡ fed room input atStart .replied ++ restReply (fed room input atStart .begun)
+pub session-is : (room : ℕ) (input : List ℕ) →
+    sessionIn room input ≡ fed room input atStart .replied ++ restReply (fed room input atStart .begun)
 unfolding sessionIn fed atStart
 session-is room input = refl
 
@@ -74,7 +76,8 @@ fronts-fits text out page n f h =
     omega (arith, a, b, d, h, k)
 
 -- what is written behind the replies so far
-pub fronts-more : (text out page : List ℕ) (n : ℕ) (more : List ℕ) (m : ℕ) (next : List ℕ) → Fronts text out page n → Wrote page n more m next →
+pub fronts-more : (text out page : List ℕ) (n : ℕ) (more : List ℕ) (m : ℕ) (next : List ℕ) → Fronts text out page n →
+    Wrote page n more m next →
     Fronts (text ++ more) out next m
 unfolding placed
 fronts-more text out page n more m next f w =

@@ -38,7 +38,8 @@ use Rattle.stream.specs.ProgressLaws.{replied-grows, session-is, fronts-
 no-room : {C : Type 0} (n : ℕ) → At n ≡ NoRoom → C
 no-room n e = let y : _≡_ {A = ℕ} 0 1 = cc in absurd (omega arith)
 
-pub wrote-at : (l : List ℕ) (at : ℕ) (bs : List ℕ) (r : Written) (m : List ℕ) (next : ℕ) → Writes l at bs r m → r ≡ At next → Wrote l at bs next m
+pub wrote-at : (l : List ℕ) (at : ℕ) (bs : List ℕ) (r : Written) (m : List ℕ) (next : ℕ) → Writes l at bs r m → r ≡ At next →
+    Wrote l at bs next m
 unfolding Writes
 wrote-at l at bs r m next w e = by-test (leb (at + length bs) (length l)) w
   where
@@ -47,7 +48,8 @@ wrote-at l at bs r m next w e = by-test (leb (at + length bs) (length l)) w
     by-test false x = no-room next (sym e ∙ x .answer)
 
 -- what was written lies within the buffer
-pub wrote-within : (l : List ℕ) (at : ℕ) (bs : List ℕ) (r : Written) (m : List ℕ) (next : ℕ) → Writes l at bs r m → r ≡ At next → next ≤ length l
+pub wrote-within : (l : List ℕ) (at : ℕ) (bs : List ℕ) (r : Written) (m : List ℕ) (next : ℕ) → Writes l at bs r m → r ≡ At next →
+    next ≤ length l
 unfolding Writes
 wrote-within l at bs r m next w e = by-test (leb (at + length bs) (length l)) refl w
   where
@@ -83,7 +85,8 @@ refuses-some (b ∷ bs) h = refl
 abbrev refusesRest : List ℕ
 refusesRest = withEnd (outcomeText (outcomeWith (ReplyForm.Refused Unreadable) [] []))
 
-rest-written : (out : List ℕ) (at : ℕ) (line : List ℕ) (r : Written) (page : List ℕ) → 0 < length line → Writes out at refusesRest r page → Writes out at (restReply line) r page
+rest-written : (out : List ℕ) (at : ℕ) (line : List ℕ) (r : Written) (page : List ℕ) → 0 < length line → Writes out at refusesRest r page →
+    Writes out at (restReply line) r page
 unfolding ended outcomeWith
 rest-written out at line r page h w = subst (λ (l : List ℕ). Writes out at l r page) (sym (refuses-some line h)) w
 
@@ -92,9 +95,11 @@ module _ (b : Begun) (line : List ℕ) (h : Begins b line) (out : List ℕ) (at 
   pub rest-over : (r : Written) (page : List ℕ) → b .over ≡ true → Writes out at refusesRest r page → Writes out at (restReply line) r page
   rest-over r page e w = rest-written out at line r page (let k = over-is b line h e in omega (arith, k)) w
 
-  pub rest-held : (r : Written) (page : List ℕ) → b .over ≡ false → 0 < b .len → Writes out at refusesRest r page → Writes out at (restReply line) r page
+  pub rest-held : (r : Written) (page : List ℕ) → b .over ≡ false → 0 < b .len → Writes out at refusesRest r page →
+      Writes out at (restReply line) r page
   rest-held r page e lt w =
-      let m : length line ≡ b .len = sym (ap length (held-is b line h e)) ∙ length-take-le (b .len) (b .bytes) (omega (arith, h .few, h .long)) in
+      let m : length line ≡ b .len = sym (ap length (held-is b line h e))
+      ∙ length-take-le (b .len) (b .bytes) (omega (arith, h .few, h .long)) in
       rest-written out at line r page (omega (arith, m)) w
 
   -- no rest
@@ -115,11 +120,13 @@ module _ (b : Begun) (line : List ℕ) (h : Begins b line) (out : List ℕ) (at 
 -- The reply to the rest lies within the buffer.
 pub rest-within : (b : Begun) (out : List ℕ) (at : ℕ) (r : Written) (page : List ℕ) (n : ℕ) → UsableBegun b →
     ((line : List ℕ) → Begins b line → Writes out at (restReply line) r page) → r ≡ At n → n ≤ length out
-rest-within b out at r page n u w e = let l = some-line b u in wrote-within out at (restReply (l .line)) r page n (w (l .line) (l .begins)) e
+rest-within b out at r page n u w e = let l = some-line b u in
+    wrote-within out at (restReply (l .line)) r page n (w (l .line) (l .begins)) e
 
 -- ### The start
 
-pub starts-stream : (x : Session) (b : Begun) (bytes : Lent) → Starts x bytes → Begins b [] → StartsStream (record { session = x; begun = b }) bytes
+pub starts-stream : (x : Session) (b : Begun) (bytes : Lent) → Starts x bytes → Begins b [] →
+    StartsStream (record { session = x; begun = b }) bytes
 unfolding atStart
 starts-stream x b bytes s h =
     record {
@@ -130,20 +137,24 @@ starts-stream x b bytes s h =
 
 -- ### A whole input
 
-module _ (input : List ℕ) (old : Lent) (s : Stream) (f : Fed) (new : Lent) (out page : List ℕ) (starts : StartsStream s old) (feeds : Feeds s old input f new out page) where
+module _ (input : List ℕ) (old : Lent) (s : Stream) (f : Fed) (new : Lent) (out page : List ℕ) (starts : StartsStream s old)
+    (feeds : Feeds s old input f new out page) where
   abbrev done : Progress
   done = fed (length (old .log)) (take (f .used) input) atStart
 
   comes : Comes done (f .stream) new out page (f .written)
-  comes = subst (λ (g : Progress). Comes (fed (length (old .log)) (take (f .used) input) g) (f .stream) new out page (f .written)) (starts .is) (feeds .does [] (starts .begun))
+  comes = subst (λ (g : Progress). Comes (fed (length (old .log)) (take (f .used) input) g) (f .stream) new out page (f .written))
+      (starts .is) (feeds .does [] (starts .begun))
 
   logs : new .log ≡ logged (length (old .log)) (linesOf (take (f .used) input)) none (old .log)
   unfolding atStart
-  logs = feeds .log [] (starts .begun) ∙ ap (λ (g : Progress). logged (length (old .log)) (linesOf (take (f .used) input)) (g .session) (old .log)) (starts .is)
+  logs = feeds .log [] (starts .begun)
+      ∙ ap (λ (g : Progress). logged (length (old .log)) (linesOf (take (f .used) input)) (g .session) (old .log)) (starts .is)
 
   grows : length (done .replied) ≤ length (fed (length (old .log)) input atStart .replied)
   grows =
-      subst (λ (l : List ℕ). length (done .replied) ≤ length (fed (length (old .log)) l atStart .replied)) (take-append-drop (f .used) input)
+      subst (λ (l : List ℕ). length (done .replied) ≤ length (fed (length (old .log)) l atStart .replied))
+      (take-append-drop (f .used) input)
       (replied-grows (length (old .log)) (take (f .used) input) (drop (f .used) input) atStart)
 
   whole-longer : length (done .replied) ≤ length (sessionIn (length (old .log)) input)
@@ -174,7 +185,8 @@ module _ (input : List ℕ) (old : Lent) (s : Stream) (f : Fed) (new : Lent) (ou
     session-done : sessionIn (length (old .log)) input ≡ done .replied ++ restReply (done .begun)
     session-done =
         session-is (length (old .log)) input
-        ∙ ap (λ (l : List ℕ). fed (length (old .log)) l atStart .replied ++ restReply (fed (length (old .log)) l atStart .begun)) (sym is-all)
+        ∙ ap (λ (l : List ℕ). fed (length (old .log)) l atStart .replied ++ restReply (fed (length (old .log)) l atStart .begun))
+        (sym is-all)
 
     -- The rest has its reply too.
     pub run-whole : (n : ℕ) → r ≡ At n → Runs input (old .log) (record { whole = true; used = f .used; written = n }) (new .log) out last

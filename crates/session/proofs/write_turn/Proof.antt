@@ -27,7 +27,7 @@ same-length c = search needs
 
 returns : tie.Need-returns
 unfolding numbersOf outcomeOf
-returns c = c .before .before .write-reply .ensures
+returns c = record { text = c .before .before .write-reply .ensures .0; short = c .before .before .write-reply .ensures .1 }
 
 pub write-turn-spec : {M : Type 1} → statement M
 write-turn-spec = tie.close (tie.spec slice-aggregate-write-reply slice-aggregate-write-reply-2 write-reply-requires same-length returns)

@@ -29,7 +29,7 @@ unfolding ended
 returns c =
     let a = c .before .before .before .before .before .before .before .before .before .before .args in
     let w = c .before .before .before .before .before .write-turn in
-    wrote-at (now (a .out)) (a .at) _ (w .result) _ (c .before .next .given .0 .0) (w .ensures .0) (c .before .next .given .1)
+    wrote-at (now (a .out)) (a .at) _ (w .result) _ (c .before .next .given .0 .0) (w .ensures .text) (c .before .next .given .1)
 
 same-length-2 : tie.Need-same-length-2
 same-length-2 c = search needs
@@ -38,9 +38,9 @@ returns-2 : tie.Need-returns-2
 returns-2 c =
     let e = c .before .before .before .before .before .before .before .before .before in
     let w = c .before .before .before .before .write-turn in
-    let short = wrote-not (now (e .args .out)) (e .args .at) _ (w .result) _ (w .ensures .0) (c .enum-told .given .1) .short in
+    let short = wrote-not (now (e .args .out)) (e .args .at) _ (w .result) _ (w .ensures .text) (c .enum-told .given .1) .short in
     let text = outcomeText (outcomeOf (replied (e .args .r) (now (e .args .first)) (now (e .args .second)))) in
-    absurd (omega (arith, short, end-size text, w .ensures .1, e .pre .1))
+    absurd (omega (arith, short, end-size text, w .ensures .short, e .pre .1))
 
 pub put-reply-spec : {M : Type 1} → statement M
 put-reply-spec =

@@ -26,7 +26,7 @@ returns c =
     let t = c .before .before .before .before .before .before .before .before .before .before .before .before in
     let e = t .before .before .before .before .before .before .before .before .before .before in
     answers (e .args .self) (lent (now (e .args .log)) (now (e .args .queued)) (now (e .args .done)) (now (e .args .book)) (now (e .args .first)) (now (e .args .second))) _ (t .turn .result) _ _ (now (e .args .out)) _
-    (t .turn .ensures) (c .before .before .write-turn .ensures .0)
+    (t .turn .ensures) (c .before .before .write-turn .ensures .text)
 
 pub answer-spec : {M : Type 1} → statement M
 answer-spec =
