@@ -1,6 +1,6 @@
 -- The reply of a restart, written.
 use Prim.Native.Nat.{ℕ}
-use mathlib.Core.Path.{_≡_, sym, ap, ap₂, subst, _∙_}
+use mathlib.Core.Path.{_≡_, sym, ap₂, subst, _∙_}
 use mathlib.Core.List.{List, []}
 use mathlib.Core.Option.{none}
 use lib.Seq.{take-nil}

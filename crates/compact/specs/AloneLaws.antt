@@ -1,24 +1,22 @@
 -- A slot's replies are a function of its own calls and of where its refusals 10 fell.
 use mathlib.Core.Path.{_≡_, refl, sym, ap, ap₂, _∙_, subst}
-use mathlib.Core.Logic.{_⊎_, inl, inr}
-use mathlib.Core.Bool.{Bool, true, false, cond, not, _||_}
+use mathlib.Core.Logic.{inl, inr}
+use mathlib.Core.Bool.{Bool, true, false, cond}
 use mathlib.Core.List.{List, [], _∷_, map}
 use mathlib.Core.Option.{Option, none, some}
 use Prim.Native.Nat.{ℕ, _<_}
 use native.Mathlib.Omega.{arith}
-use lib.Dec.{T, eqb, eqb→eq, ltb}
+use lib.Dec.{eqb, eqb→eq, ltb}
 use lib.ListN.{length}
-use Rattle.forms.specs.Lists.{keep}
 use Rattle.forms.specs.ListLaws.{true-T}
 use Rattle.forms.specs.Refusals.{numberOf}
 use Rattle.forms.specs.declared.Refusal.{Refusal}
 use Rattle.forms.specs.declared.Refusal.the-variants.{Unreadable, WrongCount, NoSuchHistory, HistoryTwice, OperandRange, NothingOrders, IdPending, AlreadyDone, ReadOvertaken, TableFull, WrongState, NoRoom, AboveLimit, OutOfTurn, BadLog, Conflict}
 use Rattle.rules.specs.Checks.{check}
 use Rattle.rules.specs.State.{State, Reply, refused, ok}
-use Rattle.rules.specs.Calls.{unless, openSite, restart, Call, step}
-use Rattle.rules.specs.When.{lastly, stepWhen}
+use Rattle.rules.specs.Calls.{restart}
 use Rattle.rules.specs.WhenLaws.{TenOr, step-ten, lastly-ten, unless-ten}
-use Rattle.compact.specs.Module.{slotLimit, Slot, Module, slotAt, withSlot, meetsTen, uncovered, keptLive, Move, At, Open, Restart, slotOf, callAt, replyOf, promiseOf, settleIn, nextOf}
+use Rattle.compact.specs.Module.{Slot, Module, slotAt, meetsTen, uncovered, keptLive, Move, At, Open, Restart, slotOf, callAt, replyOf, settleIn, nextOf}
 use Rattle.compact.specs.Fits.{at-with, length-with}
 use Rattle.compact.specs.ClaimLaws.{next-other, not-eq}
 use Rattle.compact.specs.Alone.{ownCalls, repliesOf, isTen, OnlyThroughTen, unflagged, settleSite, alone, RepliesAlone}

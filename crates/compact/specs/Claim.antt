@@ -1,7 +1,7 @@
 -- Request (m): what is claimed of the module beyond the rules. "So a module's neighbours can fill the rest and its profiles still return after a cut as before."
 use mathlib.Core.Path.{_≡_}
 use mathlib.Core.Bool.{Bool, true, not, cond}
-use mathlib.Core.List.{List, [], _∷_, _++_, map}
+use mathlib.Core.List.{List, [], _∷_, _++_}
 use mathlib.Core.Option.{Option, none, some}
 use Prim.Native.Nat.{ℕ}
 use lib.Dec.{T, eqb}
@@ -12,7 +12,7 @@ use Rattle.rules.specs.Calls.{opened, Call}
 use Rattle.recovery.specs.Claim.{Start, lostBy, Recovered}
 use Rattle.recovery.specs.Arrival.{every, SameWork, AllThree}
 use Rattle.recovery.specs.Host.{Host, runIn, countedIn, cameIn, FairIn, AskedIn}
-use Rattle.compact.specs.Module.{Slot, Module, slotAt, Move, At, Open, Restart, replyOf, nextOf}
+use Rattle.compact.specs.Module.{Module, slotAt, Move, At, Open, Restart, replyOf, nextOf}
 use Rattle.compact.specs.Fits.{Fits}
 
 -- ### A slot's site in the module

@@ -1,35 +1,30 @@
 -- The recovery claim for each slot, proved: the module plays by the rules of a host, and keeps room for the lost lines.
 use mathlib.Core.Path.{_≡_, refl, sym, ap, ap₂, _∙_, subst}
 use mathlib.Core.Logic.{_⊎_, inl, inr}
-use mathlib.Core.Bool.{Bool, true, false, cond, not, _&&_, _||_}
+use mathlib.Core.Bool.{Bool, true, false, cond, _&&_}
 use mathlib.Core.List.{List, [], _∷_, _++_, append-assoc}
 use mathlib.Core.List.{List·Memᴰ as Mem}
 use mathlib.Core.Option.{Option, none, some}
-use Prim.Native.Nat.{ℕ, _+_, _≤_, _<_}
+use Prim.Native.Nat.{ℕ, _≤_}
 use native.Mathlib.Omega.{arith}
 use lib.Dec.{T, T-not, eqb, eqb→eq, eqb-refl, ltb}
-use lib.ListN.{length, drop, length-drop}
 use Rattle.forms.specs.Lists.{all}
-use Rattle.forms.specs.ListLaws.{T-true, true-T, false-T, T-false, and-intro, and-left, and-right}
+use Rattle.forms.specs.ListLaws.{T-true, true-T, false-T, and-intro, and-left, and-right}
 use Rattle.forms.specs.Forms.{Did, didText, Answer}
-use Rattle.forms.specs.declared.Refusal.{Refusal}
 use Rattle.forms.specs.declared.Refusal.the-variants.{OutOfTurn, TableFull}
-use Rattle.rules.specs.State.{State, Reply, refused, ok, settle, live, liveDone}
-use Rattle.rules.specs.Calls.{openSite, Call, Add, Finish, Withdraw, Persistent, Stable, Show, Cut, Redo, End, step}
+use Rattle.rules.specs.State.{State, Reply, refused, ok, settle, live}
+use Rattle.rules.specs.Calls.{Call, Add, Finish, Withdraw, Persistent, Stable, Show, Cut, Redo, End, step}
 use Rattle.rules.specs.When.{stepWhen}
 use Rattle.rules.specs.WhenLaws.{step-ten}
-use Rattle.rules.specs.Good.{Good}
-use Rattle.rules.specs.CheckLaws.{refused-not-ok, unless-check, or-false-right}
-use Rattle.recovery.specs.Claim.{Start, lostBy, Recovered}
-use Rattle.recovery.specs.Counted.{counted-start}
-use Rattle.recovery.specs.Recovery.{start-good, marked-kept}
+use Rattle.rules.specs.CheckLaws.{unless-check, or-false-right}
+use Rattle.recovery.specs.Claim.{Start, lostBy}
 use Rattle.recovery.specs.Arrival.{every}
 use Rattle.recovery.specs.ArrivalLaws.{all-three}
-use Rattle.recovery.specs.Host.{Host, Plays, runIn, Playing, countedIn, FairIn, AskedIn, Roomy, ListIn}
-use Rattle.recovery.specs.HostLaws.{run-append, playing-first, good-in, counted-in, never-ten, host-recovery, host-arrival}
-use Rattle.compact.specs.Module.{Slot, Module, slotAt, withSlot, liveOf, openedIn, meetsTen, promisedAgain, promiseAfter, Move, At, Open, Restart, slotOf, callAt, replyOf, promiseOf, settleIn, nextOf}
+use Rattle.recovery.specs.Host.{Host, Plays, runIn, Playing, Roomy, ListIn}
+use Rattle.recovery.specs.HostLaws.{run-append, never-ten, host-recovery, host-arrival}
+use Rattle.compact.specs.Module.{Slot, Module, slotAt, openedIn, meetsTen, promisedAgain, promiseAfter, Move, At, Open, Restart, slotOf, callAt, replyOf, promiseOf, settleIn, nextOf}
 use Rattle.compact.specs.Fits.{at-with, at-other, opened-below, Fits}
-use Rattle.compact.specs.FitsLaws.{again, Again, slot-again, live-is, fits-next, promise-kept, call-is}
+use Rattle.compact.specs.FitsLaws.{Again, slot-again, live-is, fits-next, promise-kept}
 use Rattle.compact.specs.Claim.{siteOr, ownOf, inSlot, goesOn, SlotList, beforeCut, atEnd, SlotClaim, SlotArrival, SlotOrders}
 
 -- ### Another slot's call

@@ -2,12 +2,10 @@
 use mathlib.Core.Path.{_≡_, refl}
 use mathlib.Core.Bool.{Bool, true, false}
 use mathlib.Core.List.{List, [], _∷_}
-use mathlib.Core.Option.{none, some}
-use Prim.Native.Nat.{ℕ, zero, suc, _-_}
-use lib.Dec.{leb, ltb, eqb}
-use lib.ListN.{length, drop}
+use mathlib.Core.Option.{some}
+use Prim.Native.Nat.{ℕ, zero, suc}
 use Rattle.rules.specs.State.{Operation, State, liveDone, live}
-use Rattle.compact.specs.Module.{Slot, unopened, Module, slotAt, others, liveOf, lacks, free, taken, uncovered, promisedAgain}
+use Rattle.compact.specs.Module.{Slot, unopened, slotAt, others, liveOf, lacks, free, taken, uncovered, promisedAgain}
 
 operations : ℕ → List Operation
 operations zero = []

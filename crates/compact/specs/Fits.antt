@@ -1,30 +1,20 @@
 -- The invariant of modules: what the sites have and are promised fits the table. Its laws: every call keeps it, and what follows for refusal 10.
 use mathlib.Core.Path.{_≡_, refl, sym, ap, _∙_, subst}
 use mathlib.Core.Logic.{_⊎_, inl, inr}
-use mathlib.Core.Bool.{Bool, true, false, cond, not, _||_}
-use mathlib.Core.List.{List, [], _∷_, _++_}
+use mathlib.Core.Bool.{false}
+use mathlib.Core.List.{[], _∷_}
 use mathlib.Core.List.{List·Memᴰ as Mem, List·Memᴰ·head as here, List·Memᴰ·tail as there, List·Memᴰ·not-nil, List·Memᴰ·cases-cons}
-use mathlib.Core.Option.{Option, none, some}
-use Prim.Native.Nat.{ℕ, zero, suc, _+_, _-_, _≤_, _<_, max}
+use mathlib.Core.Option.{some}
+use Prim.Native.Nat.{ℕ, zero, suc, _+_, _≤_, _<_, max}
 use native.Mathlib.Omega.{arith}
 use native.Mathlib.Nat.{not-suc-le-zero, le-of-suc-le-suc}
-use lib.Dec.{T, leb, ltb, eqb, leb→le, ltb→lt}
+use lib.Dec.{T, leb→le, ltb→lt}
 use lib.ListN.{length}
 use Rattle.forms.specs.Lists.{sum}
-use Rattle.forms.specs.ListLaws.{true-T, false-T, T-false, or-cases, T-true}
-use Rattle.forms.specs.Forms.{Answer}
-use Rattle.forms.specs.declared.Refusal.{Refusal}
-use Rattle.forms.specs.declared.Refusal.the-variants.{Unreadable, OutOfTurn, TableFull}
-use Rattle.rules.specs.Checks.{check}
-use Rattle.rules.specs.State.{State, Reply, refused, ok, liveLimit, live, settle}
-use Rattle.rules.specs.Calls.{unless, tableFull, openSite, restart, Call, Add, Finish, Withdraw, Persistent, Stable, Show, Cut, Redo, End, step}
-use Rattle.rules.specs.When.{lastly, stepWhen, meets}
-use Rattle.rules.specs.WhenLaws.{when-ok, ten-why, ten-met, lastly-ten, lastly-ok}
+use Rattle.rules.specs.State.{State, liveLimit}
 use Rattle.rules.specs.Good.{Good}
-use Rattle.rules.specs.GoodLaws.{good-step, good-open, good-restart}
-use Rattle.rules.specs.CheckLaws.{refused-not-ok, unless-ok, unless-check, not-lt, not-le, or-false-left, or-false-right}
-use Rattle.rules.specs.LiveLaws.{takes, live-step, live-cut, live-restarted, live-opened, restores, restoring-step, restoring-restarted, restoring-opened}
-use Rattle.compact.specs.Module.{slotLimit, entryLimit, least, Slot, unopened, Module, slotAt, withSlot, others, liveIn, restoringIn, openedIn, liveOf, lacks, free, taken, uncovered, keptLive, meetsTen, promisedAgain, promiseAfter, Move, At, Open, Restart, slotOf, readable, callAt, replyOf, promiseOf, settleIn, nextOf, made}
+use Rattle.rules.specs.CheckLaws.{not-lt, not-le}
+use Rattle.compact.specs.Module.{slotLimit, entryLimit, least, Slot, unopened, Module, slotAt, withSlot, others, restoringIn, liveOf, lacks, free, taken, uncovered, made}
 
 -- ### Slots in a list
 

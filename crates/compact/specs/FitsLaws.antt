@@ -1,30 +1,29 @@
 -- Every call of the module keeps the invariant; and what it says of refusal 10.
 use mathlib.Core.Path.{_≡_, refl, sym, ap, _∙_, subst}
 use mathlib.Core.Logic.{_⊎_, inl, inr}
-use mathlib.Core.Bool.{Bool, true, false, cond, not, _||_}
+use mathlib.Core.Bool.{Bool, true, false}
 use mathlib.Core.List.{List, [], _∷_}
 use mathlib.Core.Option.{Option, none, some}
 use Prim.Native.Nat.{ℕ, _+_, _≤_, _<_, max}
 use native.Mathlib.Omega.{arith}
-use lib.Dec.{T, leb, leb→le, ltb}
+use lib.Dec.{T, leb→le, ltb}
 use lib.ListN.{length, take}
 use Rattle.forms.specs.Lists.{sum}
-use Rattle.forms.specs.ListLaws.{true-T, false-T, T-false, or-cases, or-left}
+use Rattle.forms.specs.ListLaws.{false-T, T-false, or-cases, or-left}
 use Rattle.forms.specs.Forms.{Answer}
 use Rattle.forms.specs.Refusals.{numberOf}
-use Rattle.forms.specs.declared.Refusal.{Refusal}
-use Rattle.forms.specs.declared.Refusal.the-variants.{Unreadable, AboveLimit, OutOfTurn, TableFull}
+use Rattle.forms.specs.declared.Refusal.the-variants.{AboveLimit, OutOfTurn, TableFull}
 use Rattle.rules.specs.Checks.{check}
 use Rattle.rules.specs.Log.{readLog}
 use Rattle.rules.specs.State.{State, Reply, refused, ok, liveLimit, live, settle}
-use Rattle.rules.specs.Calls.{unless, tableFull, openSite, restart, Call, Add, Finish, Withdraw, Persistent, Stable, Show, Cut, Redo, End, step}
+use Rattle.rules.specs.Calls.{unless, tableFull, restart, Call, Add, Finish, Withdraw, Persistent, Stable, Show, Cut, Redo, End, step}
 use Rattle.rules.specs.When.{lastly, stepWhen, meets}
 use Rattle.rules.specs.WhenLaws.{when-ok, ten-why, ten-met, lastly-ten, lastly-ok, lastly-why, restart-not-ten, unless-over, unless-not-ten, check-not-ten, none-not-ten, isTenth, differs, refused-same}
 use Rattle.rules.specs.Good.{Good}
 use Rattle.rules.specs.GoodLaws.{good-step, good-open, good-restart}
-use Rattle.rules.specs.CheckLaws.{refused-not-ok, unless-ok, unless-check, not-lt, or-false-left, or-false-right}
-use Rattle.rules.specs.LiveLaws.{takes, live-step, live-cut, live-restarted, live-opened, restores, restoring-step, restoring-restarted, restoring-opened}
-use Rattle.compact.specs.Module.{slotLimit, entryLimit, least, Slot, Module, slotAt, withSlot, others, liveIn, restoringIn, openedIn, liveOf, taken, uncovered, keptLive, meetsTen, promisedAgain, promiseAfter, Move, At, Open, Restart, slotOf, readable, callAt, replyOf, promiseOf, settleIn, nextOf, runAll}
+use Rattle.rules.specs.CheckLaws.{refused-not-ok, unless-ok, unless-check, not-lt, or-false-left}
+use Rattle.rules.specs.LiveLaws.{takes, live-step, live-cut, live-restarted, live-opened, restores, restoring-step, restoring-restarted}
+use Rattle.compact.specs.Module.{slotLimit, entryLimit, least, Slot, Module, slotAt, withSlot, others, liveIn, restoringIn, openedIn, liveOf, taken, uncovered, keptLive, meetsTen, promisedAgain, promiseAfter, Move, At, Open, Restart, slotOf, callAt, replyOf, promiseOf, settleIn, nextOf, runAll}
 use Rattle.compact.specs.Fits.{claims, GoodSlot, Fits, opened-below, parted, taken-is, not-taken, uncovered-is, covered, fits-with, mine}
 
 -- ### The promise after a cut or restart

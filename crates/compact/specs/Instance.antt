@@ -1,38 +1,36 @@
 -- The claim of the module is not empty: a list of calls of two slots that does what it asks of slot 0.
-use mathlib.Core.Path.{_≡_, refl, sym, ap, _∙_, subst}
+use mathlib.Core.Path.{_≡_, refl, sym, ap, _∙_}
 use mathlib.Core.Logic.{_⊎_, inl, inr}
-use mathlib.Core.Bool.{Bool, true, false, not, cond}
 use mathlib.Core.List.{List, [], _∷_, _++_, head-eq-of-cons-eq, tail-eq-of-cons-eq, nil≢cons}
 use mathlib.Core.List.{List·Memᴰ as Mem, List·Memᴰ·head as here, List·Memᴰ·not-nil, List·Memᴰ·cases-cons}
-use mathlib.Core.Option.{Option, none, some}
-use Prim.Native.Nat.{ℕ, _≤_}
+use mathlib.Core.Option.{none, some}
+use Prim.Native.Nat.{ℕ}
 use native.Mathlib.Omega.{arith}
-use lib.Dec.{T, eqb}
-use lib.ListN.{length, take}
+use lib.ListN.{take}
 use Rattle.forms.specs.Lists.{below}
 use Rattle.forms.specs.ListLaws.{mem-along}
-use Rattle.forms.specs.Words.{bytes, word}
+use Rattle.forms.specs.Words.{word}
 use Rattle.forms.specs.Decimal.{digitsWithin, digits, more, number}
-use Rattle.forms.specs.Forms.{Update, Change, Did, Answer, Opened, Restarted, fieldText, fieldsText, itemsText, tailText, listText, changeText, oneText, siteText, didText}
+use Rattle.forms.specs.Forms.{Update, Did, Opened, Restarted, fieldText, fieldsText, itemsText, tailText, listText, changeText, oneText, siteText, didText}
 use Rattle.forms.specs.Reading as reading
 use Rattle.forms.specs.Reading.{readDid, readSite, readWhole}
 use Rattle.forms.specs.declared.Rule.the-variants.{Inc}
 use Rattle.forms.specs.declared.DoneRule.the-variants.{DidInc}
 use Rattle.rules.specs.Rules.{replaced}
-use Rattle.rules.specs.Book.{Cell, entered, enter, enterAll, cellFrom, cell, touches, runsAt, canRun}
+use Rattle.rules.specs.Book.{entered, enter, enterAll, cellFrom, cell, touches, runsAt, canRun}
 use Rattle.rules.specs.Checks.{check, andThen, wrongCount, noSuchHistory, historyTwice, updateMisfits, changeMisfits, formRefusal, updatesRefusal, changesRefusal}
 use Rattle.rules.specs.Log.{ended, didsText, logText, linesFrom, restFrom, historiesFit, accepts, readLines, readFirst, readLog}
 use Rattle.rules.specs.State.{State, ok, logBytes, versionAt, liveDone, live, asks, dry, becameDry, rose, lineBytes, settle}
 use Rattle.rules.specs.Calls.{Call, Add, Finish, Cut, Redo, End, unless, openFull, openRefusal, opened, openSite, blockedBy, blocked, mayRunNow, ready, attempt, tryFrom, madeReady, nothingOrders, idPending, idDone, alreadyDone, readOvertaken, tableFull, addRefusal, arrived, add, changeOf, lineOf, valuesAfter, inProgress, future, without, logFull, finished, finishFound, finish, restarted, restartAs, restart, cutAbove, cut, stale, redoRefusal, behind, pick, drain, delivered, redoRead, redo, writableUpdate, writable, perform, step}
 use Rattle.rules.specs.When.{addWhen, redoReadWhen, redoWhen, lastly, cutWhen, performWhen, stepWhen}
-use Rattle.recovery.specs.Claim.{Start, justOpened, countedAfter, lostBy, Comes, comesAfter, Recovered}
+use Rattle.recovery.specs.Claim.{justOpened, countedAfter, lostBy, comesAfter}
 use Rattle.recovery.specs.Arrival.{every, SameWork}
-use Rattle.recovery.specs.Host.{runIn, countedIn, cameIn, FairIn, AskedIn}
-use Rattle.compact.specs.Module.{Slot, Module, slotAt, withSlot, others, liveOf, lacks, free, taken, uncovered, meetsTen, promisedAgain, Move, At, Open, Restart, replyOf, promiseOf, nextOf, made}
-use Rattle.compact.specs.Fits.{Fits, fits-made}
+use Rattle.recovery.specs.Host.{runIn, countedIn, cameIn}
+use Rattle.compact.specs.Module.{Module, slotAt, withSlot, others, liveOf, lacks, free, taken, uncovered, meetsTen, promisedAgain, Move, At, Open, replyOf, promiseOf, nextOf, made}
+use Rattle.compact.specs.Fits.{fits-made}
 use Rattle.compact.specs.FitsLaws.{fits-next}
 use Rattle.compact.specs.Claim.{siteOr, inSlot, SlotList, beforeCut, atEnd}
-use Rattle.compact.specs.ClaimLaws.{slot-recovery, slot-arrival}
+use Rattle.compact.specs.ClaimLaws.{slot-arrival}
 
 abbrev raise : List Update
 raise = record { rule = Inc; history = 0; version = 1; operand = 7 } ∷ []

@@ -1,13 +1,11 @@
 -- Request (m) of document 02, "Four modules, one table": the compact module, each rule with the paper's sentence.
-use mathlib.Core.Bool.{Bool, true, false, cond, not, _&&_, _||_}
+use mathlib.Core.Bool.{Bool, true, false, cond, not, _||_}
 use mathlib.Core.List.{List, [], _∷_}
 use mathlib.Core.Option.{Option, none, some}
 use Prim.Native.Nat.{ℕ, zero, suc, _+_, _-_, max}
-use lib.Dec.{leb, ltb, eqb}
-use Rattle.forms.specs.Decimal.{Step}
+use lib.Dec.{leb, ltb}
 use Rattle.forms.specs.Decimal.Step.{got, bad}
 use Rattle.forms.specs.Lists.{sum}
-use Rattle.forms.specs.Forms.{Did, Answer}
 use Rattle.forms.specs.Reading.{readDid}
 use Rattle.forms.specs.declared.Refusal.the-variants.{Unreadable, OutOfTurn}
 use Rattle.rules.specs.Checks.{check}

@@ -1,10 +1,10 @@
 -- One part of a profile replaced by shift and mask is the stated sum.
 use Prim.Native.Nat.{ℕ, zero, suc, _+_, _-_, _*_, _/_, _%_, _^_, _≤_, _<_}
-use native.Mathlib.Nat.{div-add-mod', zero-mul, zero-add, mod-lt, lt-of-lt-of-le, lt-of-le-of-lt}
+use native.Mathlib.Nat.{div-add-mod', zero-mul, zero-add, mod-lt}
 use native.Mathlib.Omega.{arith}
 use mathlib.Core.Path.{_≡_, refl, sym, ap, ap₂, _∙_}
 use lib.Bits.{bitAnd, bitOr, and-block, and-mask, or-block, or-zero-r, or-shifted-r}
-use lib.Pow.{pow-pos, pow-mono, ones-lt, shr-shr, shr-mod, mod-mod-pow, mod-pow-add}
+use lib.Pow.{shr-shr, shr-mod, mod-mod-pow, mod-pow-add}
 use Rattle.rules.specs.Rules.{replaced, partAfter, part}
 
 -- at a part of k bits below and j bits above

@@ -4,15 +4,13 @@ use mathlib.Core.Path.{_≡_, refl, sym, ap, ap₂, subst, _∙_}
 use mathlib.Core.Bool.{Bool, true, false, _&&_, _||_, not, or-true}
 use mathlib.Core.List.{List, [], _∷_, _++_, map, map-append}
 use mathlib.Core.Option.{Option, none, some}
-use mathlib.Core.Logic.{_⊎_, inl, inr}
 use native.Mathlib.Omega.{arith}
 use native.Mathlib.Numerals.{add-one}
-use borrow.Author.Tests.{eq-eqb, ne-eqb, eqb-true, eqb-false, lt-ltb, le-ltb, ltb-true, ltb-false, leb-true, leb-false, not-true, not-false}
+use borrow.Author.Tests.{eq-eqb, ne-eqb, eqb-true, eqb-false, lt-ltb, le-ltb, ltb-false, leb-true, leb-false, not-false}
 use lib.Dec.{leb, ltb, eqb}
 use lib.ListN.{length, getD, take, drop, length-map, List·getD-map}
 use lib.Seq.{take-suc}
-use Rattle.forms.specs.Words.{true-or-false}
-use Rattle.forms.specs.Lists.{all, any}
+use Rattle.forms.specs.Lists.{any}
 use Rattle.forms.specs.Forms.{Update, Change, Did}
 use Rattle.forms.specs.Held.{asUpdate, asAsked, asChange, asDone, noUpdate, noChange, firstFour, heldUpdates, heldChanges, heldDid, updatesOf, changesOf, didOf}
 use Rattle.forms.specs.declared.Asked.{Asked}
@@ -32,7 +30,6 @@ use Rattle.rules.specs.State.{Operation}
 use Rattle.rules.specs.Calls.{nothingOrders}
 use Rattle.history.specs.declared.Item.{Item}
 use Rattle.history.specs.declared.AskedTest.the-variants.{Absent, In, Misfits, Strong, Orders}
-use Rattle.history.specs.declared.Verdict.{Verdict}
 use Rattle.history.specs.declared.Verdict.the-variants.{Passes, Refused}
 use Rattle.history.specs.Asking.{verdictOf, askedTest, asked, noAsked, noDone, changeUpdate, updateItem, changeItem, UsableUpdate, UsableHeld, UsableDid, Enters, EntersDid}
 use Rattle.history.specs.Entries.{itemUpdate, itemChange, operationOf, didOfEntry, UsableItem}

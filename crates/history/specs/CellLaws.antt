@@ -1,22 +1,21 @@
 -- Laws of tests and effects on cells: from arrays to the log, and from one book to another.
-use Prim.Native.Nat.{ℕ, zero, suc, _+_, _-_, _≤_, _<_, _^_}
-use mathlib.Core.Path.{_≡_, refl, sym, ap, ap₂, subst, _∙_}
-use mathlib.Core.Bool.{Bool, true, false, cond, _&&_, _||_, not}
+use Prim.Native.Nat.{ℕ, _+_, _≤_, _<_}
+use mathlib.Core.Path.{_≡_, refl, sym, ap, ap₂, _∙_}
+use mathlib.Core.Bool.{Bool, true, false, cond, _&&_, not}
 use mathlib.Core.List.{List, [], _∷_, _++_, map, map-append}
-use mathlib.Core.List.{List·Memᴰ as Mem, List·Memᴰ·head as here, List·Memᴰ·tail as there}
 use native.Mathlib.Omega.{arith}
 use native.Mathlib.Numerals.{add-one}
-use borrow.Author.Tests.{eq-eqb, ne-eqb, eqb-true, eqb-false}
+use borrow.Author.Tests.{eqb-true, eqb-false}
 use lib.Dec.{leb, ltb, eqb}
 use lib.ListN.{length, getD, take, set, length-map, length-take}
 use lib.Seq.{take-suc, getD-set-same, getD-set-other}
-use Rattle.forms.specs.Lists.{all, any}
+use Rattle.forms.specs.Lists.{any}
 use Rattle.forms.specs.Forms.{Update, Change, Did}
 use Rattle.forms.specs.declared.Rule.{Rule}
 use Rattle.forms.specs.declared.Rule.the-variants.{Inc, Set, Not, Unk}
 use Rattle.forms.specs.declared.DoneRule.{DoneRule}
 use Rattle.forms.specs.declared.DoneRule.the-variants.{DidInc, DidSet, DidNot}
-use Rattle.rules.specs.Rules.{strong, ordered, loggedAs, versionAfter, profileAfter}
+use Rattle.rules.specs.Rules.{strong, ordered, loggedAs, profileAfter}
 use Rattle.rules.specs.Book.{Cell, cell, entered, enter, enterAll, runsAt, canRun}
 use Rattle.rules.specs.State.{Operation, State}
 use Rattle.rules.specs.Calls.{mayRunNow, stale, alreadyDone, readOvertaken, changeOf, lineOf, valuesAfter}
@@ -24,9 +23,9 @@ use Rattle.history.specs.declared.History.{History}
 use Rattle.history.specs.declared.Item.{Item}
 use Rattle.history.specs.declared.Entry.{Entry}
 use Rattle.history.specs.declared.ItemTest.the-variants.{Waits, Stale, Ran, Overtaken}
-use Rattle.history.specs.Entries.{noHistory, cellOf, cellsOf, noItem, itemUpdate, itemChange, itemsOf, operationOf, didOfEntry, UsableItem, UsableEntry, canRunIn, mayRunIn}
+use Rattle.history.specs.Entries.{noHistory, cellOf, cellsOf, noItem, itemUpdate, itemChange, itemsOf, operationOf, didOfEntry, canRunIn, mayRunIn}
 use Rattle.history.specs.Cells.{itemTest, testIn, staleIn, alreadyDoneIn, readOvertakenIn, changeIn, lineIn, valuesIn, LowPlaces}
-use Rattle.history.specs.Tests.{none-fails, all-map, any-map, all-agree, any-agree}
+use Rattle.history.specs.Tests.{none-fails, all-map, any-map}
 
 -- ### The book of a log
 

@@ -1,8 +1,8 @@
 -- 01's log of 71 bytes, listed: computed from the definitions.
 use Prim.Native.Nat.{ℕ}
 use mathlib.Core.Path.{_≡_, refl}
-use mathlib.Core.List.{List, _++_}
-use Rattle.forms.specs.Words.{bytes, word}
+use mathlib.Core.List.{List}
+use Rattle.forms.specs.Words.{bytes}
 use Rattle.forms.specs.Decimal.{digitsWithin, digits}
 use Rattle.rules.specs.Log.{ended}
 use Rattle.print_log.specs.Listing.{lengthLine, shown, listingFrom, listing}

@@ -1,6 +1,6 @@
 -- Request (n), proved: one delivery by the recovery claim's own invariant, and two by one each.
 use mathlib.Core.Path.{_≡_, refl, sym, ap, _∙_, subst}
-use mathlib.Core.Logic.{_⊎_, inl, inr, _↔_}
+use mathlib.Core.Logic.{_⊎_, inl, inr}
 use mathlib.Core.Bool.{Bool, true, false, cond}
 use mathlib.Core.List.{List, [], _∷_, _++_, List·Permᴰ as Perm, List·Permᴰ·nil as perm-nil, List·Permᴰ·cons as perm-cons, List·Permᴰ·trans as perm-trans, Permᴰ·middle, Permᴰ·symm, Permᴰ·append-left, nil≢cons, head-eq-of-cons-eq, tail-eq-of-cons-eq}
 use mathlib.Core.List.{List·Memᴰ as Mem, List·Memᴰ·head as here, List·Memᴰ·tail as there, List·Memᴰ·not-nil, List·Memᴰ·cases-cons, Memᴰ·cast}
@@ -12,14 +12,14 @@ use Rattle.forms.specs.Forms.{Did, didText}
 use Rattle.rules.specs.Book.{touches}
 use Rattle.rules.specs.BookLaws.{proj, proj-mid}
 use Rattle.rules.specs.State.{State}
-use Rattle.rules.specs.Calls.{Call, Cut}
+use Rattle.rules.specs.Calls.{Cut}
 use Rattle.rules.specs.Run.{run}
 use Rattle.recovery.specs.Claim.{lostBy, shares, Closed, Comes, came}
 use Rattle.recovery.specs.Invariant.{Setting, Inv, nodup-first}
 use Rattle.recovery.specs.Ending.{shares-at, closed-every, closed-ran, just-all, book-proj}
 use Rattle.recovery.specs.Steps.{Picked, setting, Site, site-nodup}
 use Rattle.recovery.specs.Recovery.{Cutting, upTo, K, L, C, P, at-end}
-use Rattle.recovery.specs.Arrival.{StandsBefore, SameWork, every, Delivery, logBefore, logAtEnd, ArrivalClaim, AllThree, OrdersClaim}
+use Rattle.recovery.specs.Arrival.{StandsBefore, SameWork, every, logBefore, logAtEnd, ArrivalClaim, AllThree, OrdersClaim}
 
 -- ### Lists
 

@@ -1,5 +1,5 @@
 -- A site alone with refusals 10 from outside: the recovery claim over lists of calls with flags, "10 is met here".
-use mathlib.Core.Path.{_≡_, refl}
+use mathlib.Core.Path.{refl}
 use mathlib.Core.Bool.{Bool}
 use mathlib.Core.List.{List, [], _∷_}
 use mathlib.Core.Option.{some}

@@ -7,24 +7,22 @@ use mathlib.Core.List.{List·Memᴰ as Mem, Memᴰ·append-right}
 use mathlib.Core.Option.{Option, none, some}
 use Prim.Native.Nat.{ℕ, _≤_, _<_}
 use native.Mathlib.Omega.{arith}
-use lib.Dec.{T}
 use lib.ListN.{length, length-drop}
 use Rattle.forms.specs.ListLaws.{mem-along}
-use Rattle.forms.specs.Forms.{Did, didText, Answer}
-use Rattle.forms.specs.declared.Refusal.{Refusal}
+use Rattle.forms.specs.Forms.{Did, didText}
 use Rattle.forms.specs.declared.Refusal.the-variants.{TableFull}
 use Rattle.rules.specs.State.{State, Reply, refused, ok, settle, live, liveDone}
 use Rattle.rules.specs.Calls.{Call, Add, Finish, Withdraw, Persistent, Stable, Show, Cut, Redo, End, step}
 use Rattle.rules.specs.CheckLaws.{refused-not-ok}
 use Rattle.rules.specs.Good.{Good}
 use Rattle.rules.specs.GoodLaws.{good-step}
-use Rattle.recovery.specs.Claim.{Start, countedAfter, lostBy, comesAfter, Recovered}
+use Rattle.recovery.specs.Claim.{countedAfter, lostBy, comesAfter, Recovered}
 use Rattle.recovery.specs.Steps.{Picked, Site, Obeys, step-keeps, fresh-below, redo-full}
 use Rattle.recovery.specs.Counted.{counted-start, counted-step}
 use Rattle.recovery.specs.Recovery.{start-good, picked, marked-kept, Cutting, cutting, cut-site, ending}
 use Rattle.recovery.specs.Arrival.{every, SameWork}
 use Rattle.recovery.specs.ArrivalLaws.{work-done}
-use Rattle.recovery.specs.Host.{Host, Plays, runIn, Playing, countedOn, countedIn, cameOn, cameIn, FairIn, AskedIn, Roomy, ListIn, beforeCut, atEnd, HostClaim, HostArrival}
+use Rattle.recovery.specs.Host.{Host, Plays, runIn, Playing, countedOn, countedIn, cameOn, cameIn, ListIn, beforeCut, atEnd, HostClaim, HostArrival}
 
 -- The lines that a cut loses were live, where it keeps the persistent ones.
 lost-live : (before after : State) → Good before → before .persistentTo ≤ length (after .log) → length (lostBy before after) ≤ live before

@@ -1,25 +1,24 @@
 -- The words of Host are those of Claim: for a site alone HostClaim is 01's claim.
-use mathlib.Core.Path.{_≡_, refl, sym, ap, ap₂, _∙_, subst}
+use mathlib.Core.Path.{_≡_, refl, sym, ap, _∙_, subst}
 use mathlib.Core.Logic.{inr}
-use mathlib.Core.Bool.{Bool, false}
+use mathlib.Core.Bool.{false}
 use mathlib.Core.List.{List, [], _∷_, _++_}
 use mathlib.Core.List.{List·Memᴰ as Mem}
 use mathlib.Core.Option.{some}
 use Prim.Native.Nat.{ℕ, _≤_, _<_}
 use native.Mathlib.Omega.{arith}
 use lib.Dec.{T, leb→le}
-use lib.ListN.{length}
-use Rattle.forms.specs.Forms.{Did, Answer}
+use Rattle.forms.specs.Forms.{Did}
 use Rattle.forms.specs.declared.Refusal.the-variants.{TableFull}
 use Rattle.rules.specs.State.{State, Reply, refused, ok, settle, liveLimit, live}
 use Rattle.rules.specs.Calls.{tableFull, Call, Cut, Redo, End, step}
 use Rattle.rules.specs.WhenLaws.{step-off, ten-why}
 use Rattle.rules.specs.Run.{run}
 use Rattle.rules.specs.GoodLaws.{good-run}
-use Rattle.recovery.specs.Claim.{Start, countedAfter, counted, Fair, lostBy, comesAfter, cameFrom, came, Asked, Comes, Recovered, RecoveryClaim}
+use Rattle.recovery.specs.Claim.{countedAfter, counted, Fair, lostBy, comesAfter, cameFrom, came, Comes, Recovered, RecoveryClaim}
 use Rattle.recovery.specs.Recovery.{start-good}
 use Rattle.recovery.specs.HostLaws.{host-recovery}
-use Rattle.recovery.specs.Host.{Host, runIn, Playing, countedIn, cameIn, FairIn, AskedIn, Roomy, ListIn, HostClaim}
+use Rattle.recovery.specs.Host.{Host, runIn, Playing, countedIn, cameIn, FairIn, ListIn, HostClaim}
 
 -- a site alone
 abbrev pub lone : Host

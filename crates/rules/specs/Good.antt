@@ -1,6 +1,6 @@
 -- The invariant of states: what holds of every site that calls reach. Its laws are that opening and restart give it and every call keeps it.
 use mathlib.Core.Path.{_≡_}
-use mathlib.Core.Bool.{Bool, true, false, not}
+use mathlib.Core.Bool.{true, false}
 use mathlib.Core.List.{List, [], _∷_, _++_, map}
 use mathlib.Core.List.{List·Memᴰ as Mem}
 use mathlib.Core.Option.{none}
@@ -14,7 +14,7 @@ use Rattle.forms.specs.Forms.{Update, Did}
 use Rattle.forms.specs.Writable.{WritableDid}
 use Rattle.rules.specs.Book.{canRun}
 use Rattle.rules.specs.Checks.{updatesRefusal, changesRefusal}
-use Rattle.rules.specs.Log.{historiesFit, accepts}
+use Rattle.rules.specs.Log.{historiesFit}
 use Rattle.rules.specs.State.{Operation, State, liveLimit, logLimit, logBytes, liveDone, live, lineBytes}
 use Rattle.rules.specs.Calls.{mayRunNow, blocked, nothingOrders, writableUpdate}
 

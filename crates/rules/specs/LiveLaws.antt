@@ -1,21 +1,21 @@
 -- How many operations are live after a call.
-use mathlib.Core.Path.{_≡_, refl, sym, ap, _∙_, subst}
+use mathlib.Core.Path.{_≡_, refl, ap, subst}
 use mathlib.Core.Bool.{Bool, true, false, not}
 use mathlib.Core.List.{List, [], _∷_, _++_}
 use mathlib.Core.Option.{Option, none, some}
 use Prim.Native.Nat.{ℕ, suc, _+_, _≤_}
 use native.Mathlib.Omega.{arith}
-use lib.Dec.{T, T-not, eqb, eqb-refl}
-use lib.ListN.{length, length-append, length-drop, take, drop}
+use lib.Dec.{T-not, eqb, eqb-refl}
+use lib.ListN.{length, length-append, length-drop, take}
 use Rattle.forms.specs.Decimal.{Step}
 use Rattle.forms.specs.Decimal.Step.{got, bad}
 use Rattle.forms.specs.Lists.{find}
 use Rattle.forms.specs.ListLaws.{length-keep, length-keep-less}
-use Rattle.forms.specs.Forms.{Update, Did, Answer}
+use Rattle.forms.specs.Forms.{Did, Answer}
 use Rattle.forms.specs.Reading.{readDid}
 use Rattle.forms.specs.declared.Refusal.the-variants.{Unreadable, WrongState, NoRoom, AboveLimit, OutOfTurn, NoSuchHistory, BadLog}
 use Rattle.rules.specs.Log.{Journal, journal, noJournal, readLog}
-use Rattle.rules.specs.State.{Operation, State, Reply, refused, ok, logBytes, liveDone, live}
+use Rattle.rules.specs.State.{Operation, State, ok, logBytes, liveDone, live}
 use Rattle.rules.specs.Calls.{arrived, add, lineOf, inProgress, without, finished, finishFound, finish, withdraw, persistent, stable, show, restarted, restartAs, restart, cut, drain, delivered, redoRead, redo, end, Call, Add, Finish, Withdraw, Persistent, Stable, Show, Cut, Redo, End, perform, step, opened, openSite}
 use Rattle.rules.specs.Good.{Good}
 use Rattle.rules.specs.CheckLaws.{refused-not-ok, unless-ok, unless-check}

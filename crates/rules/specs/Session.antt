@@ -4,7 +4,7 @@ use mathlib.Core.Option.{Option, none, some}
 use Prim.Native.Nat.{ℕ}
 use Rattle.forms.specs.Decimal.{Step}
 use Rattle.forms.specs.Decimal.Step.{got, bad}
-use Rattle.forms.specs.Forms.{Command, Did, Outcome, Refused, Accepted, outcomeText, didText}
+use Rattle.forms.specs.Forms.{Command, Outcome, Refused, Accepted, outcomeText, didText}
 use Rattle.forms.specs.Reading.{readCommand}
 use Rattle.forms.specs.declared.Refusal.the-variants.{Unreadable, OutOfTurn}
 use Rattle.rules.specs.Log.{ended, linesOf, restOf}

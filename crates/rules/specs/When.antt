@@ -6,7 +6,7 @@ use Prim.Native.Nat.{ℕ}
 use lib.ListN.{take}
 use Rattle.forms.specs.Decimal.{Step}
 use Rattle.forms.specs.Decimal.Step.{got, bad}
-use Rattle.forms.specs.Forms.{Update, Did, Answer}
+use Rattle.forms.specs.Forms.{Update, Did}
 use Rattle.forms.specs.Reading.{readDid}
 use Rattle.forms.specs.declared.Refusal.the-variants.{Unreadable, TableFull, AboveLimit}
 use Rattle.rules.specs.Checks.{check}

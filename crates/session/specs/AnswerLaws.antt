@@ -12,8 +12,7 @@ use Rattle.forms.specs.declared.writer.Written.{Written}
 use Rattle.forms.specs.Write.{Writes, withEnd}
 use Rattle.session.specs.declared.Session.{Session}
 use Rattle.session.specs.declared.Turned.{Turned}
-use Rattle.session.specs.declared.Answered.{Answered}
-use Rattle.session.specs.Model.{viewIf, sessionView, ValidSession, Turns, Starts, Answers}
+use Rattle.session.specs.Model.{viewIf, Turns, Starts, Answers}
 
 -- A session that is not open is "before site".
 pub starts : (s : Session) → s .opened ≡ false → (bytes : Lent) → Starts s bytes

@@ -1,8 +1,8 @@
 -- Feeding an input in any chunks gives the same replies as feeding it whole.
 use Prim.Native.Nat.{ℕ}
-use mathlib.Core.Path.{_≡_, refl, sym, ap, ap₂, _∙_}
+use mathlib.Core.Path.{_≡_, refl, sym, ap, _∙_}
 use mathlib.Core.List.{List, [], _∷_, _++_, append-assoc, append-nil}
-use mathlib.Core.Option.{Option, none}
+use mathlib.Core.Option.{Option}
 use Rattle.forms.specs.Forms.{outcomeText}
 use Rattle.rules.specs.State.{State}
 use Rattle.rules.specs.Log.{ended, linesFrom, restFrom}

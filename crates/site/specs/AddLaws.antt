@@ -26,7 +26,7 @@ use Rattle.rules.specs.Calls.{add, addRefusal, arrived, nothingOrders, idPendin
 use Rattle.history.specs.declared.History.{History}
 use Rattle.history.specs.declared.Entry.{Entry}
 use Rattle.history.specs.declared.Verdict.{Verdict}
-use Rattle.history.specs.declared.Verdict.the-variants.{Passes, Refused}
+use Rattle.history.specs.declared.Verdict.the-variants.{Refused}
 use Rattle.history.specs.Asking.{verdictOf, UsableHeld, Enters}
 use Rattle.history.specs.AskingLaws.{usable-held}
 use Rattle.history.specs.Entries.{cellsOf, operationOf}
@@ -42,7 +42,7 @@ use Rattle.site.specs.ModelLaws.{Accepts, step-performs, accepts-step, s
 use Rattle.site.specs.QueueLaws.{withQueue, carries-queue}
 use Rattle.site.specs.ShowLaws.{count-most}
 use Rattle.site.specs.Seen.{Sees, conflicts}
-use Rattle.site.specs.SeenLaws.{live-is, passes-is}
+use Rattle.site.specs.SeenLaws.{live-is}
 
 -- the operation that an add brings
 abbrev pub asking : ℕ → List Update → Operation

@@ -1,21 +1,20 @@
 -- End against the rule book.
 use Prim.Native.Nat.{ℕ}
-use mathlib.Core.Path.{_≡_, refl, sym, ap, subst, _∙_}
-use mathlib.Core.Bool.{Bool, true, false, not}
+use mathlib.Core.Path.{_≡_, refl, ap, _∙_}
+use mathlib.Core.Bool.{true, false}
 use mathlib.Core.List.{List, [], _∷_, map}
-use lib.ListN.{take}
 use Rattle.forms.specs.Held.{outcomeWith, Numbers, listed}
 use Rattle.forms.specs.Forms.{Did, Ended}
 use Rattle.forms.specs.declared.ReplyForm.{ReplyForm}
 use Rattle.forms.specs.declared.Refusal.the-variants.{OutOfTurn}
 use Rattle.rules.specs.Checks.{check}
-use Rattle.rules.specs.State.{State, Reply, refused, ok, withRestoring, withWaiting}
+use Rattle.rules.specs.State.{refused, ok}
 use Rattle.rules.specs.Calls.{Call, unless, writable, perform, step, end}
 use Rattle.history.specs.declared.Entry.{Entry}
 use Rattle.history.specs.Entries.{didOfEntry, operationOf}
 use Rattle.table.specs.Lists.{IsNumbers}
 use Rattle.table.specs.Queues.{Queued, queueOf, IsQueue, idOf}
-use Rattle.site.specs.Whole.{Whole, stateOf, waitingIn, Carries, Sound}
+use Rattle.site.specs.Whole.{Whole, stateOf, Sound}
 use Rattle.site.specs.ModelLaws.{Accepts, step-performs, accepts-step, says-lists, means, means-none}
 use Rattle.site.specs.QueueLaws.{withQueue, withOpen, carries-queue}
 

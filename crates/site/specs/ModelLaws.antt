@@ -1,17 +1,17 @@
 -- The laws through which every call goes: what a site holds is its view, and so it is valid.
-use Prim.Native.Nat.{ℕ, _≤_}
+use Prim.Native.Nat.{ℕ}
 use native.Mathlib.Omega.{arith}
 use mathlib.Core.Path.{_≡_, refl, sym, ap, ap₂, subst, _∙_}
-use mathlib.Core.Bool.{Bool, true, false}
-use mathlib.Core.List.{List, [], map}
-use lib.ListN.{length, take, drop}
-use Rattle.forms.specs.Forms.{Did, Answer, Refused, Accepted}
+use mathlib.Core.Bool.{true}
+use mathlib.Core.List.{List, []}
+use lib.ListN.{take, drop}
+use Rattle.forms.specs.Forms.{Answer, Refused, Accepted}
 use Rattle.forms.specs.Held.{Numbers, listed, numbersOf, Replied, replied, outcomeWith, outcomeOf}
 use Rattle.rules.specs.LogLaws.{read-printed}
 use Rattle.rules.specs.GoodLaws.{good-step}
 use Rattle.forms.specs.declared.Refusal.{Refusal}
-use Rattle.rules.specs.Log.{Journal, journal, readLog, logText}
-use Rattle.rules.specs.State.{Operation, State, Reply, refused, ok, logBytes, settle}
+use Rattle.rules.specs.Log.{readLog}
+use Rattle.rules.specs.State.{State, Reply, refused, ok, logBytes, settle}
 use Rattle.rules.specs.Checks.{check}
 use Rattle.rules.specs.Calls.{Call, unless, writable, perform, step}
 use Rattle.rules.specs.Good.{Good}

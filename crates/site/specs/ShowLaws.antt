@@ -1,26 +1,23 @@
 -- Show against the rule book.
 use Prim.Native.Nat.{ℕ, _≤_, _<_}
 use native.Mathlib.Omega.{arith}
-use mathlib.Core.Path.{_≡_, refl, sym, ap, subst, _∙_}
-use mathlib.Core.Bool.{Bool, true, false}
+use mathlib.Core.Path.{_≡_, refl, sym, _∙_}
 use mathlib.Core.List.{List, []}
-use lib.Dec.{leb}
-use lib.ListN.{length, take, drop, getD}
+use lib.ListN.{getD}
 use borrow.Author.Tests.{le-leb, lt-leb}
 use Rattle.forms.specs.Decimal.{top}
 use Rattle.forms.specs.Held.{Replied, outcomeWith, listed}
 use Rattle.forms.specs.declared.ReplyForm.{ReplyForm}
-use Rattle.forms.specs.Forms.{Answer, Accepted, Shown}
+use Rattle.forms.specs.Forms.{Shown}
 use Rattle.forms.specs.declared.Refusal.the-variants.{NoSuchHistory}
 use Rattle.rules.specs.Checks.{check}
 use Rattle.rules.specs.Book.{cell}
-use Rattle.rules.specs.State.{State, Reply, refused, ok, versionAt}
+use Rattle.rules.specs.State.{State, refused, ok, versionAt}
 use Rattle.rules.specs.LogLaws.{histories-most}
 use Rattle.rules.specs.Calls.{Call, unless, writable, perform, step, show}
 use Rattle.history.specs.declared.History.{History}
 use Rattle.history.specs.Entries.{cellsOf, noHistory}
-use Rattle.site.specs.Whole.{Whole, stateOf, Carries, Holds, Sound}
-use Rattle.site.specs.declared.Called.{Called}
+use Rattle.site.specs.Whole.{Whole, stateOf, Carries, Sound}
 use Rattle.site.specs.ModelLaws.{Accepts, step-performs, accepts, says-lists, means-none}
 
 -- There are at most sixteen histories.

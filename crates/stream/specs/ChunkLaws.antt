@@ -12,7 +12,7 @@ use Rattle.session.specs.Feeding.{Progress, atStart, fed, fedAll, joined, Begin
 use Rattle.session.specs.FeedingLaws.{chunks, whole-input, fed-none}
 use Rattle.stream.specs.declared.Stream.{Stream}
 use Rattle.stream.specs.declared.Fed.{Fed}
-use Rattle.stream.specs.Model.{ValidStream, standing, StartsStream, Fronts, Comes, Feeds}
+use Rattle.stream.specs.Model.{ValidStream, standing, StartsStream, Fronts, Feeds}
 use Rattle.stream.specs.LineLaws.{some-line}
 
 -- ### Calls of feed

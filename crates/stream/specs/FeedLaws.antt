@@ -15,9 +15,8 @@ use Rattle.journal.specs.LineLaws.{take-line}
 use Rattle.site.specs.Model.{Lent, Printable}
 use Rattle.forms.specs.Write.{Wrote}
 use Rattle.session.specs.declared.Begun.{Begun}
-use Rattle.session.specs.declared.Session.{Session}
 use Rattle.session.specs.declared.Turned.{Turned}
-use Rattle.session.specs.Model.{sessionView, ValidSession, Turns}
+use Rattle.session.specs.Model.{sessionView, Turns}
 use Rattle.session.specs.Feeding.{Progress, fed, UsableBegun, Begins}
 use Rattle.session.specs.FeedingLaws.{fed-append, fed-none}
 use Rattle.stream.specs.declared.Stream.{Stream}

@@ -6,10 +6,10 @@ use native.Mathlib.Nat.{add-zero}
 use mathlib.Core.Path.{_≡_, refl, sym, ap, subst, _∙_}
 use mathlib.Core.Bool.{Bool, true, false}
 use mathlib.Core.List.{List, [], _∷_, _++_, append-assoc, append-nil}
-use lib.ListN.{length, take, drop, set, getD, replicate, length-append, length-set, length-replicate}
+use lib.ListN.{length, take, set, getD, replicate, length-append, length-set, length-replicate}
 use lib.Seq.{take-suc, take-suc-set, take-all, length-take-le}
 use Rattle.forms.specs.declared.Refusal.the-variants.{Unreadable}
-use Rattle.rules.specs.Session.{Turn, turn}
+use Rattle.rules.specs.Session.{turn}
 use Rattle.session.specs.declared.Begun.{Begun}
 use Rattle.session.specs.declared.Session.{Session}
 use Rattle.session.specs.declared.Turned.{Turned}

@@ -1,10 +1,10 @@
 -- The rule book's progress over an open part and over a line, and the buffer of replies.
-use Prim.Native.Nat.{ℕ, _+_, _-_, _≤_, _<_}
+use Prim.Native.Nat.{ℕ, _+_, _≤_}
 use native.Mathlib.Omega.{arith}
 use mathlib.Core.Path.{_≡_, refl, sym, ap, ap₂, subst, _∙_}
 use mathlib.Core.List.{List, [], _∷_, _++_, append-assoc, append-nil}
-use lib.ListN.{length, take, drop, length-append, length-drop, take-append-drop}
-use lib.Seq.{take-at, drop-append-add, drop-drop, take-all}
+use lib.ListN.{length, take, drop, length-append, length-drop}
+use lib.Seq.{take-at, drop-append-add, drop-drop}
 use Rattle.forms.specs.Forms.{outcomeText}
 use Rattle.rules.specs.Log.{ended, linesFrom}
 use Rattle.rules.specs.LineSplitLaws.{NoEnd, lines-from-open, rest-from-open}

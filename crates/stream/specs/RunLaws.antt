@@ -1,5 +1,5 @@
 -- The reply to an unended rest, and a whole input.
-use Prim.Native.Nat.{ℕ, _+_, _-_, _≤_, _<_}
+use Prim.Native.Nat.{ℕ, _+_, _≤_, _<_}
 use native.Mathlib.Omega.{arith}
 use native.Mathlib.Nat.{add-zero}
 use mathlib.Core.Path.{_≡_, refl, sym, ap, subst, _∙_}
@@ -9,7 +9,7 @@ use mathlib.Core.Option.{none}
 use lib.Dec.{leb}
 use lib.ListN.{length, take, drop, length-append, take-append-drop}
 use lib.Seq.{take-all, length-take-le}
-use borrow.Author.Tests.{le-leb, lt-leb, leb-true, leb-false}
+use borrow.Author.Tests.{leb-true, leb-false}
 use Rattle.forms.specs.Forms.{Refused, outcomeText}
 use Rattle.forms.specs.Held.{outcomeWith}
 use Rattle.forms.specs.declared.Refusal.the-variants.{Unreadable}
@@ -19,16 +19,15 @@ use Rattle.rules.specs.Session.{restReply, sessionIn}
 use Rattle.site.specs.Model.{Lent}
 use Rattle.session.specs.declared.Begun.{Begun}
 use Rattle.session.specs.declared.Session.{Session}
-use Rattle.session.specs.Model.{sessionView, Starts}
+use Rattle.session.specs.Model.{Starts}
 use Rattle.session.specs.Feeding.{Progress, atStart, fed, UsableBegun, Begins}
-use Rattle.forms.specs.Write.{placed, Wrote, Writes, WritesIf, withEnd}
+use Rattle.forms.specs.Write.{Wrote, Writes, WritesIf, withEnd}
 use Rattle.forms.specs.WriteLaws.{placed-none, writes-there, writes-not}
 use Rattle.forms.specs.declared.writer.Written.{Written}
 use Rattle.forms.specs.declared.writer.Written.the-variants.{At, NoRoom}
 use Rattle.stream.specs.declared.Stream.{Stream}
 use Rattle.stream.specs.declared.Fed.{Fed}
-use Rattle.stream.specs.declared.Ran.{Ran}
-use Rattle.stream.specs.Model.{ValidStream, standing, StartsStream, Fronts, Comes, Feeds, RunsWhole, RunsPart, Runs}
+use Rattle.stream.specs.Model.{StartsStream, Fronts, Comes, Feeds, Runs}
 use Rattle.stream.specs.Logging.{logged}
 use Rattle.stream.specs.LineLaws.{some-line, usable, over-is, held-is}
 use Rattle.stream.specs.ProgressLaws.{replied-grows, session-is, fronts-more, fronts-as}

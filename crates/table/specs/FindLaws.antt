@@ -1,13 +1,12 @@
 -- What a search of the queue says in the rule book's words: the operation found, the operations without it, the line picked.
-use Prim.Native.Nat.{ℕ, zero, suc, _+_, _≤_, _<_}
+use Prim.Native.Nat.{ℕ, suc, _+_, _<_}
 use native.Mathlib.Omega.{arith}
 use mathlib.Core.Path.{_≡_, refl, sym, ap, ap₂, subst, _∙_}
-use mathlib.Core.Logic.{_⊎_, inl, inr}
 use mathlib.Core.Bool.{Bool, true, false, cond, not, _&&_, _||_, or-true}
 use mathlib.Core.List.{List, [], _∷_, _++_, map, map-append}
 use mathlib.Core.List.{List·Memᴰ as Mem, Memᴰ·append-left, Memᴰ·append-right, Memᴰ·map}
-use mathlib.Core.Option.{Option, none, some}
-use borrow.Author.Tests.{eq-eqb, ne-eqb, eqb-true}
+use mathlib.Core.Option.{none, some}
+use borrow.Author.Tests.{ne-eqb, eqb-true}
 use lib.Dec.{eqb, T}
 use lib.ListN.{length, getD, take, drop}
 use lib.Seq.{split-at}

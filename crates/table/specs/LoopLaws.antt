@@ -4,11 +4,11 @@ use native.Mathlib.Numerals.{add-one}
 use native.Mathlib.Omega.{arith}
 use mathlib.Core.Path.{_≡_, refl, sym, ap, ap₂, subst, _∙_}
 use mathlib.Core.Logic.{_⊎_, inl, inr}
-use mathlib.Core.Bool.{Bool, true, false, cond, _&&_, _||_, or-true, or-false, or-assoc, and-true, and-false, and-assoc}
+use mathlib.Core.Bool.{Bool, true, false, cond, _&&_, _||_, or-false, or-assoc, and-false, and-assoc}
 use mathlib.Core.List.{List, [], _∷_, _++_, map, map-append}
 use mathlib.Core.List.{List·Memᴰ as Mem, List·Memᴰ·head as here, List·Memᴰ·tail as there, List·Memᴰ·cases-cons}
 use lib.ListN.{length, getD, take, drop, set, length-take, drop-of-length-le}
-use lib.Seq.{split-at, take-suc, take-take, getD-take, length-take-le, take-suc-set, take-nil, take-add, drop-at, drop-append-le}
+use lib.Seq.{take-suc, length-take-le, take-suc-set, take-nil, take-add, drop-at, drop-append-le}
 use Rattle.forms.specs.Lists.{any, all, keep, below}
 use Rattle.forms.specs.ListLaws.{mem-at, mem-along, mem-snoc, keep-append}
 use Rattle.history.specs.Tests.{take-split}

@@ -1,12 +1,12 @@
 -- Laws of the marks: what they say of the updates counted, and that they answer the rule book's "blocked".
-use Prim.Native.Nat.{ℕ, zero, suc, _+_, _≤_, _<_}
+use Prim.Native.Nat.{ℕ, _+_, _<_}
 use native.Mathlib.Omega.{arith}
-use mathlib.Core.Path.{_≡_, refl, sym, ap, ap₂, subst, fun-ext, _∙_}
-use mathlib.Core.Bool.{Bool, true, false, cond, not, _&&_, _||_, or-true, or-false, or-assoc, or-comm, and-true}
+use mathlib.Core.Path.{_≡_, refl, sym, ap, subst, fun-ext, _∙_}
+use mathlib.Core.Bool.{Bool, true, false, cond, not, _&&_, _||_, or-true, or-false, and-true}
 use mathlib.Core.List.{List, [], _∷_, _++_, map, append-assoc, append-nil}
 use lib.Dec.{eqb}
 use lib.ListN.{length, getD, take, set, replicate}
-use Rattle.forms.specs.Lists.{any, all}
+use Rattle.forms.specs.Lists.{any}
 use Rattle.forms.specs.Forms.{Update}
 use Rattle.forms.specs.declared.Rule.{Rule}
 use Rattle.forms.specs.declared.Rule.the-variants.{Inc, Set, Not, Unk}
@@ -15,13 +15,13 @@ use Rattle.rules.specs.State.{Operation, asks}
 use Rattle.rules.specs.Calls.{blockedBy, blocked}
 use Rattle.history.specs.declared.Item.{Item}
 use Rattle.history.specs.declared.Entry.{Entry}
-use Rattle.history.specs.Entries.{noItem, itemUpdate, itemsOf, operationOf, UsableEntry}
+use Rattle.history.specs.Entries.{noItem, itemUpdate, operationOf, UsableEntry}
 use Rattle.history.specs.Tests.{any-map}
 use Rattle.table.specs.declared.Marks.{Marks}
 use Rattle.table.specs.Arrays.{Says}
 use Rattle.table.specs.Queues.{pastEntry}
-use Rattle.table.specs.Tries.{gather, inHistory, strongIn, updatesOf, held, heldOf, Marked, More, freeBy, operationsOf}
-use Rattle.table.specs.LoopLaws.{take-next, any-append, any-snoc}
+use Rattle.table.specs.Tries.{gather, inHistory, strongIn, updatesOf, held, Marked, More, freeBy, operationsOf}
+use Rattle.table.specs.LoopLaws.{take-next, any-append}
 use Rattle.table.specs.ArrayLaws.{says-like, says-start, says-next, says-nothing}
 
 -- ### Lists one behind the other

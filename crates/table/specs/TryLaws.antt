@@ -1,11 +1,11 @@
 -- Laws of one pass over the future operations: the code's pass is the rule book's, whichever way its cells are had.
-use Prim.Native.Nat.{ℕ, zero, suc, _+_, _≤_, _<_}
+use Prim.Native.Nat.{ℕ, suc, _+_, _≤_, _<_}
 use native.Mathlib.Numerals.{add-one}
 use native.Mathlib.Omega.{arith}
 use mathlib.Core.Path.{_≡_, refl, sym, ap, ap₂, subst, _∙_}
 use mathlib.Core.Logic.{_⊎_, inl, inr}
 use mathlib.Core.Bool.{Bool, true, false, cond, not, _&&_, _||_, or-assoc, or-comm, and-not-self}
-use mathlib.Core.List.{List, [], _∷_, _++_, map, map-append, append-nil}
+use mathlib.Core.List.{List, [], _∷_, _++_, map-append, append-nil}
 use mathlib.Core.List.{List·Memᴰ as Mem, List·Memᴰ·head as here, List·Memᴰ·tail as there, List·Memᴰ·not-nil, List·Memᴰ·cases-cons}
 use lib.ListN.{length, getD, take, drop, set, length-set, length-map, length-take, drop-of-length-le}
 use lib.Seq.{split-at, set-split, set-getD, drop-cons, drop-drop, drop-set-lt, getD-drop, getD-take, take-all, take-set-lt, length-take-le}
@@ -18,16 +18,15 @@ use Rattle.rules.specs.Book.{Cell, cell}
 use Rattle.rules.specs.State.{Operation}
 use Rattle.rules.specs.Calls.{blocked, mayRunNow, ready, attempt, tryFrom, tryAll, madeReady}
 use Rattle.history.specs.declared.History.{History}
-use Rattle.history.specs.declared.Item.{Item}
 use Rattle.history.specs.declared.Entry.{Entry}
-use Rattle.history.specs.Entries.{cellsOf, noItem, itemUpdate, operationOf, mayRunIn, UsableEntry}
+use Rattle.history.specs.Entries.{cellsOf, operationOf, mayRunIn, UsableEntry}
 use Rattle.history.specs.Tests.{all-agree}
 use Rattle.history.specs.CellLaws.{logCells}
 use Rattle.table.specs.declared.Marks.{Marks}
 use Rattle.table.specs.Lists.{IsNumbers}
-use Rattle.table.specs.Queues.{Queued, queueOf, UsableQueue, pastEntry}
+use Rattle.table.specs.Queues.{Queued, queueOf, pastEntry}
 use Rattle.table.specs.Slots.{begun}
-use Rattle.table.specs.Tries.{readyIn, attemptIn, tryFromIn, tryAllIn, gather, held, heldOf, updatesOf, Marked, More, freeBy, readyBy, startsBy, operationsOf, Tries}
+use Rattle.table.specs.Tries.{readyIn, attemptIn, tryFromIn, tryAllIn, gather, held, heldOf, updatesOf, Marked, More, readyBy, startsBy, operationsOf, Tries}
 use Rattle.table.specs.LoopLaws.{take-push, take-next, mem-set, any-append}
 use Rattle.table.specs.EntryLaws.{usable-history}
 use Rattle.table.specs.MarkLaws.{gather-append, gather-map, marked-like, marked-more, free-is}

@@ -1,16 +1,16 @@
 // The site's table of live operations: those not done in order of arrival (or waiting lines in order of delivery), and those done in log order.
 // Their entries stand in arrays of numbers that the caller lends.
 ghost use mathlib.Core.Path.{_≡_};
-ghost use mathlib.Core.Bool.{Bool, true, false, not, _&&_, _||_};
+ghost use mathlib.Core.Bool.{true, false, _&&_, _||_};
 ghost use mathlib.Core.List.{List, [], _∷_, _++_, map};
-ghost use Prim.Native.Nat.{ℕ, suc, _+_, _-_, _≤_, _<_};
-ghost use lib.ListN.{length, take, drop, getD, set};
+ghost use Prim.Native.Nat.{ℕ, _+_, _-_, _≤_, _<_};
+ghost use lib.ListN.{length, take, drop, getD};
 ghost use Rattle.forms.specs.Lists.{any, all, keep, below};
 ghost use Rattle.forms.specs.Held.{numbersOf, listed};
 ghost use Rattle.rules.specs.State.{asks};
-ghost use Rattle.history.specs.Entries.{UsableEntry, UsableItem, cellsOf, canRunIn, didOfEntry, operationOf, itemUpdate};
+ghost use Rattle.history.specs.Entries.{UsableEntry, cellsOf, operationOf, itemUpdate};
 ghost use Rattle.history.specs.Words.{historiesIn};
-ghost use Rattle.table.specs.Lists.{firstAt, omit, IsNumbers};
+ghost use Rattle.table.specs.Lists.{firstAt, IsNumbers};
 ghost use Rattle.table.specs.Arrays.{Says, rises, ceases};
 ghost use Rattle.table.specs.Dones.{doneOf, UsableDone, UsableDones, IsDone, doneHasId, doneTouches, stampedTo, versionFrom};
 ghost use Rattle.table.specs.Tries.{updatesOf, heldOf, gather, Marked, More, freeBy, readyBy, startsBy, operationsOf, Tries};

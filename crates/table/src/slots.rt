@@ -1,6 +1,5 @@
 // Entries in words: reading and writing the entries of the table in arrays of numbers.
 ghost use mathlib.Core.Path.{_≡_};
-ghost use mathlib.Core.Bool.{true};
 ghost use Prim.Native.Nat.{_+_, _*_, _≤_, _<_};
 ghost use lib.ListN.{getD, set};
 ghost use Rattle.table.specs.Queues.{pastEntry};

@@ -1,21 +1,15 @@
 use denote.Ref.{now}
-use mathlib.Core.Path.{_≡_, refl, sym, ap, _∙_}
-use mathlib.Core.Bool.{not}
+use mathlib.Core.Path.{_∙_}
 use Rattle.history.specs.Entries.{cellsOf}
 use Rattle.history.specs.CellLaws.{ran-updates}
 use Rattle.history.specs.Words.{historiesIn}
 use borrow.Author.Needs.{needs}
 use Rattle.history.proofs.already_done.Statement.{statement}
 use Rattle.history.proofs.already_done.Tie as tie
-use Rattle.history.proofs.already_done.Reads as reads
-use Rattle.history.proofs.already_done.Lts as lts
-use Rattle.history.proofs.some_item.Reads as some-item-reads
 
--- src/lib.rt:273:5
 some-item-requires : tie.Need-some-item-requires
 some-item-requires c κs = search needs
 
--- src/lib.rt:269:1
 returns : tie.Need-returns
 returns c = (c .some-item .ensures) ∙ ran-updates (cellsOf (historiesIn (now (c .before .args .book)))) (c .before .args .e)
 

@@ -1,5 +1,5 @@
 use denote.Ref.{now}
-use Prim.Native.Nat.{ℕ, _≤_, _-_, _<_, _+_}
+use Prim.Native.Nat.{_≤_, _-_, _<_, _+_}
 use native.Mathlib.Omega.{arith}
 use mathlib.Core.Path.{_≡_, refl, sym, ap, subst, _∙_}
 use mathlib.Core.List.{List}
@@ -13,11 +13,6 @@ use Rattle.history.specs.Words.{historiesIn, Kept}
 use Rattle.history.specs.WordLaws.{histories-long, kept-then}
 use Rattle.history.proofs.apply.Statement.{statement}
 use Rattle.history.proofs.apply.Tie as tie
-use Rattle.history.proofs.apply.Reads as reads
-use Rattle.history.proofs.apply.Lts as lts
-use Rattle.history.proofs.book.history_at.Reads as history-at-reads
-use Rattle.history.proofs.book.put_history.Reads as put-history-reads
-use Rattle.history.proofs.apply_item.Reads as apply-item-reads
 
 abbrev Inv-loop : tie.InvT-loop
 Inv-loop book₀ n items i₀ book i = (i ≤ n) × Entered (historiesIn book₀) (historiesIn book) items i × Kept 0 48 book₀ book
@@ -25,32 +20,26 @@ Inv-loop book₀ n items i₀ book i = (i ≤ n) × Entered (historiesIn book₀
 abbrev μ-loop : tie.MeasureT-loop
 μ-loop book₀ n items i₀ book i = n - i
 
--- src/lib.rt:310:5
 loop-holds : tie.Need-loop-holds Inv-loop μ-loop
 unfolding enterAll
 loop-holds c = (omega arith, (λ h lt. refl), record { before = λ k l. refl; behind = λ k l. refl })
 
--- src/lib.rt:311:17
 mul-x : tie.Need-mul-x Inv-loop μ-loop
 mul-x c = omega (arith, c .before .before .before .pre .0 .few)
 
--- src/lib.rt:311:17
 array-copy-out-x : tie.Need-array-copy-out-x Inv-loop μ-loop
 array-copy-out-x c = omega (arith, c .before .before .before .pre .0 .few)
 
--- src/lib.rt:312:18
 cast-at : tie.Need-cast-at Inv-loop μ-loop
 cast-at c = record {
   fits = omega
       (arith, c .before .before .before .before .before .pre .0 .each (c .before .before .before .loop .i) (c .before .before .loop-test .taken) .history);
 }
 
--- src/lib.rt:313:17
 history-at-requires : tie.Need-history-at-requires Inv-loop μ-loop
 history-at-requires c κs =
     c .before .before .before .before .before .before .pre .0 .each (c .before .before .before .before .loop .i) (c .before .before .before .loop-test .taken) .history
 
--- src/lib.rt:314:19
 apply-item-requires : tie.Need-apply-item-requires Inv-loop μ-loop
 apply-item-requires c κs =
     let e = c .before .before .before .before .before .before .before .before in
@@ -61,20 +50,16 @@ apply-item-requires c κs =
     (omega (arith, e .pre .0 .few)) _ (x .history) in
     (x, subst (λ (h : History). h .place .0 < 18446744073709551615) (sym (c .before .history-at .ensures)) low)
 
--- src/lib.rt:314:9
 put-history-requires : tie.Need-put-history-requires Inv-loop μ-loop
 put-history-requires c κs =
     c .before .before .before .before .before .before .before .before .before .pre .0 .each (c .before .before .before .before .before .before .before .loop .i) (c .before .before .before .before .before .before .loop-test .taken) .history
 
--- src/lib.rt:315:9
 add-i : tie.Need-add-i Inv-loop μ-loop
 add-i c = omega (arith, c .before .before .before .before .before .before .before .before .before .before .pre .0 .few)
 
--- src/lib.rt:310:5
 loop-less : tie.Need-loop-less Inv-loop μ-loop
 loop-less c = omega arith
 
--- src/lib.rt:310:5
 loop-again : tie.Need-loop-again Inv-loop μ-loop
 loop-again c =
     let l = c .before .before .before .before .before .before .before .before .loop in
@@ -93,7 +78,6 @@ loop-again c =
       kept-then (l .inv .2) (p .rest),
     )
 
--- src/lib.rt:302:1
 returns : tie.Need-returns Inv-loop μ-loop
 unfolding didOfEntry
 returns c =

@@ -1,4 +1,3 @@
-use native.Mathlib.Omega.{arith}
 use mathlib.Core.Path.{ap, _∙_}
 use mathlib.Core.List.{List}
 use Rattle.forms.specs.Forms.{Update}
@@ -8,11 +7,6 @@ use Rattle.history.specs.AskingLaws.{refused-none, refused-many, only-up
 use borrow.Author.Needs.{needs}
 use Rattle.history.proofs.asked_refusal.Statement.{statement}
 use Rattle.history.proofs.asked_refusal.Tie as tie
-use Rattle.history.proofs.asked_refusal.Reads as reads
-use Rattle.history.proofs.asked_refusal.Lts as lts
-use Rattle.history.proofs.is_twice.Reads as is-twice-reads
-use Rattle.history.proofs.one_refusal.Reads as one-refusal-reads
-use Rattle.history.proofs.some_asked.Reads as some-asked-reads
 
 returns : tie.Need-returns
 returns c = λ us e. refused-none (c .before .args .n) (c .before .args .held) us e (c .if1 .taken)

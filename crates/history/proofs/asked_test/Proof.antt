@@ -1,69 +1,51 @@
-use mathlib.Core.Path.{_≡_, refl, sym, ap, _∙_}
+use mathlib.Core.Path.{ap}
 use mathlib.Core.Bool.{not}
 use Rattle.rules.specs.Checks.{updateMisfits}
 use Rattle.history.specs.Asking.{askedTest}
 use borrow.Author.Needs.{needs}
 use Rattle.history.proofs.asked_test.Statement.{statement}
 use Rattle.history.proofs.asked_test.Tie as tie
-use Rattle.history.proofs.asked_test.Reads as reads
-use Rattle.history.proofs.asked_test.Lts as lts
-use Rattle.history.proofs.is_strong.Reads as is-strong-reads
-use Rattle.history.proofs.operand_fits.Reads as operand-fits-reads
-use Rattle.history.proofs.orders.Reads as orders-reads
 
--- src/lib.rt:504:27
 enum-known-t : tie.Need-enum-known-t
 enum-known-t c = search needs
 
--- src/lib.rt:505:23
 enum-known-t-2 : tie.Need-enum-known-t-2
 enum-known-t-2 c = search needs
 
--- src/lib.rt:506:32
 enum-told : tie.Need-enum-told
 enum-told c = search needs
 
--- src/lib.rt:506:32
 operand-fits-requires : tie.Need-operand-fits-requires
 operand-fits-requires c κs = search needs
 
--- src/lib.rt:507:30
 enum-told-2 : tie.Need-enum-told-2
 enum-told-2 c = search needs
 
--- src/lib.rt:507:30
 is-strong-requires : tie.Need-is-strong-requires
 is-strong-requires c κs = search needs
 
--- src/lib.rt:508:30
 enum-told-3 : tie.Need-enum-told-3
 enum-told-3 c = search needs
 
--- src/lib.rt:508:30
 orders-requires : tie.Need-orders-requires
 orders-requires c κs = search needs
 
--- src/lib.rt:499:1
 returns : tie.Need-returns
 unfolding askedTest
 returns c = rw (c .before .before .t .given .1)
 
--- src/lib.rt:499:1
 returns-2 : tie.Need-returns-2
 unfolding askedTest
 returns-2 c = rw (c .before .before .t2 .given .1)
 
--- src/lib.rt:499:1
 returns-3 : tie.Need-returns-3
 unfolding askedTest updateMisfits
 returns-3 c = rw (c .before .enum-told .given .1) (ap not (c .operand-fits .ensures))
 
--- src/lib.rt:499:1
 returns-4 : tie.Need-returns-4
 unfolding askedTest
 returns-4 c = rw (c .before .enum-told2 .given .1) (c .is-strong .ensures)
 
--- src/lib.rt:499:1
 returns-5 : tie.Need-returns-5
 unfolding askedTest
 returns-5 c = rw (c .before .enum-told3 .given .1) (c .orders .ensures)

@@ -2,27 +2,19 @@ use Rattle.history.specs.EntryLaws.{done-line}
 use borrow.Author.Needs.{needs}
 use Rattle.history.proofs.done_entry.Statement.{statement}
 use Rattle.history.proofs.done_entry.Tie as tie
-use Rattle.history.proofs.done_entry.Reads as reads
-use Rattle.history.proofs.done_entry.Lts as lts
-use Rattle.history.proofs.item_at.Reads as item-at-reads
 
--- src/lib.rt:398:9
 item-at-requires : tie.Need-item-at-requires
 item-at-requires c κs = search needs
 
--- src/lib.rt:399:9
 item-at-requires-2 : tie.Need-item-at-requires-2
 item-at-requires-2 c κs = search needs
 
--- src/lib.rt:400:9
 item-at-requires-3 : tie.Need-item-at-requires-3
 item-at-requires-3 c κs = search needs
 
--- src/lib.rt:401:9
 item-at-requires-4 : tie.Need-item-at-requires-4
 item-at-requires-4 c κs = search needs
 
--- src/lib.rt:394:1
 returns : tie.Need-returns
 returns c =
     done-line (c .before .before .before .before .args .e) (c .before .before .before .before .pre) (c .before .before .before .item-at .result)

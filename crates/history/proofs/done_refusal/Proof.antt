@@ -1,52 +1,38 @@
-use mathlib.Core.Path.{_≡_, ap, _∙_}
+use mathlib.Core.Path.{ap, _∙_}
 use mathlib.Core.List.{map}
 use Rattle.history.specs.Asking.{verdictOf, changeUpdate}
 use Rattle.history.specs.AskingLaws.{held-changes, changes-refusal}
 use borrow.Author.Needs.{needs}
 use Rattle.history.proofs.done_refusal.Statement.{statement}
 use Rattle.history.proofs.done_refusal.Tie as tie
-use Rattle.history.proofs.done_refusal.Reads as reads
-use Rattle.history.proofs.done_refusal.Lts as lts
-use Rattle.history.proofs.asked_of.Reads as asked-of-reads
-use Rattle.history.proofs.asked_refusal.Reads as asked-refusal-reads
 
--- src/lib.rt:624:13
 array-copy-out-a : tie.Need-array-copy-out-a
 array-copy-out-a c = search needs
 
--- src/lib.rt:625:13
 array-copy-out-b : tie.Need-array-copy-out-b
 array-copy-out-b c = search needs
 
--- src/lib.rt:626:13
 array-copy-out-c : tie.Need-array-copy-out-c
 array-copy-out-c c = search needs
 
--- src/lib.rt:627:13
 array-copy-out-d : tie.Need-array-copy-out-d
 array-copy-out-d c = search needs
 
--- src/lib.rt:630:17
 asked-of-requires : tie.Need-asked-of-requires
 asked-of-requires c κs = search needs
 
--- src/lib.rt:630:30
 asked-of-requires-2 : tie.Need-asked-of-requires-2
 asked-of-requires-2 c κs = search needs
 
--- src/lib.rt:630:43
 asked-of-requires-3 : tie.Need-asked-of-requires-3
 asked-of-requires-3 c κs = search needs
 
--- src/lib.rt:630:56
 asked-of-requires-4 : tie.Need-asked-of-requires-4
 asked-of-requires-4 c κs = search needs
 
--- src/lib.rt:632:5
 asked-refusal-requires : tie.Need-asked-refusal-requires
 asked-refusal-requires c κs = search needs
 
--- src/lib.rt:620:1
 returns : tie.Need-returns
 returns c = λ xs e.
     c .asked-refusal .ensures (map changeUpdate xs)

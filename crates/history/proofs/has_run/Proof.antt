@@ -1,23 +1,17 @@
-use mathlib.Core.Path.{_≡_, refl, sym, ap, _∙_}
+use mathlib.Core.Path.{sym, _∙_}
 use Rattle.history.specs.Entries.{cellOf}
 use Rattle.history.specs.CellLaws.{ran-ordered, ran-unordered}
 use borrow.Author.Needs.{needs}
 use Rattle.history.proofs.has_run.Statement.{statement}
 use Rattle.history.proofs.has_run.Tie as tie
-use Rattle.history.proofs.has_run.Reads as reads
-use Rattle.history.proofs.has_run.Lts as lts
-use Rattle.history.proofs.orders.Reads as orders-reads
 
--- src/lib.rt:201:8
 orders-requires : tie.Need-orders-requires
 orders-requires c κs = search needs
 
--- src/lib.rt:197:1
 returns : tie.Need-returns
 returns c = ran-ordered (cellOf (c .before .before .before .before .args .h)) (c .before .before .before .before .args .x)
     (sym (c .before .before .before .orders .ensures) ∙ c .before .before .if1 .taken)
 
--- src/lib.rt:197:1
 returns-2 : tie.Need-returns-2
 returns-2 c = ran-unordered (cellOf (c .before .before .args .h)) (c .before .before .args .x) (sym (c .before .orders .ensures) ∙ c .if1 .left)
 

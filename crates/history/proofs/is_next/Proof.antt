@@ -1,36 +1,27 @@
-use Prim.Native.Nat.{ℕ, _+_, _-_}
+use Prim.Native.Nat.{_+_}
 use native.Mathlib.Omega.{arith}
 use borrow.Author.Tests.{ne-eqb, eq-eqb}
-use mathlib.Core.Path.{_≡_, refl, sym, ap, _∙_}
+use mathlib.Core.Path.{ap, _∙_}
 use Rattle.forms.specs.declared.Rule.{Rule}
 use Rattle.rules.specs.Rules.{mayRun}
 use Rattle.rules.specs.Book.{runsAt}
 use borrow.Author.Needs.{needs}
 use Rattle.history.proofs.is_next.Statement.{statement}
 use Rattle.history.proofs.is_next.Tie as tie
-use Rattle.history.proofs.is_next.Reads as reads
-use Rattle.history.proofs.is_next.Lts as lts
-use Rattle.history.proofs.logged_as.Reads as logged-as-reads
-use Rattle.history.proofs.may_run.Reads as may-run-reads
 
--- src/lib.rt:184:9
 returns : tie.Need-returns
 unfolding runsAt
 returns c = let a = c .before .args in rw (ne-eqb (a .x .place .0) (a .h .place .0 + 1) (λ e. omega arith))
 
--- src/lib.rt:186:8
 sub-if2 : tie.Need-sub-if2
 sub-if2 c = search needs
 
--- src/lib.rt:190:17
 logged-as-requires : tie.Need-logged-as-requires
 logged-as-requires c κs = search needs
 
--- src/lib.rt:190:9
 may-run-requires : tie.Need-may-run-requires
 may-run-requires c κs = search needs
 
--- src/lib.rt:179:1
 returns-2 : tie.Need-returns-2
 unfolding runsAt
 returns-2 c =
@@ -38,7 +29,6 @@ returns-2 c =
     rw (eq-eqb (a .x .place .0) (a .h .place .0 + 1) (omega arith))
     (c .may-run .ensures ∙ ap (λ (r : Rule). mayRun r (a .h .version .0) (a .x .version .0)) (c .before .logged-as .ensures))
 
--- src/lib.rt:179:1
 returns-3 : tie.Need-returns-3
 unfolding runsAt
 returns-3 c = let a = c .before .before .before .args in rw (ne-eqb (a .x .place .0) (a .h .place .0 + 1) (λ e. omega arith))

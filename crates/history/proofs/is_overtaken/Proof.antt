@@ -1,22 +1,16 @@
-use mathlib.Core.Path.{_≡_, refl, sym, ap, _∙_}
+use mathlib.Core.Path.{sym, _∙_}
 use Rattle.history.specs.Entries.{cellOf}
 use Rattle.history.specs.CellLaws.{overtaken-strong, overtaken-weak}
 use borrow.Author.Needs.{needs}
 use Rattle.history.proofs.is_overtaken.Statement.{statement}
 use Rattle.history.proofs.is_overtaken.Tie as tie
-use Rattle.history.proofs.is_overtaken.Reads as reads
-use Rattle.history.proofs.is_overtaken.Lts as lts
-use Rattle.history.proofs.is_strong.Reads as is-strong-reads
 
--- src/lib.rt:213:8
 is-strong-requires : tie.Need-is-strong-requires
 is-strong-requires c κs = search needs
 
--- src/lib.rt:209:1
 returns : tie.Need-returns
 returns c = overtaken-strong (cellOf (c .before .before .args .h)) (c .before .before .args .x) (sym (c .before .is-strong .ensures) ∙ c .if1 .taken)
 
--- src/lib.rt:209:1
 returns-2 : tie.Need-returns-2
 returns-2 c = overtaken-weak (cellOf (c .before .before .before .before .args .h)) (c .before .before .before .before .args .x)
     (sym (c .before .before .before .is-strong .ensures) ∙ c .before .before .if1 .left)

@@ -1,58 +1,42 @@
-use mathlib.Core.Path.{_≡_, refl, sym, ap, _∙_}
+use mathlib.Core.Path.{ap}
 use mathlib.Core.Bool.{not}
 use Rattle.history.specs.Cells.{itemTest}
 use borrow.Author.Needs.{needs}
 use Rattle.history.proofs.item_test.Statement.{statement}
 use Rattle.history.proofs.item_test.Tie as tie
-use Rattle.history.proofs.item_test.Reads as reads
-use Rattle.history.proofs.item_test.Lts as lts
-use Rattle.history.proofs.has_run.Reads as has-run-reads
-use Rattle.history.proofs.is_next.Reads as is-next-reads
-use Rattle.history.proofs.is_overtaken.Reads as is-overtaken-reads
 
--- src/lib.rt:225:29
 enum-told : tie.Need-enum-told
 enum-told c = search needs
 
--- src/lib.rt:225:29
 is-next-requires : tie.Need-is-next-requires
 is-next-requires c κs = search needs
 
--- src/lib.rt:226:28
 enum-told-2 : tie.Need-enum-told-2
 enum-told-2 c = search needs
 
--- src/lib.rt:227:26
 enum-told-3 : tie.Need-enum-told-3
 enum-told-3 c = search needs
 
--- src/lib.rt:227:26
 has-run-requires : tie.Need-has-run-requires
 has-run-requires c κs = search needs
 
--- src/lib.rt:228:32
 enum-told-4 : tie.Need-enum-told-4
 enum-told-4 c = search needs
 
--- src/lib.rt:228:32
 is-overtaken-requires : tie.Need-is-overtaken-requires
 is-overtaken-requires c κs = search needs
 
--- src/lib.rt:221:1
 returns : tie.Need-returns
 unfolding itemTest
 returns c = rw (c .before .enum-told .given .1) (ap not (c .is-next .ensures))
 
--- src/lib.rt:221:1
 returns-2 : tie.Need-returns-2
 unfolding itemTest
 returns-2 c = rw (c .before .before .enum-told2 .given .1)
 
--- src/lib.rt:221:1
 returns-3 : tie.Need-returns-3
 returns-3 c = rw (c .before .enum-told3 .given .1) (c .has-run .ensures)
 
--- src/lib.rt:221:1
 returns-4 : tie.Need-returns-4
 returns-4 c = rw (c .before .enum-told4 .given .1) (c .is-overtaken .ensures)
 

@@ -1,54 +1,42 @@
-use Prim.Native.Nat.{ℕ, _+_, _-_}
+use Prim.Native.Nat.{_+_, _-_}
 use native.Mathlib.Omega.{arith}
-use borrow.Author.Tests.{ne-eqb, eq-eqb}
-use mathlib.Core.Path.{_≡_, refl, sym, ap, _∙_}
+use borrow.Author.Tests.{ne-eqb}
+use mathlib.Core.Path.{sym}
 use Rattle.history.specs.Tests.{eqb-iff}
 use borrow.Author.Needs.{needs}
 use Rattle.history.proofs.may_run.Statement.{statement}
 use Rattle.history.proofs.may_run.Tie as tie
-use Rattle.history.proofs.may_run.Reads as reads
-use Rattle.history.proofs.may_run.Lts as lts
 
--- src/lib.rt:58:16
 enum-told : tie.Need-enum-told
 enum-told c = search needs
 
--- src/lib.rt:59:17
 sub-result : tie.Need-sub-result
 sub-result c = search needs
 
--- src/lib.rt:64:22
 enum-told-2 : tie.Need-enum-told-2
 enum-told-2 c = search needs
 
--- src/lib.rt:65:22
 enum-told-3 : tie.Need-enum-told-3
 enum-told-3 c = search needs
 
--- src/lib.rt:66:22
 enum-told-4 : tie.Need-enum-told-4
 enum-told-4 c = search needs
 
--- src/lib.rt:53:1
 returns : tie.Need-returns
 returns c = rw (c .before .before .before .before .before .enum-told .given .1)
     (let a = c .before .before .before .before .before .before .before .args in eqb-iff (a .u .0 - a .c .0) 1 (a .u .0) (a .c .0 + 1)
     (λ e. omega arith) (λ e. omega arith))
 
--- src/lib.rt:53:1
 returns-2 : tie.Need-returns-2
 returns-2 c = rw (c .before .before .before .enum-told .given .1)
     (let a = c .before .before .before .before .before .args in sym (ne-eqb (a .u .0) (a .c .0 + 1) (λ e. omega arith)))
 
--- src/lib.rt:53:1
 returns-3 : tie.Need-returns-3
 returns-3 c = rw (c .before .before .enum-told2 .given .1)
 
--- src/lib.rt:53:1
 returns-4 : tie.Need-returns-4
 returns-4 c = rw (c .before .before .enum-told3 .given .1)
 
--- src/lib.rt:53:1
 returns-5 : tie.Need-returns-5
 returns-5 c = rw (c .before .enum-told4 .given .1)
 

@@ -2,31 +2,24 @@ use lib.ListN.{take}
 use Rattle.forms.specs.Lists.{any}
 use Rattle.history.specs.Asking.{asked}
 use Rattle.history.specs.declared.AskedTest.the-variants.{Orders}
-use mathlib.Core.Path.{_≡_, refl, sym, ap, ap₂, _∙_}
+use mathlib.Core.Path.{sym, ap, ap₂, _∙_}
 use mathlib.Core.Bool.{Bool, _&&_, not}
 use Rattle.history.specs.AskingLaws.{orders-by}
 use borrow.Author.Needs.{needs}
 use Rattle.history.proofs.nothing_orders.Statement.{statement}
 use Rattle.history.proofs.nothing_orders.Tie as tie
-use Rattle.history.proofs.nothing_orders.Reads as reads
-use Rattle.history.proofs.nothing_orders.Lts as lts
-use Rattle.history.proofs.some_asked.Reads as some-asked-reads
 
--- src/lib.rt:577:8
 some-asked-requires : tie.Need-some-asked-requires
 some-asked-requires c κs = search needs
 
--- src/lib.rt:578:10
 some-asked-requires-2 : tie.Need-some-asked-requires-2
 some-asked-requires-2 c κs = search needs
 
--- src/lib.rt:572:1
 returns : tie.Need-returns
 returns c =
     sym (orders-by (c .before .before .before .args .held)
     ∙ ap₂ (λ (a b : Bool). a && not b) (sym (c .before .before .some-asked .ensures) ∙ c .before .if1 .taken) (sym (c .some-asked2 .ensures)))
 
--- src/lib.rt:572:1
 returns-2 : tie.Need-returns-2
 returns-2 c =
     let h = c .before .before .args .held in

@@ -3,9 +3,6 @@ use borrow.Author.Needs.{needs}
 use Rattle.history.specs.AskingLaws.{one-absent, one-misfits, one-passes}
 use Rattle.history.proofs.one_refusal.Statement.{statement}
 use Rattle.history.proofs.one_refusal.Tie as tie
-use Rattle.history.proofs.one_refusal.Reads as reads
-use Rattle.history.proofs.one_refusal.Lts as lts
-use Rattle.history.proofs.asked_test.Reads as asked-test-reads
 
 asked-test-requires : tie.Need-asked-test-requires
 asked-test-requires c κs = search needs

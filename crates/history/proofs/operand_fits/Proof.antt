@@ -1,44 +1,32 @@
 use borrow.Author.Tests.{le-leb, lt-leb}
-use mathlib.Core.Path.{_≡_, refl, sym, ap, _∙_}
 use borrow.Author.Needs.{needs}
 use Rattle.history.proofs.operand_fits.Statement.{statement}
 use Rattle.history.proofs.operand_fits.Tie as tie
-use Rattle.history.proofs.operand_fits.Reads as reads
-use Rattle.history.proofs.operand_fits.Lts as lts
 
--- src/lib.rt:99:22
 enum-told : tie.Need-enum-told
 enum-told c = search needs
 
--- src/lib.rt:100:22
 enum-told-2 : tie.Need-enum-told-2
 enum-told-2 c = search needs
 
--- src/lib.rt:101:22
 enum-told-3 : tie.Need-enum-told-3
 enum-told-3 c = search needs
 
--- src/lib.rt:103:16
 enum-told-4 : tie.Need-enum-told-4
 enum-told-4 c = search needs
 
--- src/lib.rt:95:1
 returns : tie.Need-returns
 returns c = rw (c .enum-told .given .1)
 
--- src/lib.rt:95:1
 returns-2 : tie.Need-returns-2
 returns-2 c = rw (c .enum-told2 .given .1)
 
--- src/lib.rt:95:1
 returns-3 : tie.Need-returns-3
 returns-3 c = rw (c .enum-told3 .given .1)
 
--- src/lib.rt:95:1
 returns-4 : tie.Need-returns-4
 returns-4 c = rw (c .before .enum-told4 .given .1, le-leb (c .before .before .before .args .o) 1023 (c .if1 .taken))
 
--- src/lib.rt:95:1
 returns-5 : tie.Need-returns-5
 returns-5 c = rw (c .before .enum-told4 .given .1, lt-leb (c .before .before .before .args .o) 1023 (c .if1 .left))
 

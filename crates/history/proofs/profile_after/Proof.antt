@@ -1,5 +1,4 @@
-use Prim.Native.Nat.{ℕ}
-use mathlib.Core.Path.{_≡_, refl, sym, ap, subst, _∙_}
+use mathlib.Core.Path.{_≡_, subst}
 use mathlib.Core.Bool.{true}
 use borrow.Author.Tests.{leb-true}
 use Rattle.forms.specs.declared.Rule.{Rule}
@@ -8,53 +7,40 @@ use Rattle.history.specs.Tests.{and-true-parts}
 use borrow.Author.Needs.{needs}
 use Rattle.history.proofs.profile_after.Statement.{statement}
 use Rattle.history.proofs.profile_after.Tie as tie
-use Rattle.history.proofs.profile_after.Reads as reads
-use Rattle.history.proofs.profile_after.Lts as lts
-use Rattle.history.proofs.replace_part.Reads as replace-part-reads
 
--- src/lib.rt:171:22
 enum-told : tie.Need-enum-told
 enum-told c = search needs
 
--- src/lib.rt:171:22
 replace-part-requires : tie.Need-replace-part-requires
 replace-part-requires c κs =
     let a = c .before .before .args in
     let p = c .before .before .pre in
     leb-true (a .operand) 1023 (subst (λ (r : Rule). operandFits r (p .0) (a .operand) ≡ true) (c .enum-told .given .1) (p .1))
 
--- src/lib.rt:172:22
 enum-told-2 : tie.Need-enum-told-2
 enum-told-2 c = search needs
 
--- src/lib.rt:173:22
 enum-told-3 : tie.Need-enum-told-3
 enum-told-3 c = search needs
 
--- src/lib.rt:174:22
 enum-told-4 : tie.Need-enum-told-4
 enum-told-4 c = search needs
 
--- src/lib.rt:174:22
 replace-part-requires-2 : tie.Need-replace-part-requires-2
 replace-part-requires-2 c κs =
     let a = c .before .before .args in
     let p = c .before .before .pre in
     leb-true (a .operand) 1023 (and-true-parts _ _ (subst (λ (r : Rule). operandFits r (p .0) (a .operand) ≡ true) (c .enum-told4 .given .1) (p .1)) .0)
 
--- src/lib.rt:166:1
 returns : tie.Need-returns
 returns c = rw (c .before .enum-told .given .1) (c .replace-part .ensures)
 
--- src/lib.rt:166:1
 returns-2 : tie.Need-returns-2
 returns-2 c = search needs
 
--- src/lib.rt:166:1
 returns-3 : tie.Need-returns-3
 returns-3 c = search needs
 
--- src/lib.rt:166:1
 returns-4 : tie.Need-returns-4
 returns-4 c = rw (c .before .enum-told4 .given .1) (c .replace-part2 .ensures)
 

@@ -1,21 +1,15 @@
 use denote.Ref.{now}
-use mathlib.Core.Path.{_≡_, refl, sym, ap, _∙_}
-use mathlib.Core.Bool.{not}
+use mathlib.Core.Path.{_∙_}
 use Rattle.history.specs.Entries.{cellsOf}
 use Rattle.history.specs.CellLaws.{overtaken-updates}
 use Rattle.history.specs.Words.{historiesIn}
 use borrow.Author.Needs.{needs}
 use Rattle.history.proofs.read_overtaken.Statement.{statement}
 use Rattle.history.proofs.read_overtaken.Tie as tie
-use Rattle.history.proofs.read_overtaken.Reads as reads
-use Rattle.history.proofs.read_overtaken.Lts as lts
-use Rattle.history.proofs.some_item.Reads as some-item-reads
 
--- src/lib.rt:281:5
 some-item-requires : tie.Need-some-item-requires
 some-item-requires c κs = search needs
 
--- src/lib.rt:277:1
 returns : tie.Need-returns
 returns c = (c .some-item .ensures) ∙ overtaken-updates (cellsOf (historiesIn (now (c .before .args .book)))) (c .before .args .e)
 

@@ -2,22 +2,16 @@ use Rattle.history.proofs.Parts.{replaces}
 use borrow.Author.Needs.{needs}
 use Rattle.history.proofs.replace_part.Statement.{statement}
 use Rattle.history.proofs.replace_part.Tie as tie
-use Rattle.history.proofs.replace_part.Reads as reads
-use Rattle.history.proofs.replace_part.Lts as lts
 
--- src/lib.rt:47:17
 mul-shift : tie.Need-mul-shift
 mul-shift c = search needs
 
--- src/lib.rt:49:18
 shl-result : tie.Need-shl-result
 shl-result c = search needs
 
--- src/lib.rt:49:39
 shl-result-2 : tie.Need-shl-result-2
 shl-result-2 c = search needs
 
--- src/lib.rt:43:1
 returns : tie.Need-returns
 returns c = replaces (c .args .profile) (c .args .operand) (c .fits .profile .fits) (c .pre)
 

@@ -1,16 +1,13 @@
-use Prim.Native.Nat.{ℕ, _≤_, _-_, _<_, _+_}
+use Prim.Native.Nat.{ℕ, _≤_, _-_}
 use native.Mathlib.Omega.{arith}
 use mathlib.Core.Path.{_≡_, refl, sym, ap, _∙_}
 use mathlib.Core.Bool.{false}
-use lib.ListN.{take, getD, length}
+use lib.ListN.{take}
 use Rattle.forms.specs.Lists.{any}
 use Rattle.history.specs.Asking.{asked, noAsked}
 use Rattle.history.specs.Tests.{any-next, any-hit}
 use Rattle.history.proofs.some_asked.Statement.{statement}
 use Rattle.history.proofs.some_asked.Tie as tie
-use Rattle.history.proofs.some_asked.Reads as reads
-use Rattle.history.proofs.some_asked.Lts as lts
-use Rattle.history.proofs.asked_test.Reads as asked-test-reads
 
 abbrev Inv-loop : tie.InvT-loop
 Inv-loop t k first i₀ i = (i ≤ k) × (any (asked t) (take i first) ≡ false)
@@ -18,23 +15,18 @@ Inv-loop t k first i₀ i = (i ≤ k) × (any (asked t) (take i first) ≡ false
 abbrev μ-loop : tie.MeasureT-loop
 μ-loop t k first i₀ i = k - i
 
--- src/lib.rt:519:5
 loop-holds : tie.Need-loop-holds Inv-loop μ-loop
 loop-holds c = (omega arith, refl)
 
--- src/lib.rt:520:17
 mul-a : tie.Need-mul-a Inv-loop μ-loop
 mul-a c = omega (arith, c .before .before .before .pre .0)
 
--- src/lib.rt:520:17
 array-copy-out-a : tie.Need-array-copy-out-a Inv-loop μ-loop
 array-copy-out-a c = omega (arith, c .before .before .before .pre .0)
 
--- src/lib.rt:521:12
 asked-test-requires : tie.Need-asked-test-requires Inv-loop μ-loop
 asked-test-requires c κs = tt
 
--- src/lib.rt:522:13
 returns : tie.Need-returns Inv-loop μ-loop
 returns c =
     let a = c .before .before .before .before .before .before .args in
@@ -42,15 +34,12 @@ returns c =
     (omega (arith, c .before .before .before .before .before .before .pre .0, c .before .before .before .before .before .before .pre .1))
     (sym (c .before .asked-test .ensures) ∙ c .if1 .taken))
 
--- src/lib.rt:524:9
 add-i : tie.Need-add-i Inv-loop μ-loop
 add-i c = omega (arith, c .before .before .before .before .before .before .pre .0)
 
--- src/lib.rt:519:5
 loop-less : tie.Need-loop-less Inv-loop μ-loop
 loop-less c = omega arith
 
--- src/lib.rt:519:5
 loop-again : tie.Need-loop-again Inv-loop μ-loop
 loop-again c =
     let a = c .before .before .before .before .before .before .args in (
@@ -60,7 +49,6 @@ loop-again c =
           (c .before .before .before .before .loop .inv .1) (sym (c .before .asked-test .ensures) ∙ c .if1 .left),
     )
 
--- src/lib.rt:513:1
 returns-2 : tie.Need-returns-2 Inv-loop μ-loop
 returns-2 c =
     let q : c .before .loop .i ≡ c .before .before .before .args .k = omega arith in

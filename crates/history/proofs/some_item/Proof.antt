@@ -1,9 +1,9 @@
 use denote.Ref.{now}
-use Prim.Native.Nat.{ℕ, _≤_, _-_, _<_, _+_}
+use Prim.Native.Nat.{ℕ, _≤_, _-_}
 use native.Mathlib.Omega.{arith}
 use mathlib.Core.Path.{_≡_, refl, sym, ap, _∙_}
 use mathlib.Core.Bool.{false}
-use lib.ListN.{take, getD, length}
+use lib.ListN.{take, getD}
 use Rattle.forms.specs.Lists.{any}
 use Rattle.history.specs.Entries.{cellOf, cellsOf, noItem}
 use Rattle.history.specs.declared.History.{History}
@@ -12,10 +12,6 @@ use Rattle.history.specs.Words.{historiesIn}
 use Rattle.history.specs.Tests.{any-next, any-hit}
 use Rattle.history.proofs.some_item.Statement.{statement}
 use Rattle.history.proofs.some_item.Tie as tie
-use Rattle.history.proofs.some_item.Reads as reads
-use Rattle.history.proofs.some_item.Lts as lts
-use Rattle.history.proofs.book.history_at.Reads as history-at-reads
-use Rattle.history.proofs.item_test.Reads as item-test-reads
 
 abbrev Inv-loop : tie.InvT-loop
 Inv-loop t book n items i₀ i = (i ≤ n) × (any (testIn t (cellsOf (historiesIn book))) (take i items) ≡ false)
@@ -23,35 +19,28 @@ Inv-loop t book n items i₀ i = (i ≤ n) × (any (testIn t (cellsOf (histories
 abbrev μ-loop : tie.MeasureT-loop
 μ-loop t book n items i₀ i = n - i
 
--- src/lib.rt:240:5
 loop-holds : tie.Need-loop-holds Inv-loop μ-loop
 loop-holds c = (omega arith, refl)
 
--- src/lib.rt:241:17
 mul-x : tie.Need-mul-x Inv-loop μ-loop
 mul-x c = omega (arith, c .before .before .before .pre .few)
 
--- src/lib.rt:241:17
 array-copy-out-x : tie.Need-array-copy-out-x Inv-loop μ-loop
 array-copy-out-x c = omega (arith, c .before .before .before .pre .few)
 
--- src/lib.rt:242:18
 cast-at : tie.Need-cast-at Inv-loop μ-loop
 cast-at c = record {
   fits = omega
       (arith, c .before .before .before .before .before .pre .each (c .before .before .before .loop .i) (c .before .before .loop-test .taken) .history);
 }
 
--- src/lib.rt:243:17
 history-at-requires : tie.Need-history-at-requires Inv-loop μ-loop
 history-at-requires c κs =
     c .before .before .before .before .before .pre .each (c .before .before .before .loop .i) (c .before .before .loop-test .taken) .history
 
--- src/lib.rt:244:12
 item-test-requires : tie.Need-item-test-requires Inv-loop μ-loop
 item-test-requires c κs = tt
 
--- src/lib.rt:245:13
 returns : tie.Need-returns Inv-loop μ-loop
 returns c =
     let a = c .before .before .before .before .before .before .before .before .args in
@@ -60,15 +49,12 @@ returns c =
     (c .before .before .before .before .before .loop-test .taken)
     (omega (arith, v .few, v .long)) (sym (c .before .item-test .ensures ∙ ap (λ (h : History). itemTest (a .t) (cellOf h) (getD (a .e .items) (c .before .before .before .before .before .before .loop .i) noItem)) (c .before .before .history-at .ensures)) ∙ c .if1 .taken))
 
--- src/lib.rt:247:9
 add-i : tie.Need-add-i Inv-loop μ-loop
 add-i c = omega (arith, c .before .before .before .before .before .before .before .before .pre .few)
 
--- src/lib.rt:240:5
 loop-less : tie.Need-loop-less Inv-loop μ-loop
 loop-less c = omega arith
 
--- src/lib.rt:240:5
 loop-again : tie.Need-loop-again Inv-loop μ-loop
 loop-again c =
     let a = c .before .before .before .before .before .before .before .before .args in
@@ -79,7 +65,6 @@ loop-again c =
           (c .before .before .before .before .before .before .loop .inv .1) (sym (c .before .item-test .ensures ∙ ap (λ (h : History). itemTest (a .t) (cellOf h) (getD (a .e .items) (c .before .before .before .before .before .before .loop .i) noItem)) (c .before .before .history-at .ensures)) ∙ c .if1 .left),
     )
 
--- src/lib.rt:233:1
 returns-2 : tie.Need-returns-2 Inv-loop μ-loop
 returns-2 c =
     let q : c .before .loop .i ≡ c .before .before .before .args .e .count = omega arith in

@@ -6,27 +6,19 @@ use Rattle.history.specs.Words.{historiesIn}
 use borrow.Author.Needs.{needs}
 use Rattle.history.proofs.stamp.Statement.{statement}
 use Rattle.history.proofs.stamp.Tie as tie
-use Rattle.history.proofs.stamp.Reads as reads
-use Rattle.history.proofs.stamp.Lts as lts
-use Rattle.history.proofs.stamp_at.Reads as stamp-at-reads
 
--- src/lib.rt:444:9
 stamp-at-requires : tie.Need-stamp-at-requires
 stamp-at-requires c κs = search needs
 
--- src/lib.rt:445:9
 stamp-at-requires-2 : tie.Need-stamp-at-requires-2
 stamp-at-requires-2 c κs = search needs
 
--- src/lib.rt:446:9
 stamp-at-requires-3 : tie.Need-stamp-at-requires-3
 stamp-at-requires-3 c κs = search needs
 
--- src/lib.rt:447:9
 stamp-at-requires-4 : tie.Need-stamp-at-requires-4
 stamp-at-requires-4 c κs = search needs
 
--- src/lib.rt:440:1
 returns : tie.Need-returns
 returns c =
     stamps (cellsOf (historiesIn (now (c .before .before .before .before .args .book)))) (c .before .before .before .before .args .e)

@@ -1,7 +1,7 @@
 use denote.Ref.{now}
-use Prim.Native.Nat.{ℕ, _<_}
+use Prim.Native.Nat.{_<_}
 use native.Mathlib.Omega.{arith}
-use mathlib.Core.Path.{_≡_, refl, sym, ap, subst, _∙_}
+use mathlib.Core.Path.{_≡_, sym, ap, subst, _∙_}
 use Rattle.forms.specs.Decimal.{top}
 use Rattle.forms.specs.declared.Rule.the-variants.{Unk}
 use Rattle.history.specs.declared.History.{History}
@@ -13,26 +13,17 @@ use Rattle.history.specs.Words.{historiesIn}
 use borrow.Author.Needs.{needs}
 use Rattle.history.proofs.stamp_at.Statement.{statement}
 use Rattle.history.proofs.stamp_at.Tie as tie
-use Rattle.history.proofs.stamp_at.Reads as reads
-use Rattle.history.proofs.stamp_at.Lts as lts
-use Rattle.history.proofs.book.history_at.Reads as history-at-reads
-use Rattle.history.proofs.item_at.Reads as item-at-reads
-use Rattle.history.proofs.stamp_item.Reads as stamp-item-reads
 
--- src/lib.rt:433:9
 item-at-requires : tie.Need-item-at-requires
 item-at-requires c κs = search needs
 
--- src/lib.rt:434:14
 cast-at : tie.Need-cast-at
 cast-at c = search needs
 
--- src/lib.rt:435:13
 history-at-requires : tie.Need-history-at-requires
 history-at-requires c κs = subst (λ (x : Item). x .history < 16) (sym (c .before .item-at .ensures))
     (usable-at (c .before .before .args .e) (c .before .before .pre .0) (c .before .before .args .i) .history)
 
--- src/lib.rt:436:5
 stamp-item-requires : tie.Need-stamp-item-requires
 stamp-item-requires c κs =
     let a = c .before .before .before .args in
@@ -45,7 +36,6 @@ stamp-item-requires c κs =
     (unk-below (a .e) (p .0) cells (p .2) (a .i), let q = p .1 _ (u .history) in omega (arith, q)) in
     subst (λ (h : History). (x .rule ≡ Unk → h .version .0 < top) × (h .place .0 < top)) (sym (c .history-at .ensures)) ok
 
--- src/lib.rt:429:1
 returns : tie.Need-returns
 returns c =
     let cells = cellsOf (historiesIn (now (c .before .before .before .before .args .book))) in

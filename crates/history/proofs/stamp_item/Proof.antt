@@ -1,29 +1,20 @@
-use mathlib.Core.Path.{_≡_, refl, ap₂}
+use mathlib.Core.Path.{ap₂}
 use Rattle.forms.specs.declared.Rule.{Rule}
-use Rattle.forms.specs.declared.Version.{Version}
 use Rattle.history.specs.declared.Item.{Item}
 use Prim.Native.Nat.{ℕ, _+_}
 use borrow.Author.Needs.{needs}
 use Rattle.history.proofs.stamp_item.Statement.{statement}
 use Rattle.history.proofs.stamp_item.Tie as tie
-use Rattle.history.proofs.stamp_item.Reads as reads
-use Rattle.history.proofs.stamp_item.Lts as lts
-use Rattle.history.proofs.logged_as.Reads as logged-as-reads
-use Rattle.history.proofs.version_after.Reads as version-after-reads
 
--- src/lib.rt:418:9
 version-after-requires : tie.Need-version-after-requires
 version-after-requires c κs = search needs
 
--- src/lib.rt:420:15
 logged-as-requires : tie.Need-logged-as-requires
 logged-as-requires c κs = search needs
 
--- src/lib.rt:423:22
 add-t8 : tie.Need-add-t8
 add-t8 c = search needs
 
--- src/lib.rt:411:1
 returns : tie.Need-returns
 returns c =
     let x = c .before .before .before .before .before .args .x in

@@ -1,3 +1,5 @@
+-- The loop's invariant: the stream is valid for what it is lent, and `at` is within the chunk; each call of `feed` uses at least one byte,
+-- since a reply has room in an empty `out`.
 use denote.Ref.{now}
 use Prim.Native.Nat.{ℕ, _-_, _+_, _≤_, _<_}
 use native.Mathlib.Omega.{arith}
@@ -12,10 +14,6 @@ use Rattle.stream.specs.ChunkLaws.{Moves, moves-on}
 use borrow.Author.Needs.{needs}
 use Rattle.ledger.proofs.answer.Statement.{statement}
 use Rattle.ledger.proofs.answer.Tie as tie
-use Rattle.ledger.proofs.answer.Reads as reads
-use Rattle.ledger.proofs.answer.Lts as lts
-use Rattle.io.proofs.write_all.Reads as write-all-reads
-use Rattle.stream.proofs.Stream.feed.Reads as feed-reads
 
 -- what holds between two calls of feed
 record Holds (log₀ chunk out₀ log queued done book out : List ℕ) (stream : Stream) (at : ℕ) : Type 0 where

@@ -1,3 +1,4 @@
+-- What `finish` says it wrote is within `out`.
 use denote.Ref.{now}
 use native.Mathlib.Omega.{arith}
 use mathlib.Core.Path.{_≡_, sym}
@@ -7,10 +8,6 @@ use Rattle.stream.specs.RunLaws.{rest-within}
 use borrow.Author.Needs.{needs}
 use Rattle.ledger.proofs.close.Statement.{statement}
 use Rattle.ledger.proofs.close.Tie as tie
-use Rattle.ledger.proofs.close.Reads as reads
-use Rattle.ledger.proofs.close.Lts as lts
-use Rattle.io.proofs.write_all.Reads as write-all-reads
-use Rattle.stream.proofs.Stream.finish.Reads as finish-reads
 
 finish-requires : tie.Need-finish-requires
 finish-requires c κs = c .before .before .pre

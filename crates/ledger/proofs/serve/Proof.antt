@@ -1,5 +1,6 @@
+-- The loop's invariant: the stream is valid and the buffers keep their lengths; the number of turns falls.
 use denote.Ref.{now}
-use Prim.Native.Nat.{ℕ, _≤_, _<_}
+use Prim.Native.Nat.{ℕ}
 use native.Mathlib.Omega.{arith}
 use mathlib.Core.Path.{_≡_, refl, _∙_}
 use mathlib.Core.List.{List, []}
@@ -10,10 +11,6 @@ use Rattle.site.specs.Model.{lent}
 use Rattle.stream.specs.Model.{ValidStream}
 use Rattle.ledger.proofs.serve.Statement.{statement}
 use Rattle.ledger.proofs.serve.Tie as tie
-use Rattle.ledger.proofs.serve.Reads as reads
-use Rattle.ledger.proofs.serve.Lts as lts
-use Rattle.ledger.proofs.step.Reads as step-reads
-use Rattle.stream.proofs.Stream.start.Reads as start-reads
 
 -- what holds between two reads
 record Holds (log₀ chunk₀ out₀ log queued done book chunk out : List ℕ) (stream : Stream) : Type 0 where

@@ -1,11 +1,9 @@
--- `lines_demo::line_end` meets its contract. Assumes nothing.
+-- The loop's invariant: i is between `at` and the length.
 use native.Mathlib.Omega.{arith}
 use Prim.Native.Nat.{_≤_, _-_}
 use lib.ListN.{length}
 use Rattle.lines_demo.proofs.line_end.Statement.{statement}
 use Rattle.lines_demo.proofs.line_end.Tie as tie
-use Rattle.lines_demo.proofs.line_end.Reads as reads
-use Rattle.lines_demo.proofs.line_end.Lts as lts
 
 abbrev Inv-loop : tie.InvT-loop
 Inv-loop s at i₀ i = (at ≤ i) × (i ≤ length s)

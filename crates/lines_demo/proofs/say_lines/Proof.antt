@@ -1,14 +1,10 @@
--- `lines_demo::say_lines` meets its contract. Assumes nothing.
+-- The loop's invariant: `at` is at most one behind the length; it grows with each line.
 use borrow.Author.Needs.{needs}
 use native.Mathlib.Omega.{arith}
 use Prim.Native.Nat.{_≤_, _-_, _+_}
 use lib.ListN.{length}
 use Rattle.lines_demo.proofs.say_lines.Statement.{statement}
 use Rattle.lines_demo.proofs.say_lines.Tie as tie
-use Rattle.lines_demo.proofs.say_lines.Reads as reads
-use Rattle.lines_demo.proofs.say_lines.Lts as lts
-use Rattle.lines_demo.proofs.line_end.Reads as line-end-reads
-use Rattle.lines_demo.proofs.say_line.Reads as say-line-reads
 
 abbrev Inv-loop : tie.InvT-loop
 Inv-loop s at₀ at = at ≤ length s + 1

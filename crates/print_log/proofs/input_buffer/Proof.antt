@@ -4,8 +4,6 @@ use mathlib.Core.Path.{sym}
 use lib.ListN.{length-replicate}
 use Rattle.print_log.proofs.input_buffer.Statement.{statement}
 use Rattle.print_log.proofs.input_buffer.Tie as tie
-use Rattle.print_log.proofs.input_buffer.Reads as reads
-use Rattle.print_log.proofs.input_buffer.Lts as lts
 
 returns : tie.Need-returns
 returns c = sym (length-replicate {A = ℕ} 1048576 0)

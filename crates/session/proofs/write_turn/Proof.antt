@@ -6,9 +6,6 @@ use Rattle.session.specs.TurnLaws.{lists-short}
 use borrow.Author.Needs.{needs}
 use Rattle.session.proofs.write_turn.Statement.{statement}
 use Rattle.session.proofs.write_turn.Tie as tie
-use Rattle.session.proofs.write_turn.Reads as reads
-use Rattle.session.proofs.write_turn.Lts as lts
-use Rattle.forms.proofs.writer.write_reply.Reads as write-reply-reads
 
 slice-aggregate-write-reply : tie.Need-slice-aggregate-write-reply
 slice-aggregate-write-reply c = sym (length-take-le _ _ (c .before .before .before .before .before .pre .first .within))

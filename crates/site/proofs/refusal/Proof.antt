@@ -2,15 +2,10 @@ use Rattle.forms.specs.Held.{outcomeWith}
 use borrow.Author.Needs.{needs}
 use Rattle.site.proofs.refusal.Statement.{statement}
 use Rattle.site.proofs.refusal.Tie as tie
-use Rattle.site.proofs.refusal.Reads as reads
-use Rattle.site.proofs.refusal.Lts as lts
-use Rattle.site.proofs.bare.Reads as bare-reads
 
--- src/lib.rt:98:5
 bare-requires : tie.Need-bare-requires
 bare-requires c κs = search needs
 
--- src/lib.rt:95:1
 returns : tie.Need-returns
 unfolding outcomeWith
 returns c = c .bare .ensures

@@ -1,3 +1,4 @@
+-- 2,730 bytes are free and no reply is longer, so the writer never answers that there is no room.
 use native.Mathlib.Omega.{arith}
 use denote.Ref.{now}
 use Rattle.forms.specs.Forms.{outcomeText}
@@ -8,9 +9,6 @@ use Rattle.stream.specs.RunLaws.{wrote-at, wrote-not}
 use borrow.Author.Needs.{needs}
 use Rattle.stream.proofs.put_reply.Statement.{statement}
 use Rattle.stream.proofs.put_reply.Tie as tie
-use Rattle.stream.proofs.put_reply.Reads as reads
-use Rattle.stream.proofs.put_reply.Lts as lts
-use Rattle.session.proofs.write_turn.Reads as write-turn-reads
 
 write-turn-requires : tie.Need-write-turn-requires
 write-turn-requires c κs = c .before .before .before .before .pre .0

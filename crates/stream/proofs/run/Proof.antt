@@ -1,3 +1,4 @@
+-- The replies to the whole lines come from `feed`; where all bytes are used, `finish` adds the reply to the unended rest.
 use denote.Ref.{now}
 use Prim.Native.Nat.{ℕ}
 use mathlib.Core.Path.{_≡_}
@@ -8,35 +9,25 @@ use Rattle.stream.specs.RunLaws.{run-stops, run-whole, run-short}
 use borrow.Author.Needs.{needs}
 use Rattle.stream.proofs.run.Statement.{statement}
 use Rattle.stream.proofs.run.Tie as tie
-use Rattle.stream.proofs.run.Reads as reads
-use Rattle.stream.proofs.run.Lts as lts
-use Rattle.stream.proofs.Stream.feed.Reads as feed-reads
-use Rattle.stream.proofs.Stream.finish.Reads as finish-reads
-use Rattle.stream.proofs.Stream.start.Reads as start-reads
 
 -- what is lent at first: the log buffer and tables of zeros
 abbrev blank : List ℕ → Lent
 blank log = lent log (replicate 1472 0) (replicate 640 0) (replicate 80 0) (replicate 64 0) (replicate 64 0)
 
--- src/lib.rt:222:9
 start-requires : tie.Need-start-requires
 start-requires c κs = search needs
 
--- src/lib.rt:223:9
 feed-requires : tie.Need-feed-requires
 feed-requires c κs =
     let a = c .before .before .before .before .before .before .before .before .before .before .before .args in
     c .before .before .before .before .before .before .before .start .ensures (blank (now (a .log))) .valid
 
--- src/lib.rt:228:9
 same-length : tie.Need-same-length
 same-length c = search needs
 
--- src/lib.rt:228:9
 same-length-2 : tie.Need-same-length-2
 same-length-2 c = search needs
 
--- src/lib.rt:228:9
 returns : tie.Need-returns
 returns c =
     let fed = c .before .before .before .before .before .before in
@@ -47,27 +38,21 @@ returns c =
     let new = lent (f .last .1 .0) (f .last .1 .1 .0) (f .last .1 .1 .1 .0) (f .last .1 .1 .1 .1 .0) (f .last .1 .1 .1 .1 .1 .0) (f .last .1 .1 .1 .1 .1 .1 .0) in
     run-stops (now (a .input)) old (s .result) (f .result) new (now (a .out)) _ (s .ensures old) (f .ensures) (c .if1 .taken)
 
--- src/lib.rt:234:11
 finish-requires : tie.Need-finish-requires
 finish-requires c κs = c .before .before .before .before .before .before .before .feed .ensures .valid .begun
 
--- src/lib.rt:235:21
 enum-known-n : tie.Need-enum-known-n
 enum-known-n c = search needs
 
--- src/lib.rt:240:28
 enum-told : tie.Need-enum-told
 enum-told c = search needs
 
--- src/lib.rt:216:1
 same-length-3 : tie.Need-same-length-3
 same-length-3 c = search needs
 
--- src/lib.rt:216:1
 same-length-4 : tie.Need-same-length-4
 same-length-4 c = search needs
 
--- src/lib.rt:216:1
 returns-2 : tie.Need-returns-2
 returns-2 c =
     let fed = c .before .before .before .before .before .before .before .before .before .before .before .before .before in
@@ -81,15 +66,12 @@ returns-2 c =
     run-whole (now (a .input)) old (s .result) (f .result) new (now (a .out)) _ (s .ensures old) (f .ensures)
     all (z .result) _ (z .ensures) (c .before .n .given .0 .0) (c .before .n .given .1)
 
--- src/lib.rt:216:1
 same-length-5 : tie.Need-same-length-5
 same-length-5 c = search needs
 
--- src/lib.rt:216:1
 same-length-6 : tie.Need-same-length-6
 same-length-6 c = search needs
 
--- src/lib.rt:216:1
 returns-3 : tie.Need-returns-3
 returns-3 c =
     let f = c .before .before .before .before .before .before .before .before .before .before .before .before .feed in

@@ -1,3 +1,4 @@
+-- The bytes held and these are the whole line, where they fit; where they do not, the line is longer than 1,024 bytes and so unreadable.
 use mathlib.Core.Path.{sym}
 use lib.Seq.{length-take-le}
 use denote.Ref.{now}
@@ -7,21 +8,13 @@ use Rattle.stream.specs.LineLaws.{some-line, turns-over, over-is, held-i
 use borrow.Author.Needs.{needs}
 use Rattle.stream.proofs.take_begun.Statement.{statement}
 use Rattle.stream.proofs.take_begun.Tie as tie
-use Rattle.stream.proofs.take_begun.Reads as reads
-use Rattle.stream.proofs.take_begun.Lts as lts
-use Rattle.session.proofs.Session.refuse.Reads as refuse-reads
-use Rattle.session.proofs.Session.turn.Reads as turn-reads
-use Rattle.stream.proofs.with_bytes.Reads as with-bytes-reads
 
--- src/lib.rt:92:9
 with-bytes-requires : tie.Need-with-bytes-requires
 with-bytes-requires c κs = search needs
 
--- src/lib.rt:96:9
 refuse-requires : tie.Need-refuse-requires
 refuse-requires c κs = search needs
 
--- src/lib.rt:96:9
 returns : tie.Need-returns
 returns c =
     let e = c .before .before .before .before .before .before in
@@ -29,7 +22,6 @@ returns c =
     let m = lent (now (e .args .log)) (now (e .args .queued)) (now (e .args .done)) (now (e .args .book)) (now (e .args .first)) (now (e .args .second)) in
     λ line h. turns-over (e .args .session) m _ _ (e .pre .0) (over-is (w .result) _ (w .ensures line h) (c .before .if1 .taken)) (c .refuse .ensures)
 
--- src/lib.rt:98:43
 array-share-prefix-bytes : tie.Need-array-share-prefix-bytes
 array-share-prefix-bytes c =
     let e = c .before .before .before .before .before .before .before .before .before .before .before in
@@ -38,7 +30,6 @@ array-share-prefix-bytes c =
     let x = w .ensures (l .line) (l .begins) in
     omega (arith, x .few, x .long)
 
--- src/lib.rt:98:43
 slice-aggregate-turn : tie.Need-slice-aggregate-turn
 slice-aggregate-turn c =
     let e = c .before .before .before .before .before .before .before .before .before .before .before .before in
@@ -47,15 +38,12 @@ slice-aggregate-turn c =
     let x = w .ensures (l .line) (l .begins) in
     sym (length-take-le _ _ (omega (arith, x .few, x .long)))
 
--- src/lib.rt:98:5
 turn-requires : tie.Need-turn-requires
 turn-requires c κs = c .before .before .before .before .before .before .before .before .before .before .before .before .pre .0
 
--- src/lib.rt:77:1
 same-length : tie.Need-same-length
 same-length c = search needs
 
--- src/lib.rt:77:1
 returns-2 : tie.Need-returns-2
 returns-2 c =
     let e = c .before .before .before .before .before .before .before .before .before .before .before .before .before .before .before in

@@ -1,12 +1,11 @@
-use Prim.Native.Nat.{ℕ, _-_}
+-- The loop's invariant: the first i bytes stand behind those held. Where they do not fit, the line is longer than any that can be read.
+use Prim.Native.Nat.{_-_}
 use native.Mathlib.Omega.{arith}
 use lib.ListN.{length}
 use denote.Ref.{now}
 use Rattle.stream.specs.LineLaws.{Copied, copied-start, copied-more, begins-bytes, begins-above}
 use Rattle.stream.proofs.with_bytes.Statement.{statement}
 use Rattle.stream.proofs.with_bytes.Tie as tie
-use Rattle.stream.proofs.with_bytes.Reads as reads
-use Rattle.stream.proofs.with_bytes.Lts as lts
 
 abbrev Inv-loop : tie.InvT-loop
 Inv-loop b part n bytes₀ i₀ bytes i = Copied bytes₀ n part i bytes
@@ -14,52 +13,41 @@ Inv-loop b part n bytes₀ i₀ bytes i = Copied bytes₀ n part i bytes
 abbrev μ-loop : tie.MeasureT-loop
 μ-loop b part n bytes₀ i₀ bytes i = length part - i
 
--- src/lib.rt:57:8
 sub-if1 : tie.Need-sub-if1 Inv-loop μ-loop
 sub-if1 c = omega (arith, c .before .pre .few)
 
--- src/lib.rt:58:9
 returns : tie.Need-returns Inv-loop μ-loop
 returns c = λ line h. begins-above (c .before .before .args .b) line (now (c .before .before .args .part)) h (c .if1 .taken)
 
--- src/lib.rt:65:5
 loop-holds : tie.Need-loop-holds Inv-loop μ-loop
 loop-holds c =
     let e = c .before .before in
     copied-start (e .args .b .bytes) (e .args .b .len) (now (e .args .part)) (omega (arith, e .pre .few, c .if1 .left)) (e .pre .long)
 
--- src/lib.rt:66:24
 shared-slice-read-bytes : tie.Need-shared-slice-read-bytes Inv-loop μ-loop
 shared-slice-read-bytes c = c .before .loop-test .taken
 
--- src/lib.rt:66:15
 add-bytes : tie.Need-add-bytes Inv-loop μ-loop
 add-bytes c = let i = c .before .before .loop .inv in let t = c .before .loop-test .taken in let f = i .fits in omega arith
 
--- src/lib.rt:66:9
 array-write-bytes : tie.Need-array-write-bytes Inv-loop μ-loop
 array-write-bytes c = let i = c .before .before .loop .inv in let t = c .before .loop-test .taken in let f = i .fits in let l = i .long in omega arith
 
--- src/lib.rt:67:9
 add-i : tie.Need-add-i Inv-loop μ-loop
 add-i c = omega arith
 
--- src/lib.rt:65:5
 loop-less : tie.Need-loop-less Inv-loop μ-loop
 loop-less c = let t = c .before .loop-test .taken in omega arith
 
--- src/lib.rt:65:5
 loop-again : tie.Need-loop-again Inv-loop μ-loop
 loop-again c =
     let a = c .before .before .before .before .before .args in
     let l = c .before .before .loop in
     copied-more (a .b .bytes) (a .b .len) (now (a .part)) (l .i) (l .bytes) (l .inv) (c .before .loop-test .taken)
 
--- src/lib.rt:71:14
 add-t6 : tie.Need-add-t6 Inv-loop μ-loop
 add-t6 c = let i = c .before .loop .inv in let f = i .fits in let s = i .some in omega arith
 
--- src/lib.rt:51:1
 returns-2 : tie.Need-returns-2 Inv-loop μ-loop
 returns-2 c =
     let a = c .before .before .before .before .args in

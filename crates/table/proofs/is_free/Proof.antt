@@ -1,5 +1,5 @@
 use native.Mathlib.Omega.{arith}
-use mathlib.Core.Path.{_≡_, sym, _∙_}
+use mathlib.Core.Path.{sym, _∙_}
 use Rattle.table.specs.Tries.{freeBy}
 use Rattle.table.proofs.is_free.Statement.{statement}
 use Rattle.table.proofs.is_free.Tie as tie

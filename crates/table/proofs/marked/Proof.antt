@@ -1,8 +1,8 @@
-use Prim.Native.Nat.{ℕ, _≤_, _-_, _+_}
+use Prim.Native.Nat.{_≤_, _-_}
 use native.Mathlib.Omega.{arith}
 use mathlib.Core.Path.{_≡_, ap, refl, _∙_}
 use mathlib.Core.Bool.{Bool, false, _||_}
-use lib.ListN.{length, getD}
+use lib.ListN.{getD}
 use Rattle.history.specs.Entries.{noItem}
 use Rattle.table.specs.MarkLaws.{Marking, marking-start, marking-next, marking-end}
 use Rattle.table.proofs.marked.Statement.{statement}

@@ -1,9 +1,6 @@
 use borrow.Author.Needs.{needs}
-use mathlib.Core.Path.{_≡_, ap, _∙_, sym}
-use mathlib.Core.Bool.{Bool, not, _&&_}
-use Rattle.forms.specs.Lists.{all}
-use Rattle.history.specs.Entries.{operationOf, cellsOf}
-use Rattle.table.specs.Tries.{startsBy, readyBy, updatesOf}
+use Rattle.history.specs.Entries.{operationOf}
+use Rattle.table.specs.Tries.{startsBy}
 use Rattle.table.proofs.may_start.Statement.{statement}
 use Rattle.table.proofs.may_start.Tie as tie
 

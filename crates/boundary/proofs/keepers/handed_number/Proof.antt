@@ -1,12 +1,10 @@
+-- Each arm is one case of `handOutNumber`; the caller's fact keeps the sum in range.
 use mathlib.Core.Path.{ap, sym, _∙_}
 use native.Mathlib.Omega.{arith}
 use Rattle.boundary.specs.KeeperCalls.{handOutNumber}
 use borrow.Author.Needs.{needs}
 use Rattle.boundary.proofs.keepers.handed_number.Statement.{statement}
 use Rattle.boundary.proofs.keepers.handed_number.Tie as tie
-use Rattle.boundary.proofs.keepers.handed_number.Reads as reads
-use Rattle.boundary.proofs.keepers.handed_number.Lts as lts
-use Rattle.forms.proofs.writer.refusal_number.Reads as refusal-number-reads
 
 enum-known-r : tie.Need-enum-known-r
 enum-known-r c = search needs

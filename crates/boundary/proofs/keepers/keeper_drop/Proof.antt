@@ -1,3 +1,5 @@
+-- Bytes that are no keeper's get their own number; otherwise the keeper taken up from them is valid, and the call's contract gives the
+-- reply.
 use native.Mathlib.Omega.{arith}
 use denote.Ref.{now}
 use Rattle.rules.specs.Keeper.{dropLines}
@@ -5,11 +7,6 @@ use Rattle.boundary.specs.KeeperCallLaws.{TakenUp, taken-up, not-taken-u
 use borrow.Author.Needs.{needs}
 use Rattle.boundary.proofs.keepers.keeper_drop.Statement.{statement}
 use Rattle.boundary.proofs.keepers.keeper_drop.Tie as tie
-use Rattle.boundary.proofs.keepers.keeper_drop.Reads as reads
-use Rattle.boundary.proofs.keepers.keeper_drop.Lts as lts
-use Rattle.boundary.proofs.keepers.kept_number.Reads as kept-number-reads
-use Rattle.keeper.proofs.Keeper.forget.Reads as forget-reads
-use Rattle.keeper.proofs.Keeper.resume.Reads as resume-reads
 
 resume-requires : tie.Need-resume-requires
 resume-requires c κs = search needs

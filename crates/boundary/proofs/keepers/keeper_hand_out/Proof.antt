@@ -1,3 +1,5 @@
+-- Bytes that are no keeper's and places that are not sixteen get numbers of their own; otherwise the keeper taken up is valid, and the
+-- call's contract gives the reply.
 use Prim.Native.Nat.{ℕ}
 use mathlib.Core.Path.{subst}
 use mathlib.Core.List.{List}
@@ -9,12 +11,6 @@ use Rattle.keeper.specs.CallLaws.{handed-within}
 use Rattle.boundary.specs.KeeperCallLaws.{TakenUp, taken-up, not-taken-up, hands-none, hands-not-sixteen, hands-over}
 use Rattle.boundary.proofs.keepers.keeper_hand_out.Statement.{statement}
 use Rattle.boundary.proofs.keepers.keeper_hand_out.Tie as tie
-use Rattle.boundary.proofs.keepers.keeper_hand_out.Reads as reads
-use Rattle.boundary.proofs.keepers.keeper_hand_out.Lts as lts
-use Rattle.boundary.proofs.keepers.handed_number.Reads as handed-number-reads
-use Rattle.boundary.proofs.keepers.sixteen.Reads as sixteen-reads
-use Rattle.keeper.proofs.Keeper.hand_out.Reads as hand-out-reads
-use Rattle.keeper.proofs.Keeper.resume.Reads as resume-reads
 
 resume-requires : tie.Need-resume-requires
 resume-requires c κs = tt

@@ -1,12 +1,10 @@
+-- Each arm is one case of `verdictNumber`.
 use mathlib.Core.Path.{ap, sym, _∙_}
 use Rattle.history.specs.declared.Verdict.{Verdict}
 use Rattle.boundary.specs.KeeperCalls.{verdictNumber}
 use borrow.Author.Needs.{needs}
 use Rattle.boundary.proofs.keepers.kept_number.Statement.{statement}
 use Rattle.boundary.proofs.keepers.kept_number.Tie as tie
-use Rattle.boundary.proofs.keepers.kept_number.Reads as reads
-use Rattle.boundary.proofs.keepers.kept_number.Lts as lts
-use Rattle.forms.proofs.writer.refusal_number.Reads as refusal-number-reads
 
 enum-told : tie.Need-enum-told
 enum-told c = search needs

@@ -1,3 +1,4 @@
+-- The loop's invariant: the first i numbers of the array are those of the slice.
 use Prim.Native.Nat.{_≤_, _-_}
 use mathlib.Core.Path.{_≡_, refl, sym, _∙_}
 use native.Mathlib.Omega.{arith}
@@ -7,8 +8,6 @@ use denote.Ref.{now}
 use Rattle.boundary.specs.ArrayLaws.{copied-next}
 use Rattle.boundary.proofs.keepers.sixteen.Statement.{statement}
 use Rattle.boundary.proofs.keepers.sixteen.Tie as tie
-use Rattle.boundary.proofs.keepers.sixteen.Reads as reads
-use Rattle.boundary.proofs.keepers.sixteen.Lts as lts
 
 abbrev Inv-loop : tie.InvT-loop
 Inv-loop s a₀ i₀ a i = (i ≤ 16) × (length a ≡ 16) × (take i a ≡ take i s)

@@ -1,39 +1,30 @@
+-- `run` requires nothing, and the number is its answer: the bytes written, or 2^64 − 1.
 use mathlib.Core.Path.{sym, ap}
 use Rattle.boundary.specs.Play.{wholeCode}
 use borrow.Author.Needs.{needs}
 use Rattle.boundary.proofs.play.session_whole.Statement.{statement}
 use Rattle.boundary.proofs.play.session_whole.Tie as tie
-use Rattle.boundary.proofs.play.session_whole.Reads as reads
-use Rattle.boundary.proofs.play.session_whole.Lts as lts
-use Rattle.stream.proofs.run.Reads as run-reads
 
--- src/play.rt:10:9
 run-requires : tie.Need-run-requires
 run-requires c κs = search needs
 
--- src/play.rt:12:9
 same-length : tie.Need-same-length
 same-length c = search needs
 
--- src/play.rt:12:9
 same-length-2 : tie.Need-same-length-2
 same-length-2 c = search needs
 
--- src/play.rt:12:9
 returns : tie.Need-returns
 returns c =
     let r = c .before .before .before .before .before .run .result in
     record { ran = r; runs = c .before .before .before .before .before .run .ensures; code = sym (ap (λ b. wholeCode b (r .written)) (c .if1 .taken)) }
 
--- src/play.rt:6:1
 same-length-3 : tie.Need-same-length-3
 same-length-3 c = search needs
 
--- src/play.rt:6:1
 same-length-4 : tie.Need-same-length-4
 same-length-4 c = search needs
 
--- src/play.rt:6:1
 returns-2 : tie.Need-returns-2
 returns-2 c =
     let r = c .before .before .before .before .before .run .result in

@@ -1,3 +1,4 @@
+-- The contract of restart holds for whatever stands in the book's numbers, so zeros serve; its reply is then written as text.
 use denote.Ref.{now}
 use Prim.Native.Nat.{ℕ}
 use mathlib.Core.List.{List, []}
@@ -10,41 +11,29 @@ use Rattle.site.specs.OpenLaws.{blankSite}
 use Rattle.boundary.specs.RestartLaws.{puts-reply}
 use Rattle.boundary.proofs.restart.site_restart.Statement.{statement}
 use Rattle.boundary.proofs.restart.site_restart.Tie as tie
-use Rattle.boundary.proofs.restart.site_restart.Reads as reads
-use Rattle.boundary.proofs.restart.site_restart.Lts as lts
-use Rattle.boundary.proofs.restart.code.Reads as code-reads
-use Rattle.site.proofs.Site.restart.Reads as restart-reads
-use Rattle.forms.proofs.writer.write_reply.Reads as write-reply-reads
 
 -- the words of the histories before the restart
 abbrev bs : List ℕ
 bs = replicate 80 0
 
--- src/restart.rt:26:9
 restart-requires : tie.Need-restart-requires
 restart-requires c κs = search needs
 
--- src/restart.rt:29:9
 slice-aggregate-write-reply : tie.Need-slice-aggregate-write-reply
 slice-aggregate-write-reply c = search needs
 
--- src/restart.rt:29:9
 slice-aggregate-write-reply-2 : tie.Need-slice-aggregate-write-reply-2
 slice-aggregate-write-reply-2 c = search needs
 
--- src/restart.rt:29:9
 write-reply-requires : tie.Need-write-reply-requires
 write-reply-requires c κs = (omega arith, omega arith)
 
--- src/restart.rt:30:5
 code-requires : tie.Need-code-requires
 code-requires c κs = search needs
 
--- src/restart.rt:21:1
 same-length : tie.Need-same-length
 same-length c = search needs
 
--- src/restart.rt:21:1
 returns : tie.Need-returns
 returns c =
     let e = c .before .before .before .before .before .before .before .before .before .before .before .before in

@@ -1,13 +1,11 @@
+-- The array holds the update four times, and the count says that only the first is meant.
 use mathlib.Core.List.{[], _∷_}
 use Rattle.forms.specs.Held.{asAsked}
 use Rattle.boundary.specs.Rounds.{incOf}
 use Rattle.boundary.specs.RoundsLaws.{held-one}
 use Rattle.boundary.proofs.rounds.asked_inc.Statement.{statement}
 use Rattle.boundary.proofs.rounds.asked_inc.Tie as tie
-use Rattle.boundary.proofs.rounds.asked_inc.Reads as reads
-use Rattle.boundary.proofs.rounds.asked_inc.Lts as lts
 
--- src/rounds.rt:21:1
 returns : tie.Need-returns
 returns c =
     let a = asAsked (incOf (c .args .history) (c .args .version)) in

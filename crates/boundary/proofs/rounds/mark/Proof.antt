@@ -1,19 +1,14 @@
+-- Two calls one behind the other, each by its contract: what the first reaches is what the second starts from.
 use denote.Ref.{now}
 use Rattle.rules.specs.Calls.{Call}
 use Rattle.site.specs.Model.{lent}
 use Rattle.boundary.specs.RoundsLaws.{call-reaches, two-reach}
 use Rattle.boundary.proofs.rounds.mark.Statement.{statement}
 use Rattle.boundary.proofs.rounds.mark.Tie as tie
-use Rattle.boundary.proofs.rounds.mark.Reads as reads
-use Rattle.boundary.proofs.rounds.mark.Lts as lts
-use Rattle.site.proofs.Site.persistent.Reads as persistent-reads
-use Rattle.site.proofs.Site.stable.Reads as stable-reads
 
--- src/rounds.rt:73:9
 persistent-requires : tie.Need-persistent-requires
 persistent-requires c κs = c .before .before .before .before .before .pre
 
--- src/rounds.rt:75:9
 stable-requires : tie.Need-stable-requires
 stable-requires c κs =
     let e = c .before .before .before .before .before .before .before .before .before .before in
@@ -23,7 +18,6 @@ stable-requires c κs =
     let valid = call-reaches (e .args .site) m (Call.Persistent (e .args .n)) (p .result) mid (e .pre) (p .ensures) .valid in
     valid
 
--- src/rounds.rt:59:1
 returns : tie.Need-returns
 returns c =
     let e = c .before .before .before .before .before .before .before .before .before .before .before .before in

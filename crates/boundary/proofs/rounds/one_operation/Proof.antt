@@ -1,3 +1,4 @@
+-- Two calls one behind the other, each by its contract: what the first reaches is what the second starts from.
 use denote.Ref.{now}
 use Rattle.rules.specs.Calls.{Call}
 use Rattle.site.specs.Model.{lent}
@@ -6,25 +7,16 @@ use Rattle.boundary.specs.RoundsLaws.{call-reaches, two-reach, adds}
 use borrow.Author.Needs.{needs}
 use Rattle.boundary.proofs.rounds.one_operation.Statement.{statement}
 use Rattle.boundary.proofs.rounds.one_operation.Tie as tie
-use Rattle.boundary.proofs.rounds.one_operation.Reads as reads
-use Rattle.boundary.proofs.rounds.one_operation.Lts as lts
-use Rattle.boundary.proofs.rounds.asked_inc.Reads as asked-inc-reads
-use Rattle.site.proofs.Site.add.Reads as add-reads
-use Rattle.site.proofs.Site.finish.Reads as finish-reads
 
--- src/rounds.rt:51:35
 add-asked-inc : tie.Need-add-asked-inc
 add-asked-inc c = search needs
 
--- src/rounds.rt:51:9
 asked-inc-requires : tie.Need-asked-inc-requires
 asked-inc-requires c κs = search needs
 
--- src/rounds.rt:52:9
 add-requires : tie.Need-add-requires
 add-requires c κs = c .before .before .before .before .before .before .before .pre
 
--- src/rounds.rt:54:9
 finish-requires : tie.Need-finish-requires
 finish-requires c κs =
     let e = c .before .before .before .before .before .before .before .before .before .before .before .before .before .before .before in
@@ -35,11 +27,9 @@ finish-requires c κs =
     let valid = call-reaches (e .args .site) m (Call.Add (e .args .id) (updatesHeld (asked .result))) (add .result) mid (e .pre) (add .ensures (now (e .args .second))) .valid in
     valid
 
--- src/rounds.rt:37:1
 same-length : tie.Need-same-length
 same-length c = search needs
 
--- src/rounds.rt:37:1
 returns : tie.Need-returns
 returns c =
     let e = c .before .before .before .before .before .before .before .before .before .before .before .before .before .before .before .before .before .before .before in

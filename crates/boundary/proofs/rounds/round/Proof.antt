@@ -1,3 +1,4 @@
+-- The calls of a round are those of the operation, and behind every 32nd the marks; the two cases are the two `return`s.
 use Prim.Native.Nat.{_%_}
 use borrow.Author.Tests.{eq-eqb, ne-eqb}
 use denote.Ref.{now}
@@ -6,28 +7,19 @@ use Rattle.boundary.specs.RoundsLaws.{marked-reach, unmarked-reach}
 use borrow.Author.Needs.{needs}
 use Rattle.boundary.proofs.rounds.round.Statement.{statement}
 use Rattle.boundary.proofs.rounds.round.Tie as tie
-use Rattle.boundary.proofs.rounds.round.Reads as reads
-use Rattle.boundary.proofs.rounds.round.Lts as lts
-use Rattle.boundary.proofs.rounds.one_operation.Reads as one-operation-reads
-use Rattle.boundary.proofs.rounds.mark.Reads as mark-reads
 
--- src/rounds.rt:95:9
 one-operation-requires : tie.Need-one-operation-requires
 one-operation-requires c κs = search needs
 
--- src/rounds.rt:97:69
 add-mark : tie.Need-add-mark
 add-mark c = search needs
 
--- src/rounds.rt:97:9
 mark-requires : tie.Need-mark-requires
 mark-requires c κs = search needs
 
--- src/rounds.rt:97:9
 same-length : tie.Need-same-length
 same-length c = search needs
 
--- src/rounds.rt:97:9
 returns : tie.Need-returns
 returns c =
     let e = c .before .before .before .before .before .before .before .before .before .before .before .before .before .before .before .before .before .before in
@@ -38,11 +30,9 @@ returns c =
     marked-reach (e .args .site) m (e .args .id) (o .result) mid (c .mark .result) new _
     (eq-eqb (e .args .id % 32) 31 (c .before .before .before .before .before .before .before .if1 .taken)) (o .ensures) (c .mark .ensures)
 
--- src/rounds.rt:80:1
 same-length-2 : tie.Need-same-length-2
 same-length-2 c = search needs
 
--- src/rounds.rt:80:1
 returns-2 : tie.Need-returns-2
 returns-2 c =
     let e = c .before .before .before .before .before .before .before .before .before .before .before in

@@ -1,3 +1,5 @@
+-- The loop's invariant: the site is what the rounds below `id` reach from the one that was opened. A refused opening hands back a site
+-- without histories.
 use denote.Ref.{now}
 use Prim.Native.Nat.{ℕ, _-_, _≤_}
 use mathlib.Core.Path.{_≡_, refl, _∙_}
@@ -12,10 +14,6 @@ use Rattle.boundary.specs.Rounds.{Reaches, roundsCalls}
 use Rattle.boundary.specs.RoundsLaws.{no-round, round-more, not-opened, opened-valid, rounds-stand}
 use Rattle.boundary.proofs.rounds.site_add_and_finish.Statement.{statement}
 use Rattle.boundary.proofs.rounds.site_add_and_finish.Tie as tie
-use Rattle.boundary.proofs.rounds.site_add_and_finish.Reads as reads
-use Rattle.boundary.proofs.rounds.site_add_and_finish.Lts as lts
-use Rattle.boundary.proofs.rounds.round.Reads as round-reads
-use Rattle.site.proofs.Site.open.Reads as open-reads
 
 -- what holds between two rounds
 record Going (n : ℕ) (site₀ : Site) (m₀ : Lent) (id : ℕ) (site : Site) (m : Lent) : Type 0 where
@@ -45,22 +43,18 @@ Inv-loop log₀ n book₀ site₀ queued₀ done₀ first₀ second₀ id₀ log
 abbrev μ-loop : tie.MeasureT-loop
 μ-loop log₀ n book₀ site₀ queued₀ done₀ first₀ second₀ id₀ log book site queued done first second id = n - id
 
--- src/rounds.rt:108:9
 open-requires : tie.Need-open-requires Inv-loop μ-loop
 open-requires c κs = search needs
 
--- src/rounds.rt:111:9
 same-length : tie.Need-same-length Inv-loop μ-loop
 same-length c = search needs
 
--- src/rounds.rt:111:9
 returns : tie.Need-returns Inv-loop μ-loop
 returns c =
     let log = now (c .before .before .before .before .before .before .before .before .before .args .log) in
     let o = c .before .before .before .before .before .«open» in
     not-opened (openSite 4 (length log)) _ (lent log [] [] bs [] []) (o .result) (lent (o .last .0) [] [] (o .last .1 .0) [] []) (o .ensures [] [] [] []) (c .if1 .taken)
 
--- src/rounds.rt:118:5
 loop-holds : tie.Need-loop-holds Inv-loop μ-loop
 loop-holds c =
     let log = now (c .before .before .before .before .before .before .before .before .before .args .log) in
@@ -69,7 +63,6 @@ loop-holds c =
     let v = opened-valid (openSite 4 (length log)) (lent log qs ds bs ws ws) (o .result) mid (o .ensures qs ds ws ws) (c .if1 .left) in
     record { reaches = no-round _ _ v; below = omega arith; room = refl }
 
--- src/rounds.rt:119:9
 round-requires : tie.Need-round-requires Inv-loop μ-loop
 round-requires c κs =
     let l = c .before .before .before .before .before .before .before in (
@@ -77,17 +70,14 @@ round-requires c κs =
       omega (arith, c .before .before .before .before .before .before .loop-test .taken, l .before .before .before .before .before .before .before .before .before .before .fits .n),
     )
 
--- src/rounds.rt:129:9
 add-id : tie.Need-add-id Inv-loop μ-loop
 add-id c =
     let l = c .before .before .before .before .before .before .before .before .before in
     omega (arith, l .loop-test .taken, l .before .before .before .before .before .before .before .before .before .before .before .fits .n)
 
--- src/rounds.rt:118:5
 loop-less : tie.Need-loop-less Inv-loop μ-loop
 loop-less c = omega (arith, c .before .before .before .before .before .before .before .before .before .loop-test .taken)
 
--- src/rounds.rt:118:5
 loop-again : tie.Need-loop-again Inv-loop μ-loop
 loop-again c =
     let l = c .before .before .before .before .before .before .before .before .before .before .loop in
@@ -99,14 +89,12 @@ loop-again c =
       room = a ∙ l .inv .room;
     }
 
--- src/rounds.rt:103:1
 same-length-2 : tie.Need-same-length-2 Inv-loop μ-loop
 same-length-2 c =
     let o = c .before .before .before .before .before .before .before in
     let a : length (o .«open» .last .0) ≡ length (now (o .before .before .before .before .args .log)) = search needs in
     c .before .loop .inv .room ∙ a
 
--- src/rounds.rt:103:1
 returns-2 : tie.Need-returns-2 Inv-loop μ-loop
 returns-2 c =
     let log = now (c .before .before .before .before .before .before .before .before .before .before .before .args .log) in

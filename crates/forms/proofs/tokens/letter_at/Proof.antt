@@ -6,10 +6,6 @@ use Rattle.forms.specs.AtLaws.{letter-here, letter-past}
 use borrow.Author.Needs.{needs}
 use Rattle.forms.proofs.tokens.letter_at.Statement.{statement}
 use Rattle.forms.proofs.tokens.letter_at.Tie as tie
-use Rattle.forms.proofs.tokens.letter_at.Reads as reads
-use Rattle.forms.proofs.tokens.letter_at.Lts as lts
-use Rattle.forms.proofs.tokens.is_letter.Reads as is-letter-reads
-use Rattle.forms.proofs.tokens.kind_of.Reads as kind-of-reads
 
 shared-slice-read-b : tie.Need-shared-slice-read-b
 shared-slice-read-b c = search needs

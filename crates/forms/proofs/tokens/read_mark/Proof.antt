@@ -9,10 +9,6 @@ use Rattle.forms.specs.AtLaws.{mark-end, mark-other, mark-here}
 use borrow.Author.Needs.{needs}
 use Rattle.forms.proofs.tokens.read_mark.Statement.{statement}
 use Rattle.forms.proofs.tokens.read_mark.Tie as tie
-use Rattle.forms.proofs.tokens.read_mark.Reads as reads
-use Rattle.forms.proofs.tokens.read_mark.Lts as lts
-use Rattle.forms.proofs.tokens.kind_of.Reads as kind-of-reads
-use Rattle.forms.proofs.tokens.mark_of.Reads as mark-of-reads
 
 returns : tie.Need-returns
 returns c = let a = c .before .before .args in is-none refl (mark-end (a .m) (now (a .s)) (a .at) (omega arith))

@@ -14,11 +14,6 @@ use Rattle.forms.specs.AtLaws.{letter-here, letter-past, name-whole, nam
 use borrow.Author.Needs.{needs}
 use Rattle.forms.proofs.tokens.read_name.Statement.{statement}
 use Rattle.forms.proofs.tokens.read_name.Tie as tie
-use Rattle.forms.proofs.tokens.read_name.Reads as reads
-use Rattle.forms.proofs.tokens.read_name.Lts as lts
-use Rattle.forms.proofs.tokens.is_letter.Reads as is-letter-reads
-use Rattle.forms.proofs.tokens.kind_of.Reads as kind-of-reads
-use Rattle.forms.proofs.tokens.letter_at.Reads as letter-at-reads
 
 abbrev Inv-loop : tie.InvT-loop
 Inv-loop s at w i₀ next₀ i next = (i ≤ length w) × (next ≤ length s) × (name w (drop at s) ≡ name (drop i w) (drop next s))

@@ -1,45 +1,33 @@
+-- Where the writer says that it ended is within its buffer.
 use Rattle.lines_demo.specs.Within.{writes-within}
 use borrow.Author.Needs.{needs}
 use Rattle.lines_demo.proofs.again.say_site_again.Statement.{statement}
 use Rattle.lines_demo.proofs.again.say_site_again.Tie as tie
-use Rattle.lines_demo.proofs.again.say_site_again.Reads as reads
-use Rattle.lines_demo.proofs.again.say_site_again.Lts as lts
-use Rattle.lines_demo.proofs.again.say_front.Reads as say-front-reads
-use Rattle.forms.proofs.reader.read_site.Reads as read-site-reads
-use Rattle.forms.proofs.writer.write_site.Reads as write-site-reads
 
--- src/again.rt:48:33
 read-site-requires : tie.Need-read-site-requires
 read-site-requires c κs = search needs
 
--- src/again.rt:48:28
 enum-known-n : tie.Need-enum-known-n
 enum-known-n c = search needs
 
--- src/again.rt:50:36
 slice-aggregate-write-site : tie.Need-slice-aggregate-write-site
 slice-aggregate-write-site c = search needs
 
--- src/again.rt:50:13
 write-site-requires : tie.Need-write-site-requires
 write-site-requires c κs = search needs
 
--- src/again.rt:51:22
 slice-aggregate-say-front : tie.Need-slice-aggregate-say-front
 slice-aggregate-say-front c = search needs
 
--- src/again.rt:51:9
 say-front-requires : tie.Need-say-front-requires
 say-front-requires c κs = writes-within _ _ _ _ _ (c .before .before .write-site .ensures)
 
 enum-told : tie.Need-enum-told
 enum-told c = search needs
 
--- src/again.rt:47:1
 returns : tie.Need-returns
 returns c = search needs
 
--- src/again.rt:47:1
 returns-2 : tie.Need-returns-2
 returns-2 c = search needs
 

@@ -4,10 +4,6 @@ use Rattle.site.specs.Model.{lent}
 use borrow.Author.Needs.{needs}
 use Rattle.session.proofs.Session.answer.Statement.{statement}
 use Rattle.session.proofs.Session.answer.Tie as tie
-use Rattle.session.proofs.Session.answer.Reads as reads
-use Rattle.session.proofs.Session.answer.Lts as lts
-use Rattle.session.proofs.Session.turn.Reads as turn-reads
-use Rattle.session.proofs.write_turn.Reads as write-turn-reads
 
 turn-requires : tie.Need-turn-requires
 turn-requires c κs = search needs

@@ -3,9 +3,6 @@ use Rattle.session.specs.AnswerLaws.{starts}
 use borrow.Author.Needs.{needs}
 use Rattle.session.proofs.Session.start.Statement.{statement}
 use Rattle.session.proofs.Session.start.Tie as tie
-use Rattle.session.proofs.Session.start.Reads as reads
-use Rattle.session.proofs.Session.start.Lts as lts
-use Rattle.site.proofs.Site.blank.Reads as blank-reads
 
 blank-requires : tie.Need-blank-requires
 blank-requires c κs = search needs

@@ -4,10 +4,6 @@ use Rattle.site.specs.Model.{lent}
 use borrow.Author.Needs.{needs}
 use Rattle.session.proofs.Session.turn.Statement.{statement}
 use Rattle.session.proofs.Session.turn.Tie as tie
-use Rattle.session.proofs.Session.turn.Reads as reads
-use Rattle.session.proofs.Session.turn.Lts as lts
-use Rattle.forms.proofs.reader.read_command.Reads as read-command-reads
-use Rattle.session.proofs.Session.obey.Reads as obey-reads
 
 read-command-requires : tie.Need-read-command-requires
 read-command-requires c κs = search needs

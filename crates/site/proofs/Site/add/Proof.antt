@@ -20,16 +20,6 @@ use Rattle.site.specs.AddLaws.{add-refused, add-does, add-room, passed-u
 use borrow.Author.Needs.{needs}
 use Rattle.site.proofs.Site.add.Statement.{statement}
 use Rattle.site.proofs.Site.add.Tie as tie
-use Rattle.site.proofs.Site.add.Reads as reads
-use Rattle.site.proofs.Site.add.Lts as lts
-use Rattle.history.proofs.entry_of_asked.Reads as entry-of-asked-reads
-use Rattle.site.proofs.add.add_refusal.Reads as add-refusal-reads
-use Rattle.site.proofs.add.trimmed_asked.Reads as trimmed-asked-reads
-use Rattle.site.proofs.refusal.Reads as refusal-reads
-use Rattle.table.proofs.DoneList.has_id.Reads as DoneList-has-id-reads
-use Rattle.table.proofs.Queue.has_id.Reads as Queue-has-id-reads
-use Rattle.table.proofs.Queue.push.Reads as push-reads
-use Rattle.table.proofs.Queue.try_all.Reads as try-all-reads
 
 -- what the rule book says of the operation
 abbrev ruled : tie.After-add-refusal → Option Refusal
@@ -52,7 +42,6 @@ said r =
 free : (t : tie.After-enum-told) → ruled (t .before .before) ≡ none
 free t = passes-is _ (sym (t .enum-told .given .1) ∙ said (t .before .before))
 
--- src/add.rt:118:13
 trimmed-asked-requires : tie.Need-trimmed-asked-requires
 trimmed-asked-requires c κs = search needs
 
@@ -63,36 +52,29 @@ add-live c =
     let k = c .before .before .before .before .before .before .pre .carries in
     omega (arith, k .usable .few, k .finished .usable .few)
 
--- src/add.rt:125:22
 has-id-requires : tie.Need-has-id-requires
 unfolding Sound
 has-id-requires c κs = c .before .before .before .before .before .before .before .pre .carries .usable
 
--- src/add.rt:126:19
 has-id-requires-2 : tie.Need-has-id-requires-2
 unfolding Sound
 has-id-requires-2 c κs = c .before .before .before .before .before .before .before .before .pre .carries .finished .usable
 
--- src/add.rt:130:15
 add-refusal-requires : tie.Need-add-refusal-requires
 add-refusal-requires c κs = (
   count-most _ _ (c .before .before .before .before .before .before .before .before .before .pre),
   (_, c .before .before .before .before .before .before .before .trimmed-asked .ensures .is),
 )
 
--- src/add.rt:131:30
 enum-known-q : tie.Need-enum-known-q
 enum-known-q c = search needs
 
--- src/add.rt:133:24
 refusal-requires : tie.Need-refusal-requires
 refusal-requires c κs = search needs
 
--- src/add.rt:136:39
 enum-told : tie.Need-enum-told
 enum-told c = search needs
 
--- src/add.rt:136:47
 entry-of-asked-requires : tie.Need-entry-of-asked-requires
 entry-of-asked-requires c κs =
     let e = c .before .before .before .before .before .before .before .before .before .before .before .before .before in
@@ -101,7 +83,6 @@ entry-of-asked-requires c κs =
     let t = c .before .before .before .before .before .before .before .before .before .before .before .trimmed-asked .ensures in
     passed-usable s (now (a .log)) (e .pre) (a .id) _ (free (c .before)) _ (t .is)
 
--- src/add.rt:136:21
 push-requires : tie.Need-push-requires
 unfolding Sound
 push-requires c κs =
@@ -111,11 +92,9 @@ push-requires c κs =
     let room = add-room s (now (a .log)) (e .pre) (a .id) _ (free (c .before .before)) in
     (e .pre .carries .usable, (room, (c .entry-of-asked .ensures .usable)))
 
--- src/add.rt:137:21
 try-all-requires : tie.Need-try-all-requires
 try-all-requires c κs = c .before .before .push .ensures .usable
 
--- src/add.rt:106:5
 returns : tie.Need-returns
 returns c =
     λ ys.
@@ -129,7 +108,6 @@ returns c =
     (add-refused (a .id) _ (view (a .self) m) le (updates-writable _ (t .writable)) _
     (refused-is _ _ (sym (c .before .before .q .given .1) ∙ said r))) (c .refusal .ensures (now (a .first)) ys) refl
 
--- src/add.rt:106:5
 returns-2 : tie.Need-returns-2
 returns-2 c =
     λ ys.

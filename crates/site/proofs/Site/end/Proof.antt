@@ -8,27 +8,18 @@ use Rattle.site.specs.EndLaws.{end-refused, end-does}
 use borrow.Author.Needs.{needs}
 use Rattle.site.proofs.Site.end.Statement.{statement}
 use Rattle.site.proofs.Site.end.Tie as tie
-use Rattle.site.proofs.Site.end.Reads as reads
-use Rattle.site.proofs.Site.end.Lts as lts
-use Rattle.site.proofs.refusal.Reads as refusal-reads
-use Rattle.table.proofs.Queue.empty.Reads as empty-reads
-use Rattle.table.proofs.Queue.ids.Reads as ids-reads
 
--- src/end.rt:26:17
 ids-requires : tie.Need-ids-requires
 unfolding Sound
 ids-requires c κs =
     c .before .before .before .before .pre .carries .usable
 
--- src/end.rt:28:13
 empty-requires : tie.Need-empty-requires
 empty-requires c κs = search needs
 
--- src/end.rt:42:24
 refusal-requires : tie.Need-refusal-requires
 refusal-requires c κs = search needs
 
--- src/end.rt:18:5
 returns : tie.Need-returns
 returns c =
     λ ys.
@@ -41,7 +32,6 @@ returns c =
     (end-does (whole (a .self) m) (now (a .log)) (e .pre) (c .before .before .before .before .if1 .taken)
     _ (c .empty .ensures (now (a .queued))) _ ys (ids .ensures))
 
--- src/end.rt:18:5
 returns-2 : tie.Need-returns-2
 returns-2 c =
     λ ys.

@@ -11,16 +11,10 @@ use Rattle.site.specs.ShowLaws.{count-most, show-refused, show-does}
 use borrow.Author.Needs.{needs}
 use Rattle.site.proofs.Site.show.Statement.{statement}
 use Rattle.site.proofs.Site.show.Tie as tie
-use Rattle.site.proofs.Site.show.Reads as reads
-use Rattle.site.proofs.Site.show.Lts as lts
-use Rattle.history.proofs.book.history_at.Reads as history-at-reads
-use Rattle.site.proofs.refusal.Reads as refusal-reads
 
--- src/show.rt:38:24
 refusal-requires : tie.Need-refusal-requires
 refusal-requires c κs = search needs
 
--- src/show.rt:36:13
 returns : tie.Need-returns
 returns c =
     λ xs ys.
@@ -35,40 +29,31 @@ returns c =
 few : (e : tie.Else1) → e .before .before .args .h < 16
 few e = omega (arith, e .if1 .left, count-most _ _ (e .before .before .pre))
 
--- src/show.rt:42:13
 history-at-requires : tie.Need-history-at-requires
 history-at-requires c κs =
     few c
 
--- src/show.rt:48:38
 add-t17 : tie.Need-add-t17
 add-t17 c = omega (arith, few (c .before .before .before))
 
--- src/show.rt:48:33
 mul-t18 : tie.Need-mul-t18
 mul-t18 c = omega (arith, few (c .before .before .before))
 
--- src/show.rt:48:33
 element-copy-out-t13 : tie.Need-element-copy-out-t13
 element-copy-out-t13 c = omega (arith, few (c .before .before .before))
 
--- src/show.rt:49:34
 add-t22 : tie.Need-add-t22
 add-t22 c = omega (arith, few (c .before .before .before .before))
 
--- src/show.rt:49:29
 mul-t23 : tie.Need-mul-t23
 mul-t23 c = omega (arith, few (c .before .before .before .before))
 
--- src/show.rt:49:29
 element-copy-out-t26 : tie.Need-element-copy-out-t26
 element-copy-out-t26 c = omega (arith, few (c .before .before .before .before))
 
--- src/show.rt:51:22
 cast-t28 : tie.Need-cast-t28
 cast-t28 c = search needs
 
--- src/show.rt:22:5
 returns-2 : tie.Need-returns-2
 returns-2 c =
     λ xs ys.

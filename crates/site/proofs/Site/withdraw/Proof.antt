@@ -13,19 +13,10 @@ use Rattle.site.specs.WithdrawLaws.{withdraw-refused-turn, withdraw-refu
 use borrow.Author.Needs.{needs}
 use Rattle.site.proofs.Site.withdraw.Statement.{statement}
 use Rattle.site.proofs.Site.withdraw.Tie as tie
-use Rattle.site.proofs.Site.withdraw.Reads as reads
-use Rattle.site.proofs.Site.withdraw.Lts as lts
-use Rattle.site.proofs.refusal.Reads as refusal-reads
-use Rattle.site.proofs.busy.busy.Reads as busy-reads
-use Rattle.table.proofs.Queue.find.Reads as find-reads
-use Rattle.table.proofs.Queue.remove.Reads as remove-reads
-use Rattle.table.proofs.became_dry.Reads as became-dry-reads
 
--- src/withdraw.rt:24:13
 refusal-requires : tie.Need-refusal-requires
 refusal-requires c κs = search needs
 
--- src/withdraw.rt:24:13
 returns : tie.Need-returns
 returns c =
     λ ys.
@@ -36,28 +27,22 @@ returns c =
     (withdraw-refused-turn (whole (a .self) m) (now (a .log)) (a .id) (omega (arith, e .fits .id)) (c .before .if1 .taken))
     (c .refusal .ensures (now (a .first)) ys) refl
 
--- src/withdraw.rt:27:15
 find-requires : tie.Need-find-requires
 unfolding Sound
 find-requires c κs = c .before .before .before .before .pre .carries .usable
 
--- src/withdraw.rt:28:44
 enum-told : tie.Need-enum-told
 enum-told c = search needs
 
--- src/withdraw.rt:28:31
 refusal-requires-2 : tie.Need-refusal-requires-2
 refusal-requires-2 c κs = search needs
 
--- src/withdraw.rt:29:23
 enum-known-at : tie.Need-enum-known-at
 enum-known-at c = search needs
 
--- src/withdraw.rt:31:29
 sub-from : tie.Need-sub-from
 sub-from c = marked _ _ (c .before .before .before .before .before .before .before .before .before .before .pre) .stable
 
--- src/withdraw.rt:32:21
 busy-requires : tie.Need-busy-requires
 unfolding Sound
 busy-requires c κs =
@@ -66,7 +51,6 @@ busy-requires c κs =
     let s = whole (a .self) (lent (now (a .log)) (now (a .queued)) (now (a .done)) (now (a .book)) [] []) in
     (e .pre .carries .usable, (e .pre .carries .finished .usable, volatile-few s (now (a .log)) (e .pre)))
 
--- src/withdraw.rt:33:21
 remove-requires : tie.Need-remove-requires
 unfolding Sound
 remove-requires c κs =
@@ -77,7 +61,6 @@ remove-requires c κs =
     let found = sym (f .before .before .find .ensures) ∙ f .at .given .1 in
     (u, (found-below (stored (a .self .queue) (now (a .queued))) u (a .id) false (f .at .given .0 .0) found))
 
--- src/withdraw.rt:34:21
 busy-requires-2 : tie.Need-busy-requires-2
 unfolding Sound
 busy-requires-2 c κs =
@@ -86,12 +69,10 @@ busy-requires-2 c κs =
     let s = whole (a .self) (lent (now (a .log)) (now (a .queued)) (now (a .done)) (now (a .book)) [] []) in
     (c .before .remove .ensures .usable, (e .pre .carries .finished .usable, volatile-few s (now (a .log)) (e .pre)))
 
--- src/withdraw.rt:35:21
 became-dry-requires : tie.Need-became-dry-requires
 became-dry-requires c κs =
     marked _ _ (c .before .before .before .before .before .before .before .before .before .before .before .before .before .before .before .before .before .pre) .few
 
--- src/withdraw.rt:17:5
 returns-2 : tie.Need-returns-2
 returns-2 c =
     λ ys.
@@ -104,7 +85,6 @@ returns-2 c =
     (f .before .before .before .if1 .left) (sym (f .find .ensures) ∙ c .before .enum-told .given .1))
     (c .refusal2 .ensures (now (a .first)) ys) refl
 
--- src/withdraw.rt:17:5
 returns-3 : tie.Need-returns-3
 returns-3 c =
     λ ys.

@@ -3,7 +3,6 @@ use mathlib.Core.Path.{_≡_, sym, ap, _∙_}
 use mathlib.Core.List.{List}
 use Rattle.forms.specs.Forms.{Update}
 use Rattle.forms.specs.Held.{heldUpdates, updatesOf}
-use Rattle.rules.specs.State.{State}
 use Rattle.rules.specs.Checks.{updatesRefusal}
 use Rattle.rules.specs.Calls.{nothingOrders}
 use Rattle.history.specs.declared.Verdict.the-variants.{Passes}
@@ -13,15 +12,6 @@ use Rattle.site.specs.AddLaws.{asks-long, usable-asked, asked-back, aske
 use borrow.Author.Needs.{needs}
 use Rattle.site.proofs.add.add_refusal.Statement.{statement}
 use Rattle.site.proofs.add.add_refusal.Tie as tie
-use Rattle.site.proofs.add.add_refusal.Reads as reads
-use Rattle.site.proofs.add.add_refusal.Lts as lts
-use Rattle.history.proofs.already_done.Reads as already-done-reads
-use Rattle.history.proofs.asked_refusal.Reads as asked-refusal-reads
-use Rattle.history.proofs.entry_of_asked.Reads as entry-of-asked-reads
-use Rattle.history.proofs.nothing_orders.Reads as nothing-orders-reads
-use Rattle.history.proofs.read_overtaken.Reads as read-overtaken-reads
-use Rattle.site.proofs.seen.conflict.Reads as conflict-reads
-use Rattle.table.proofs.either.Reads as either-reads
 
 -- where the checks begin
 abbrev start : tie.After-enum-told → tie.Start
@@ -41,61 +31,48 @@ usable t =
 back : (t : tie.After-enum-told) (us : List Update) → start t .args .asked ≡ heldUpdates us → updatesOf (start t .args .asked) ≡ us
 back t us h = asked-back _ us (start t .args .seen .count) h (passes-is _ (passed t us h))
 
--- src/add.rt:83:9
 returns : tie.Need-returns
 returns c = λ us h st s. out-of-turn _ _ _ _ (add-refusal-is _ _ _ us st s) (c .if1 .taken)
 
--- src/add.rt:86:11
 asked-refusal-requires : tie.Need-asked-refusal-requires
 asked-refusal-requires c κs = asks-long _ _ (c .before .pre .1 .1)
 
--- src/add.rt:87:26
 enum-known-q : tie.Need-enum-known-q
 enum-known-q c = search needs
 
--- src/add.rt:89:16
 enum-told : tie.Need-enum-told
 enum-told c = search needs
 
--- src/add.rt:89:16
 nothing-orders-requires : tie.Need-nothing-orders-requires
 nothing-orders-requires c κs = (usable c .few, usable c .long)
 
--- src/add.rt:92:21
 entry-of-asked-requires : tie.Need-entry-of-asked-requires
 entry-of-asked-requires c κs = usable (c .before .before)
 
--- src/add.rt:94:46
 already-done-requires : tie.Need-already-done-requires
 already-done-requires c κs = c .entry-of-asked .ensures .usable
 
--- src/add.rt:94:21
 either-requires : tie.Need-either-requires
 either-requires c κs = search needs
 
--- src/add.rt:95:21
 read-overtaken-requires : tie.Need-read-overtaken-requires
 read-overtaken-requires c κs = c .before .before .entry-of-asked .ensures .usable
 
--- src/add.rt:96:17
 conflict-requires : tie.Need-conflict-requires
 conflict-requires c κs = search needs
 
--- src/add.rt:77:1
 returns-2 : tie.Need-returns-2
 returns-2 c =
     λ us h st s.
     misformed _ _ _ _ (add-refusal-is _ _ _ us st s) (c .before .before .before .before .if1 .left) _ (sym (c .before .q .given .1)
     ∙ c .before .before .before .asked-refusal .ensures us h)
 
--- src/add.rt:77:1
 returns-3 : tie.Need-returns-3
 returns-3 c =
     λ us h st s.
     formed-then _ _ _ _ (add-refusal-is _ _ _ us st s) (c .before .before .before .before .before .if1 .left) (passed (c .before .before) us h) _
     (nothing-orders-is _ _ _ us st s (ap nothingOrders (sym (back (c .before .before) us h)) ∙ sym (c .before .nothing-orders .ensures) ∙ c .if2 .taken))
 
--- src/add.rt:77:1
 returns-4 : tie.Need-returns-4
 returns-4 c =
     λ us h st s.

@@ -4,34 +4,25 @@ use Rattle.site.specs.TrimLaws.{stands-below, stands-past}
 use borrow.Author.Needs.{needs}
 use Rattle.site.proofs.add.asked_at.Statement.{statement}
 use Rattle.site.proofs.add.asked_at.Tie as tie
-use Rattle.site.proofs.add.asked_at.Reads as reads
-use Rattle.site.proofs.add.asked_at.Lts as lts
-use Rattle.site.proofs.add.update_of.Reads as update-of-reads
 
--- src/add.rt:54:17
 mul-a : tie.Need-mul-a
 mul-a c = search needs
 
--- src/add.rt:54:17
 element-copy-out-a : tie.Need-element-copy-out-a
 element-copy-out-a c = search needs
 
--- src/add.rt:56:9
 update-of-requires : tie.Need-update-of-requires
 update-of-requires c κs = search needs
 
--- src/add.rt:56:9
 returns : tie.Need-returns
 returns c =
     let e = c .before .before .before in
     stands-below asAsked asUpdate noUpdate WritableUpdate (e .args .t1 .count) (e .args .t1 .first) (e .args .i) _ (c .before .before .if1 .taken) (e .pre)
     (c .update-of .ensures)
 
--- src/add.rt:58:5
 update-of-requires-2 : tie.Need-update-of-requires-2
 update-of-requires-2 c κs = search needs
 
--- src/add.rt:49:1
 returns-2 : tie.Need-returns-2
 returns-2 c =
     let e = c .before .before in

@@ -2,27 +2,19 @@ use Rattle.site.specs.TrimLaws.{asked-held}
 use borrow.Author.Needs.{needs}
 use Rattle.site.proofs.add.trimmed_asked.Statement.{statement}
 use Rattle.site.proofs.add.trimmed_asked.Tie as tie
-use Rattle.site.proofs.add.trimmed_asked.Reads as reads
-use Rattle.site.proofs.add.trimmed_asked.Lts as lts
-use Rattle.site.proofs.add.asked_at.Reads as asked-at-reads
 
--- src/add.rt:65:9
 asked-at-requires : tie.Need-asked-at-requires
 asked-at-requires c κs = search needs
 
--- src/add.rt:66:9
 asked-at-requires-2 : tie.Need-asked-at-requires-2
 asked-at-requires-2 c κs = search needs
 
--- src/add.rt:67:9
 asked-at-requires-3 : tie.Need-asked-at-requires-3
 asked-at-requires-3 c κs = search needs
 
--- src/add.rt:68:9
 asked-at-requires-4 : tie.Need-asked-at-requires-4
 asked-at-requires-4 c κs = search needs
 
--- src/add.rt:62:1
 returns : tie.Need-returns
 returns c =
     let e = c .before .before .before .before in

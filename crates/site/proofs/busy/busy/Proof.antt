@@ -2,29 +2,19 @@ use Rattle.site.specs.BusyLaws.{busy-restoring, busy-working}
 use borrow.Author.Needs.{needs}
 use Rattle.site.proofs.busy.busy.Statement.{statement}
 use Rattle.site.proofs.busy.busy.Tie as tie
-use Rattle.site.proofs.busy.busy.Reads as reads
-use Rattle.site.proofs.busy.busy.Lts as lts
-use Rattle.site.proofs.busy.joined.Reads as joined-reads
-use Rattle.table.proofs.DoneList.touched.Reads as DoneList-touched-reads
-use Rattle.table.proofs.Queue.touched.Reads as Queue-touched-reads
 
--- src/busy.rt:43:9
 touched-requires : tie.Need-touched-requires
 touched-requires c κs = (c .pre .1 .0, (c .pre .1 .1))
 
--- src/busy.rt:45:9
 returns : tie.Need-returns
 returns c = busy-restoring _ _ _ _ _ (c .if1 .taken) (c .before .touched .ensures)
 
--- src/busy.rt:47:9
 touched-requires-2 : tie.Need-touched-requires-2
 touched-requires-2 c κs = (c .before .before .pre .0)
 
--- src/busy.rt:48:5
 joined-requires : tie.Need-joined-requires
 joined-requires c κs = search needs
 
--- src/busy.rt:30:1
 returns-2 : tie.Need-returns-2
 returns-2 c =
     busy-working _ _ _ _ _ _ _ (c .before .before .if1 .left) (c .before .touched2 .ensures) (c .before .before .before .touched .ensures) (c .joined .ensures)

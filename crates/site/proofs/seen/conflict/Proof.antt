@@ -4,30 +4,23 @@ use Rattle.history.specs.Asking.{verdictOf}
 use Rattle.site.specs.Seen.{conflicts}
 use Rattle.site.proofs.seen.conflict.Statement.{statement}
 use Rattle.site.proofs.seen.conflict.Tie as tie
-use Rattle.site.proofs.seen.conflict.Reads as reads
-use Rattle.site.proofs.seen.conflict.Lts as lts
 
--- src/seen.rt:27:9
 returns : tie.Need-returns
 unfolding conflicts check verdictOf
 returns c = rw (c .if1 .taken) refl
 
--- src/seen.rt:30:9
 returns-2 : tie.Need-returns-2
 unfolding conflicts check verdictOf
 returns-2 c = rw (c .before .if1 .left, c .if2 .taken) refl
 
--- src/seen.rt:33:9
 returns-3 : tie.Need-returns-3
 unfolding conflicts check verdictOf
 returns-3 c = rw (c .before .before .if1 .left, c .before .if2 .left, c .if3 .taken) refl
 
--- src/seen.rt:36:9
 returns-4 : tie.Need-returns-4
 unfolding conflicts check verdictOf
 returns-4 c = rw (c .before .before .before .if1 .left, c .before .before .if2 .left, c .before .if3 .left, c .if4 .taken) refl
 
--- src/seen.rt:39:9
 returns-5 : tie.Need-returns-5
 unfolding conflicts check verdictOf
 returns-5 c =
@@ -40,7 +33,6 @@ returns-5 c =
       c .if5 .taken,
     ) refl
 
--- src/seen.rt:23:1
 returns-6 : tie.Need-returns-6
 unfolding conflicts check verdictOf
 returns-6 c =

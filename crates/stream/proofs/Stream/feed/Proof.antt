@@ -1,3 +1,5 @@
+-- The loop's invariant: the lines before `at` are answered and their replies written, as the session of the rules does; the rest of the
+-- chunk is kept, or left where fewer bytes are free than the longest reply has.
 use denote.Ref.{now}
 use Prim.Native.Nat.{_-_, _<_}
 use native.Mathlib.Omega.{arith}
@@ -9,13 +11,6 @@ use Rattle.stream.specs.FeedLaws.{Along, along-start, along-fits, along-
 use borrow.Author.Needs.{needs}
 use Rattle.stream.proofs.Stream.feed.Statement.{statement}
 use Rattle.stream.proofs.Stream.feed.Tie as tie
-use Rattle.stream.proofs.Stream.feed.Reads as reads
-use Rattle.stream.proofs.Stream.feed.Lts as lts
-use Rattle.journal.proofs.find_end.Reads as find-end-reads
-use Rattle.session.proofs.no_line.Reads as no-line-reads
-use Rattle.stream.proofs.put_reply.Reads as put-reply-reads
-use Rattle.stream.proofs.take_line.Reads as take-line-reads
-use Rattle.stream.proofs.with_bytes.Reads as with-bytes-reads
 
 abbrev Inv-loop : tie.InvT-loop
 Inv-loop log₀ queued₀ done₀ book₀ first₀ second₀ chunk out₀ session₀ begun₀ at₀ n₀ log queued done book first second out session begun at n =
@@ -31,82 +26,65 @@ ended : (c : tie.After-known-told Inv-loop μ-loop) →
     (c .before .before .before .before .loop .at) (c .before .e .given .0 .0)
 ended c = rw (c .before .e .given .1) at (c .before .before .before .find-end .ensures)
 
--- src/lib.rt:166:9
 loop-holds : tie.Need-loop-holds Inv-loop μ-loop
 loop-holds c =
     let a = c .before .before .before .before .before .args in
     let m = lent (now (a .log)) (now (a .queued)) (now (a .done)) (now (a .book)) (now (a .first)) (now (a .second)) in
     along-start (a .self) m (now (a .chunk)) (now (a .out)) (c .before .before .before .before .before .pre)
 
--- src/lib.rt:167:30
 find-end-requires : tie.Need-find-end-requires Inv-loop μ-loop
 find-end-requires c κs = c .loop .inv .within
 
--- src/lib.rt:167:25
 enum-known-e : tie.Need-enum-known-e Inv-loop μ-loop
 enum-known-e c = search needs
 
--- src/lib.rt:168:46
 enum-told : tie.Need-enum-told Inv-loop μ-loop
 enum-told c = search needs
 
--- src/lib.rt:168:46
 sub-with-bytes : tie.Need-sub-with-bytes Inv-loop μ-loop
 sub-with-bytes c = c .before .before .before .loop .inv .within
 
--- src/lib.rt:168:46
 part-with-bytes-start : tie.Need-part-with-bytes-start Inv-loop μ-loop
 part-with-bytes-start c = let w = c .before .before .before .loop .inv .within in search needs
 
--- src/lib.rt:168:46
 part-with-bytes-end : tie.Need-part-with-bytes-end Inv-loop μ-loop
 part-with-bytes-end c = let w = c .before .before .before .loop .inv .within in search needs
 
--- src/lib.rt:168:21
 with-bytes-requires : tie.Need-with-bytes-requires Inv-loop μ-loop
 with-bytes-requires c κs = c .before .before .before .before .loop .inv .valid .begun
 
--- src/lib.rt:173:17
 same-length : tie.Need-same-length Inv-loop μ-loop
 same-length c = c .before .before .before .before .before .loop .inv .room
 
--- src/lib.rt:173:17
 same-length-2 : tie.Need-same-length-2 Inv-loop μ-loop
 same-length-2 c = c .before .before .before .before .before .loop .inv .long
 
--- src/lib.rt:173:17
 returns : tie.Need-returns Inv-loop μ-loop
 returns c =
     let i = c .before .before .before .before .before .loop .inv in
     let none = rw (c .before .before .enum-told .given .1) at (c .before .before .before .before .find-end .ensures) in
     along-feeds _ _ _ _ _ _ _ (along-rest _ _ _ _ _ _ _ i (c .with-bytes .result) none (c .with-bytes .ensures)) (λ lt. absurd (omega (arith, lt)))
 
--- src/lib.rt:179:16
 sub-if1 : tie.Need-sub-if1 Inv-loop μ-loop
 sub-if1 c =
     let i = c .before .before .before .before .loop .inv in
     let f = along-fits _ _ _ _ _ _ _ i in
     omega (arith, f, i .long)
 
--- src/lib.rt:181:17
 same-length-3 : tie.Need-same-length-3 Inv-loop μ-loop
 same-length-3 c = c .before .before .before .before .before .loop .inv .room
 
--- src/lib.rt:181:17
 same-length-4 : tie.Need-same-length-4 Inv-loop μ-loop
 same-length-4 c = c .before .before .before .before .before .loop .inv .long
 
--- src/lib.rt:181:17
 returns-2 : tie.Need-returns-2 Inv-loop μ-loop
 returns-2 c =
     let i = c .before .before .before .before .before .loop .inv in
     along-feeds _ _ _ _ _ _ _ i (λ lt. let l = i .long in let f = along-fits _ _ _ _ _ _ _ i in omega (arith, l, f, c .if1 .taken))
 
--- src/lib.rt:187:72
 sub-take-line : tie.Need-sub-take-line Inv-loop μ-loop
 sub-take-line c = ended (c .before .before .before .before .before .before .before) .from
 
--- src/lib.rt:187:72
 part-take-line-start : tie.Need-part-take-line-start Inv-loop μ-loop
 part-take-line-start c =
     let x = ended (c .before .before .before .before .before .before .before) in
@@ -114,7 +92,6 @@ part-take-line-start c =
     let b = x .before in
     search needs
 
--- src/lib.rt:187:72
 part-take-line-end : tie.Need-part-take-line-end Inv-loop μ-loop
 part-take-line-end c =
     let x = ended (c .before .before .before .before .before .before .before) in
@@ -122,15 +99,12 @@ part-take-line-end c =
     let b = x .before in
     search needs
 
--- src/lib.rt:187:17
 take-line-requires : tie.Need-take-line-requires Inv-loop μ-loop
 take-line-requires c κs = let v = c .before .before .before .before .before .before .before .before .before .before .before .before .loop .inv .valid in (v .session, v .begun)
 
--- src/lib.rt:190:13
 no-line-requires : tie.Need-no-line-requires Inv-loop μ-loop
 no-line-requires c κs = search needs
 
--- src/lib.rt:191:13
 put-reply-requires : tie.Need-put-reply-requires Inv-loop μ-loop
 put-reply-requires c κs =
     let found = c .before .before .before .before .before .before .before .before .before .before .before .before .before .before .before .before .before .before .before in
@@ -141,7 +115,6 @@ put-reply-requires c κs =
     let room = c .before .before .before .before .before .before .before .before .before .before .before .before .before .before .before .before .before .before .if1 .left in
     (line-printable _ _ _ _ _ _ _ i (found .before .e .given .0 .0) (ended found) (t .result) new (t .ensures), omega (arith, i .long, f, room))
 
--- src/lib.rt:192:18
 add-at : tie.Need-add-at Inv-loop μ-loop
 add-at c =
     let found = c .before .before .before .before .before .before .before .before .before .before .before .before .before .before .before .before .before .before .before .before .before .before in
@@ -150,13 +123,11 @@ add-at c =
     let g : length (now (entry .args .chunk)) < 18446744073709551616 = entry .good .1 .1 .1 .1 .1 .1 .1 .0 .0 in
     omega (arith, b, g)
 
--- src/lib.rt:166:9
 loop-less : tie.Need-loop-less Inv-loop μ-loop
 loop-less c =
     let x = ended (c .before .before .before .before .before .before .before .before .before .before .before .before .before .before .before .before .before .before .before .before .before .before) in
     omega (arith, x .before, x .from)
 
--- src/lib.rt:166:9
 loop-again : tie.Need-loop-again Inv-loop μ-loop
 loop-again c =
     let found = c .before .before .before .before .before .before .before .before .before .before .before .before .before .before .before .before .before .before .before .before .before .before in

@@ -1,9 +1,9 @@
 use denote.Ref.{now}
-use Prim.Native.Nat.{ℕ, _≤_, _-_, _+_}
+use Prim.Native.Nat.{ℕ, _≤_, _-_}
 use native.Mathlib.Omega.{arith}
 use borrow.Author.Needs.{needs}
 use mathlib.Core.Path.{_≡_, sym, subst}
-use lib.ListN.{length, take, drop, getD}
+use lib.ListN.{take, drop, getD}
 use Rattle.history.specs.declared.DoneEntry.{DoneEntry}
 use Rattle.table.specs.Arrays.{Says}
 use Rattle.table.specs.Dones.{UsableDone, versionFrom, stampedTo}

@@ -1,16 +1,15 @@
 use denote.Ref.{now}
-use Prim.Native.Nat.{ℕ, _≤_, _-_, _+_, _*_}
+use Prim.Native.Nat.{_≤_, _-_}
 use native.Mathlib.Omega.{arith}
 use mathlib.Core.Path.{_≡_, refl, sym, ap, _∙_}
-use mathlib.Core.Bool.{Bool, false}
+use mathlib.Core.Bool.{false}
 use borrow.Author.Tests.{eq-eqb, ne-eqb}
-use lib.Dec.{eqb}
-use lib.ListN.{length, take, getD}
+use lib.ListN.{take}
 use Rattle.forms.specs.Lists.{any}
 use Rattle.table.specs.Dones.{doneHasId, pastDone}
 use Rattle.table.specs.Slots.{donesIn}
 use Rattle.table.specs.LoopLaws.{take-none}
-use Rattle.table.specs.SlotLaws.{dones-long, done-id}
+use Rattle.table.specs.SlotLaws.{done-id}
 use Rattle.history.specs.Tests.{any-next, any-hit}
 use Rattle.table.proofs.DoneList.has_id.Statement.{statement}
 use Rattle.table.proofs.DoneList.has_id.Tie as tie

@@ -1,9 +1,9 @@
 use denote.Ref.{now}
-use Prim.Native.Nat.{ℕ, _≤_, _-_, _+_}
+use Prim.Native.Nat.{ℕ, _≤_, _-_}
 use native.Mathlib.Omega.{arith}
-use mathlib.Core.Path.{_≡_, refl, sym, ap, subst}
-use mathlib.Core.Bool.{Bool, false, _||_}
-use lib.ListN.{length, take, drop, getD}
+use mathlib.Core.Path.{_≡_, sym, subst}
+use mathlib.Core.Bool.{false, _||_}
+use lib.ListN.{take, drop, getD}
 use Rattle.forms.specs.Lists.{any}
 use Rattle.history.specs.declared.DoneEntry.{DoneEntry}
 use Rattle.table.specs.Arrays.{Says}
