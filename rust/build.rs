@@ -12,7 +12,7 @@ fn main() {
     let here = env::var("CARGO_MANIFEST_DIR").expect("cargo sets CARGO_MANIFEST_DIR");
     let asked = env::var("LEDGER_LIB_DIR").unwrap_or_else(|_| "../target/staticlib".to_string());
     let folder = Path::new(&here).join(asked);
-    println!("cargo:rerun-if-changed={}", folder.join("libboundary.a").display());
+    println!("cargo:rerun-if-changed={}", folder.join("libc_api.a").display());
     println!("cargo:rustc-link-search=native={}", folder.display());
-    println!("cargo:rustc-link-lib=static=boundary");
+    println!("cargo:rustc-link-lib=static=c_api");
 }

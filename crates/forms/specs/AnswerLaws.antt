@@ -70,28 +70,28 @@ site-said l = go (readSite l) refl
 -- ### A form of a session's input
 
 -- the form, with these updates where it is an add and this did line where it is a redo
-abbrev pub commandWith : CommandForm → List Update → Did → Step Command
-commandWith CommandForm.Bad us d = bad
-commandWith (CommandForm.SiteOf n) us d = got (SiteOf n) []
-commandWith (CommandForm.Add i) us d = got (Add i us) []
-commandWith (CommandForm.Finish i) us d = got (Finish i) []
-commandWith (CommandForm.Withdraw i) us d = got (Withdraw i) []
-commandWith (CommandForm.Persistent n) us d = got (Persistent n) []
-commandWith (CommandForm.Stable n) us d = got (Stable n) []
-commandWith (CommandForm.Show h) us d = got (Show h) []
-commandWith (CommandForm.Cut k) us d = got (Cut k) []
-commandWith CommandForm.Redo us d = got (Redo d) []
-commandWith CommandForm.End us d = got End []
+abbrev pub commandOf : CommandForm → List Update → Did → Step Command
+commandOf CommandForm.Bad us d = bad
+commandOf (CommandForm.SiteOf n) us d = got (SiteOf n) []
+commandOf (CommandForm.Add i) us d = got (Add i us) []
+commandOf (CommandForm.Finish i) us d = got (Finish i) []
+commandOf (CommandForm.Withdraw i) us d = got (Withdraw i) []
+commandOf (CommandForm.Persistent n) us d = got (Persistent n) []
+commandOf (CommandForm.Stable n) us d = got (Stable n) []
+commandOf (CommandForm.Show h) us d = got (Show h) []
+commandOf (CommandForm.Cut k) us d = got (Cut k) []
+commandOf CommandForm.Redo us d = got (Redo d) []
+commandOf CommandForm.End us d = got End []
 
 -- The line reads as the answer's form with us or d, which the answer holds.
 pub record CommandSaid (l : List ℕ) (r : CommandRead) : Type 0 where
   pub us : List Update
   pub d : Did
-  pub read : readCommand l ≡ commandWith (r .form) us d
+  pub read : readCommand l ≡ commandOf (r .form) us d
   pub asked : r .asked ≡ heldUpdates us
   pub did : r .did ≡ heldDid d
 
-said : (c : Command) → got c [] ≡ commandWith (commandAnswer (got c []) .form) (updatesIn c) (didIn c)
+said : (c : Command) → got c [] ≡ commandOf (commandAnswer (got c []) .form) (updatesIn c) (didIn c)
 unfolding commandAnswer
 said (SiteOf n) = refl
 said (Add i us) = refl
@@ -115,7 +115,7 @@ command-said l r e = go (readCommand l) refl
         record {
           us = updatesIn c;
           d = didIn c;
-          read = a ∙ said c ∙ ap (λ (z : CommandRead). commandWith (z .form) (updatesIn c) (didIn c)) (sym b);
+          read = a ∙ said c ∙ ap (λ (z : CommandRead). commandOf (z .form) (updatesIn c) (didIn c)) (sym b);
           asked = ap (λ (z : CommandRead). z .asked) b;
           did = ap (λ (z : CommandRead). z .did) b;
         }
@@ -124,7 +124,7 @@ command-said l r e = go (readCommand l) refl
         record {
           us = [];
           d = noDid;
-          read = q ∙ ap (λ (z : CommandRead). commandWith (z .form) [] noDid) (sym b);
+          read = q ∙ ap (λ (z : CommandRead). commandOf (z .form) [] noDid) (sym b);
           asked = ap (λ (z : CommandRead). z .asked) b;
           did = ap (λ (z : CommandRead). z .did) b;
         }

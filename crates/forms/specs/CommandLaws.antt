@@ -13,9 +13,9 @@ use Rattle.forms.specs.Words.{bytes, word, word-written, word-read}
 use Rattle.forms.specs.Forms.{Update, Did, Command, SiteOf, Add, Finish, Withdraw, Persistent, Stable, Show}
 use Rattle.forms.specs.Forms.{Cut, Redo, End, fieldText, tailText, oneText, ruleText, updateText, siteText}
 use Rattle.forms.specs.Forms.{didText, redoText, commandText}
-use Rattle.forms.specs.Reading.{choose, field, rule, update, tail, did, one, add, redo, numbered, command, readCommand}
+use Rattle.forms.specs.Reading.{choose, field, rule, update, tail, did, one, addForm, redoForm, numbered, command, readCommand}
 use Rattle.forms.specs.Writable.{WritableUpdate, WritableCommand}
-use Rattle.forms.specs.ReadingLaws.{never, bind-then, choose-read, orElse-read, spaced, end, field-written}
+use Rattle.forms.specs.ReadingLaws.{never, bind-then, choose-read, orElse-read, spaced, closing, field-written}
 use Rattle.forms.specs.ReadingLaws.{field-read, Item, tail-written, list-text, list-id, list-read, one-text}
 use Rattle.forms.specs.ReadingLaws.{one-read, readWhole-written, readWhole-read}
 use Rattle.forms.specs.DidLaws.{did-written, did-read}
@@ -52,7 +52,7 @@ rule-read l r rest h =
 
 -- what stands behind the rule
 unfoldable fieldsOf : Update → List ℕ → List ℕ
-fieldsOf x rest = fieldText (x .history) ++ (fieldText (x .version) ++ (fieldText (x .operand) ++ end rest))
+fieldsOf x rest = fieldText (x .history) ++ (fieldText (x .version) ++ (fieldText (x .operand) ++ closing rest))
 
 update-text : (x : Update) (rest : List ℕ) → updateText x ++ rest ≡ ruleText (x .rule) ++ fieldsOf x rest
 unfolding updateText fieldsOf
@@ -125,26 +125,26 @@ add-text : (i : ℕ) (us : List Update) (rest : List ℕ)
 unfolding commandText
 add-text i us rest = list-text update updateText WritableUpdate update-item (bytes "(add ") i us rest
 
-redo-text : (d : Did) (rest : List ℕ) → commandText (Redo d) ++ rest ≡ bytes "(redo " ++ (didText d ++ end rest)
+redo-text : (d : Did) (rest : List ℕ) → commandText (Redo d) ++ rest ≡ bytes "(redo " ++ (didText d ++ closing rest)
 unfolding commandText redoText
 redo-text d rest = simp append-assoc
 
 front-written : (c : Command) (rest : List ℕ) → WritableCommand c → command (commandText c ++ rest) ≡ got c rest
-unfolding command numbered one word add redo commandText siteText
-front-written (SiteOf n) rest h = rw (one-text (bytes "(site ") n rest, number-written n (end rest) h refl)
-front-written (Finish n) rest h = rw (one-text (bytes "(finish ") n rest, number-written n (end rest) h refl)
-front-written (Withdraw n) rest h = rw (one-text (bytes "(withdraw ") n rest, number-written n (end rest) h refl)
-front-written (Persistent n) rest h = rw (one-text (bytes "(persistent ") n rest, number-written n (end rest) h refl)
-front-written (Stable n) rest h = rw (one-text (bytes "(stable ") n rest, number-written n (end rest) h refl)
-front-written (Show n) rest h = rw (one-text (bytes "(show ") n rest, number-written n (end rest) h refl)
-front-written (Cut n) rest h = rw (one-text (bytes "(cut ") n rest, number-written n (end rest) h refl)
+unfolding command numbered one word addForm redoForm commandText siteText
+front-written (SiteOf n) rest h = rw (one-text (bytes "(site ") n rest, number-written n (closing rest) h refl)
+front-written (Finish n) rest h = rw (one-text (bytes "(finish ") n rest, number-written n (closing rest) h refl)
+front-written (Withdraw n) rest h = rw (one-text (bytes "(withdraw ") n rest, number-written n (closing rest) h refl)
+front-written (Persistent n) rest h = rw (one-text (bytes "(persistent ") n rest, number-written n (closing rest) h refl)
+front-written (Stable n) rest h = rw (one-text (bytes "(stable ") n rest, number-written n (closing rest) h refl)
+front-written (Show n) rest h = rw (one-text (bytes "(show ") n rest, number-written n (closing rest) h refl)
+front-written (Cut n) rest h = rw (one-text (bytes "(cut ") n rest, number-written n (closing rest) h refl)
 front-written (Add i us) rest h =
     rw (
       add-text i us rest,
       list-id update updateText WritableUpdate update-item i us rest (h .0),
       tail-written update updateText WritableUpdate update-item us rest (h .1),
     )
-front-written (Redo d) rest h = rw (redo-text d rest, did-written d (end rest) h)
+front-written (Redo d) rest h = rw (redo-text d rest, did-written d (closing rest) h)
 front-written End rest h = refl
 
 numbered-read : (f : ℕ → Command) (w l : List ℕ) (c : Command) (rest : List ℕ)
@@ -161,8 +161,8 @@ numbered-read f w l c rest text fits e =
       subst WritableCommand q (fits n (r .1)),
     )
 
-add-read : (l : List ℕ) (c : Command) (rest : List ℕ) → add l ≡ got c rest → (l ≡ commandText c ++ rest) × WritableCommand c
-unfolding add
+add-read : (l : List ℕ) (c : Command) (rest : List ℕ) → addForm l ≡ got c rest → (l ≡ commandText c ++ rest) × WritableCommand c
+unfolding addForm
 add-read l c rest e =
     bind-then (word (bytes "(add ") l) _ c rest e λ t l₁ e₁ k₁.
     bind-then (number l₁) _ c rest k₁ λ i l₂ e₂ k₂.
@@ -177,8 +177,8 @@ add-read l c rest e =
       subst WritableCommand q (r .1, r .2),
     )
 
-redo-read : (l : List ℕ) (c : Command) (rest : List ℕ) → redo l ≡ got c rest → (l ≡ commandText c ++ rest) × WritableCommand c
-unfolding redo
+redo-read : (l : List ℕ) (c : Command) (rest : List ℕ) → redoForm l ≡ got c rest → (l ≡ commandText c ++ rest) × WritableCommand c
+unfolding redoForm
 redo-read l c rest e =
     bind-then (word (bytes "(redo ") l) _ c rest e λ t l₁ e₁ k₁.
     bind-then (did l₁) _ c rest k₁ λ d l₂ e₂ k₂.
@@ -223,9 +223,9 @@ front-read l c rest e =
     (orElse-read (numbered Persistent (bytes "(persistent ") l) _ c rest e₅))
     (orElse-read (numbered Withdraw (bytes "(withdraw ") l) _ c rest e₄))
     (orElse-read (numbered Show (bytes "(show ") l) _ c rest e₃))
-    (orElse-read (redo l) _ c rest e₂))
+    (orElse-read (redoForm l) _ c rest e₂))
     (orElse-read (numbered Finish (bytes "(finish ") l) _ c rest e₁))
-    (orElse-read (add l) _ c rest e)
+    (orElse-read (addForm l) _ c rest e)
 
 -- ### A whole line
 

@@ -15,9 +15,9 @@ use Rattle.forms.specs.Reading.{bind}
 use Rattle.forms.specs.Plain.{isLetter, isMark, firstIsLetter}
 
 -- The run of letters at the front, and what stands behind it.
-abbrev pub run : List ℕ → List ℕ
-run [] = []
-run (b ∷ l) = cond (isLetter b) (b ∷ run l) []
+abbrev pub letterRun : List ℕ → List ℕ
+letterRun [] = []
+letterRun (b ∷ l) = cond (isLetter b) (b ∷ letterRun l) []
 
 abbrev pub behindRun : List ℕ → List ℕ
 behindRun [] = []
@@ -32,7 +32,7 @@ same (c ∷ w) (b ∷ l) = eqb c b && same w l
 
 -- Reads the word w: "fixed byte strings compared when reading a line". The run of letters at the front must be w.
 unfoldable pub name : List ℕ → List ℕ → Step (Unit {0})
-name w l = cond (same w (run l)) (got tt (behindRun l)) bad
+name w l = cond (same w (letterRun l)) (got tt (behindRun l)) bad
 
 -- ### Byte after byte
 
@@ -53,7 +53,7 @@ name-none c w (b ∷ l) e = rw e
 
 pub name-step : (c : ℕ) (w : List ℕ) (b : ℕ) (l : List ℕ) → isLetter b ≡ true → name (c ∷ w) (b ∷ l) ≡ cond (eqb c b) (name w l) bad
 unfolding name
-name-step c w b l e = rw e (go (eqb c b) (same w (run l)) (got tt (behindRun l)))
+name-step c w b l e = rw e (go (eqb c b) (same w (letterRun l)) (got tt (behindRun l)))
   where
     go : (p q : Bool) (r : Step (Unit {0})) → cond (p && q) r bad ≡ cond p (cond q r bad) bad
     go true q r = refl

@@ -15,7 +15,7 @@ use Rattle.forms.specs.Decimal.Step.{got, bad}
 use Rattle.forms.specs.DecimalLaws.{number-written, number-read}
 use Rattle.forms.specs.Words.{bytes, word, word-written, word-read}
 use Rattle.forms.specs.Forms.{fieldText, itemsText, tailText, listText, oneText}
-use Rattle.forms.specs.Reading.{bind, choose, orElse, whole, field, items, tail, one, readWhole}
+use Rattle.forms.specs.Reading.{bind, choose, orElse, atEnd, field, items, tail, one, readWhole}
 use Rattle.forms.specs.Writable.{Each}
 
 -- ### What a step that is put together of two tells of both
@@ -37,7 +37,7 @@ pub orElse-read : {A : Type 0} (r x : Step A) (b : A) (rest : List ℕ) → orEl
 orElse-read (got a l) x b rest h = inl h
 orElse-read bad x b rest h = inr h
 
-pub whole-read : {A : Type 0} (a b : A) (l rest : List ℕ) → whole a l ≡ got b rest → (a ≡ b) × (l ≡ []) × (rest ≡ [])
+pub whole-read : {A : Type 0} (a b : A) (l rest : List ℕ) → atEnd a l ≡ got b rest → (a ≡ b) × (l ≡ []) × (rest ≡ [])
 whole-read a b [] rest h = (cc, refl, cc)
 whole-read a b (c ∷ l) rest h = never h
 
@@ -67,8 +67,8 @@ field-read l n rest h =
 -- ### A list of items, for any item whose printed form and reading belong together
 
 -- the closing bracket of a line
-abbrev pub end : List ℕ → List ℕ
-end rest = bytes ")" ++ rest
+abbrev pub closing : List ℕ → List ℕ
+closing rest = bytes ")" ++ rest
 
 -- what is told of an item's text and reading
 pub record Item {A : Type 0} (item : List ℕ → Step A) (text : A → List ℕ) (Fit : A → Type 0) : Type 0 where
@@ -79,15 +79,15 @@ pub record Item {A : Type 0} (item : List ℕ → Step A) (text : A → List ℕ
 
 module _ {A : Type 0} (item : List ℕ → Step A) (text : A → List ℕ) (Fit : A → Type 0) (laws : Item item text Fit) where
   pub items-written : (xs : List A) (x : A) (k : ℕ) (vs : List A) (rest : List ℕ) → Fit x → Each Fit xs → length xs < k
-      → items item k vs (text x ++ (itemsText text xs ++ end rest)) ≡ got (vs ++ (x ∷ xs)) rest
+      → items item k vs (text x ++ (itemsText text xs ++ closing rest)) ≡ got (vs ++ (x ∷ xs)) rest
   unfolding items itemsText
   items-written xs x zero vs rest f fs h = absurd (omega arith)
-  items-written [] x (suc k) vs rest f fs h = rw (laws .written x (end rest) f, word-written (bytes ")") rest)
+  items-written [] x (suc k) vs rest f fs h = rw (laws .written x (closing rest) f, word-written (bytes ")") rest)
   items-written (y ∷ xs) x (suc k) vs rest f fs h =
       rw (
-        laws .written x (text y ++ itemsText text xs ++ end rest) f,
-        append-assoc (text y) (itemsText text xs) (end rest),
-        laws .opens y (itemsText text xs ++ end rest),
+        laws .written x (text y ++ itemsText text xs ++ closing rest) f,
+        append-assoc (text y) (itemsText text xs) (closing rest),
+        laws .opens y (itemsText text xs ++ closing rest),
       )
       (items-written xs y k (vs ++ (x ∷ [])) rest (fs y (here refl)) (λ z m. fs z (there m)) (omega arith)
       ∙ ap (λ (z : List A). got z rest) (append-assoc vs (x ∷ []) (y ∷ xs)))
@@ -96,7 +96,7 @@ module _ {A : Type 0} (item : List ℕ → Step A) (text : A → List ℕ) (Fit 
     pub x : A
     pub xs : List A
     pub all : ws ≡ vs ++ (x ∷ xs)
-    pub same : l ≡ text x ++ (itemsText text xs ++ end rest)
+    pub same : l ≡ text x ++ (itemsText text xs ++ closing rest)
     pub fits : Each Fit (x ∷ xs)
 
   each-cons : (x : A) (xs : List A) → Fit x → Each Fit xs → Each Fit (x ∷ xs)
@@ -126,7 +126,7 @@ module _ {A : Type 0} (item : List ℕ → Step A) (text : A → List ℕ) (Fit 
         x = x;
         xs = i .x ∷ i .xs;
         all = i .all ∙ append-assoc vs (x ∷ []) (i .x ∷ i .xs);
-        same = w .0 ∙ ap (λ (z : List ℕ). text x ++ z) (i .same ∙ sym (append-assoc (text (i .x)) (itemsText text (i .xs)) (end rest)));
+        same = w .0 ∙ ap (λ (z : List ℕ). text x ++ z) (i .same ∙ sym (append-assoc (text (i .x)) (itemsText text (i .xs)) (closing rest)));
         fits = each-cons x (i .x ∷ i .xs) (w .1) (i .fits);
       })
       (choose-read (word (bytes ")") m) (vs ++ (x ∷ [])) (items item k (vs ++ (x ∷ [])) m) ws rest k₁)
@@ -140,7 +140,7 @@ module _ {A : Type 0} (item : List ℕ → Step A) (text : A → List ℕ) (Fit 
       rw (append-assoc (text x) (itemsText text xs) z, length-append)
       (let a = laws .some x in let b = enough xs z in omega arith)
 
-  tail-text : (x : A) (xs : List A) (rest : List ℕ) → tailText text (x ∷ xs) ++ rest ≡ 32 ∷ (text x ++ (itemsText text xs ++ end rest))
+  tail-text : (x : A) (xs : List A) (rest : List ℕ) → tailText text (x ∷ xs) ++ rest ≡ 32 ∷ (text x ++ (itemsText text xs ++ closing rest))
   unfolding tailText
   tail-text x xs rest =
       ap (λ (z : List ℕ). 32 ∷ z)
@@ -152,8 +152,8 @@ module _ {A : Type 0} (item : List ℕ → Step A) (text : A → List ℕ) (Fit 
   tail-written [] rest fs = unfold tailText in refl
   tail-written (x ∷ xs) rest fs =
       rw (tail-text x xs rest)
-      (items-written xs x (length (text x ++ (itemsText text xs ++ end rest))) [] rest (fs x (here refl)) (λ z m. fs z (there m))
-      (rw length-append (let a = laws .some x in let b = enough xs (end rest) in omega arith)))
+      (items-written xs x (length (text x ++ (itemsText text xs ++ closing rest))) [] rest (fs x (here refl)) (λ z m. fs z (there m))
+      (rw length-append (let a = laws .some x in let b = enough xs (closing rest) in omega arith)))
 
   pub tail-read : (l : List ℕ) (xs : List A) (rest : List ℕ) → tail item l ≡ got xs rest → (l ≡ tailText text xs ++ rest) × Each Fit xs
   unfolding tail
@@ -197,14 +197,14 @@ module _ {A : Type 0} (item : List ℕ → Step A) (text : A → List ℕ) (Fit 
 
 -- ### A form with a word and a number
 
-pub one-text : (w : List ℕ) (n : ℕ) (rest : List ℕ) → oneText w n ++ rest ≡ w ++ (digits n ++ end rest)
+pub one-text : (w : List ℕ) (n : ℕ) (rest : List ℕ) → oneText w n ++ rest ≡ w ++ (digits n ++ closing rest)
 unfolding oneText
 one-text w n rest = simp append-assoc
 
 pub one-written : (w : List ℕ) (n : ℕ) (rest : List ℕ) → n ≤ top → one w (oneText w n ++ rest) ≡ got n rest
 unfolding one
 one-written w n rest h =
-    rw (one-text w n rest, word-written w (digits n ++ end rest), number-written n (end rest) h refl, word-written (bytes ")") rest)
+    rw (one-text w n rest, word-written w (digits n ++ closing rest), number-written n (closing rest) h refl, word-written (bytes ")") rest)
 
 pub one-read : (w l : List ℕ) (n : ℕ) (rest : List ℕ) → one w l ≡ got n rest → (l ≡ oneText w n ++ rest) × (n ≤ top)
 unfolding one
@@ -218,7 +218,7 @@ one-read w l n rest e =
     let f = d .small in (
       word-read w l t l₁ e₁
           ∙ ap (λ (z : List ℕ). w ++ z) (d .same ∙ ap (λ (z : List ℕ). digits m ++ z) (word-read (bytes ")") l₂ v l₃ e₃))
-          ∙ ap₂ (λ (k : ℕ) (z : List ℕ). w ++ (digits k ++ end z)) p q
+          ∙ ap₂ (λ (k : ℕ) (z : List ℕ). w ++ (digits k ++ closing z)) p q
           ∙ sym (one-text w n rest),
       omega arith,
     )
@@ -236,7 +236,7 @@ pub readWhole-read : {A : Type 0} (f : List ℕ → Step A) (a : A) (l rest : Li
     → (f l ≡ got a []) × (rest ≡ []) × (length l ≤ lineLimit)
 unfolding readWhole
 readWhole-read f a l rest e =
-    let c = cond-read (leb (length l) lineLimit) (bind (f l) whole) a rest e in
-    bind-then (f l) whole a rest (c .1) λ x m e₁ k₁.
+    let c = cond-read (leb (length l) lineLimit) (bind (f l) atEnd) a rest e in
+    bind-then (f l) atEnd a rest (c .1) λ x m e₁ k₁.
     let q = whole-read x a m rest k₁ in
     (e₁ ∙ ap₂ got (q .0) (q .1), q .2, leb-true (length l) lineLimit (c .0))

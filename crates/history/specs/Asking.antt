@@ -36,15 +36,15 @@ askedTest Misfits u = updateMisfits u
 askedTest Strong u = strong (u .rule)
 askedTest Orders u = strong (u .rule) && ordered (u .rule)
 
-abbrev pub asked : AskedTest → Asked → Bool
-asked t a = askedTest t (asUpdate a)
+abbrev pub askedPasses : AskedTest → Asked → Bool
+askedPasses t a = askedTest t (asUpdate a)
 
 -- what fills the places in which no update is held
 abbrev pub noAsked : Asked
 noAsked = asAsked noUpdate
 
-abbrev pub noDone : Done
-noDone = asDone noChange
+abbrev pub noDoneUpdate : Done
+noDoneUpdate = asDone noChange
 
 -- The update that a change reports.
 abbrev pub changeUpdate : Change → Update
@@ -79,7 +79,7 @@ pub record UsableHeld (h : AskedHeld) : Type 0 where
 pub record UsableDid (d : DidLine) : Type 0 where
   pub few : d .held .count ≤ 4
   pub long : length (d .held .first) ≡ 4
-  pub each : (i : ℕ) → i < d .held .count → UsableUpdate (changeUpdate (asChange (getD (d .held .first) i noDone)))
+  pub each : (i : ℕ) → i < d .held .count → UsableUpdate (changeUpdate (asChange (getD (d .held .first) i noDoneUpdate)))
 
 -- The entry stands for this operation.
 pub record Enters (x : Operation) (e : Entry) : Type 0 where

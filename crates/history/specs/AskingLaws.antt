@@ -31,7 +31,7 @@ use Rattle.rules.specs.Calls.{nothingOrders}
 use Rattle.history.specs.declared.Item.{Item}
 use Rattle.history.specs.declared.AskedTest.the-variants.{Absent, In, Misfits, Strong, Orders}
 use Rattle.history.specs.declared.Verdict.the-variants.{Passes, Refused}
-use Rattle.history.specs.Asking.{verdictOf, askedTest, asked, noAsked, noDone, changeUpdate, updateItem, changeItem, UsableUpdate, UsableHeld, UsableDid, Enters, EntersDid}
+use Rattle.history.specs.Asking.{verdictOf, askedTest, askedPasses, noAsked, noDoneUpdate, changeUpdate, updateItem, changeItem, UsableUpdate, UsableHeld, UsableDid, Enters, EntersDid}
 use Rattle.history.specs.Entries.{itemUpdate, itemChange, operationOf, didOfEntry, UsableItem}
 use Rattle.history.specs.EntryLaws.{usable-four, items-four}
 use Rattle.history.specs.Tests.{or-false-parts, and-true-parts, any-get, length-part, part-in, part-out, four-at, any-snoc, any-mid, any-map, map-map, map-same, four-held, four-eq, four-map, take-split}
@@ -65,12 +65,12 @@ abbrev pub historiesTo : ℕ → List Asked → List ℕ
 historiesTo n first = map (λ (a : Asked). a .history) (take n first)
 
 module _ (first : List Asked) (i : ℕ) where
-  in-is : (b : Bool) → b ≡ any (asked (In (getD first i noAsked .history))) (take i first) → (t : Bool) → b ≡ t
+  in-is : (b : Bool) → b ≡ any (askedPasses (In (getD first i noAsked .history))) (take i first) → (t : Bool) → b ≡ t
       → any (eqb (getD first i noAsked .history)) (historiesTo i first) ≡ t
   unfolding askedTest
   in-is b e t f = any-map (λ (a : Asked). a .history) (eqb (getD first i noAsked .history)) (take i first) ∙ sym e ∙ f
 
-  pub twice-next : (b : Bool) → b ≡ any (asked (In (getD first i noAsked .history))) (take i first) → b ≡ false → i < length first
+  pub twice-next : (b : Bool) → b ≡ any (askedPasses (In (getD first i noAsked .history))) (take i first) → b ≡ false → i < length first
       → historyTwice (historiesTo i first) ≡ false → historyTwice (historiesTo (i + 1) first) ≡ false
   twice-next b e f h g =
       ap historyTwice more ∙ twice-snoc (historiesTo i first) (getD first i noAsked .history) g (in-is b e false f)
@@ -78,7 +78,7 @@ module _ (first : List Asked) (i : ℕ) where
       more : historiesTo (i + 1) first ≡ historiesTo i first ++ (getD first i noAsked .history ∷ [])
       more = rw (add-one, take-suc first i noAsked h, map-append)
 
-  pub twice-hit : (b : Bool) → b ≡ any (asked (In (getD first i noAsked .history))) (take i first) → b ≡ true → (n : ℕ) → i < n → n ≤ length first
+  pub twice-hit : (b : Bool) → b ≡ any (askedPasses (In (getD first i noAsked .history))) (take i first) → b ≡ true → (n : ℕ) → i < n → n ≤ length first
       → historyTwice (historiesTo n first) ≡ true
   twice-hit b e f n h g =
       ap historyTwice (ap (map (λ (a : Asked). a .history)) (take-split first noAsked i n h g)
@@ -88,7 +88,7 @@ module _ (first : List Asked) (i : ℕ) where
 -- ### Nothing orders
 
 pub orders-by : (held : AskedHeld)
-    → nothingOrders (updatesOf held) ≡ (any (asked Strong) (take (held .count) (held .first)) && not (any (asked Orders) (take (held .count) (held .first))))
+    → nothingOrders (updatesOf held) ≡ (any (askedPasses Strong) (take (held .count) (held .first)) && not (any (askedPasses Orders) (take (held .count) (held .first))))
 unfolding nothingOrders updatesOf askedTest
 orders-by held =
     let l = take (held .count) (held .first) in
@@ -131,12 +131,12 @@ module _ (n : ℕ) (held : AskedHeld) (us : List Update) (e : held ≡ heldUpdat
     unfolding wrongCount
     count-fits = rw (ne-eqb (length us) 0 (λ q. omega (arith, count-is)), le-ltb 4 (length us) (omega (arith, count-is)))
 
-    module _ (a : Bool) (p : a ≡ any (asked (Absent n)) (take (held .count) (held .first))) where
+    module _ (a : Bool) (p : a ≡ any (askedPasses (Absent n)) (take (held .count) (held .first))) where
       absent-is : noSuchHistory n (map (λ (u : Update). u .history) us) ≡ a
       unfolding noSuchHistory askedTest
       absent-is =
           any-map (λ (u : Update). u .history) (leb n) us
-          ∙ sym (p ∙ ap (any (asked (Absent n))) (first-is few) ∙ any-map asAsked (asked (Absent n)) us)
+          ∙ sym (p ∙ ap (any (askedPasses (Absent n))) (first-is few) ∙ any-map asAsked (askedPasses (Absent n)) us)
 
       pub refused-absent : a ≡ true → Refused NoSuchHistory ≡ verdictOf (updatesRefusal n us)
       unfolding verdictOf check
@@ -151,10 +151,10 @@ module _ (n : ℕ) (held : AskedHeld) (us : List Update) (e : held ≡ heldUpdat
         unfolding verdictOf check
         refused-twice f = sym (verdict false false true _ count-fits (absent-is ∙ present) (twice-is ∙ f) refl)
 
-        module _ (once : t ≡ false) (m : Bool) (r : m ≡ any (asked Misfits) (take (held .count) (held .first))) where
+        module _ (once : t ≡ false) (m : Bool) (r : m ≡ any (askedPasses Misfits) (take (held .count) (held .first))) where
           misfits-is : any updateMisfits us ≡ m
           unfolding askedTest
-          misfits-is = sym (r ∙ ap (any (asked Misfits)) (first-is few) ∙ any-map asAsked (asked Misfits) us)
+          misfits-is = sym (r ∙ ap (any (askedPasses Misfits)) (first-is few) ∙ any-map asAsked (askedPasses Misfits) us)
 
           pub refused-misfits : m ≡ true → Refused OperandRange ≡ verdictOf (updatesRefusal n us)
           unfolding verdictOf check
@@ -167,20 +167,20 @@ module _ (n : ℕ) (held : AskedHeld) (us : List Update) (e : held ≡ heldUpdat
 -- ### 2 to 5 of one update
 
 module _ (n : ℕ) (a : Asked) where
-  one-verdict : (p m : Bool) → asked (Absent n) a ≡ p → asked Misfits a ≡ m
+  one-verdict : (p m : Bool) → askedPasses (Absent n) a ≡ p → askedPasses Misfits a ≡ m
       → verdictOf (updatesRefusal n (asUpdate a ∷ [])) ≡ verdictOf (check (p || false) NoSuchHistory (check (m || false) OperandRange none))
   unfolding updatesRefusal formRefusal check wrongCount noSuchHistory historyTwice askedTest
   one-verdict p m e f = λ i. verdictOf (check (e i || false) NoSuchHistory (check (f i || false) OperandRange none))
 
-  pub one-absent : asked (Absent n) a ≡ true → Refused NoSuchHistory ≡ verdictOf (updatesRefusal n (asUpdate a ∷ []))
+  pub one-absent : askedPasses (Absent n) a ≡ true → Refused NoSuchHistory ≡ verdictOf (updatesRefusal n (asUpdate a ∷ []))
   unfolding verdictOf check
-  one-absent e = sym (one-verdict true (asked Misfits a) e refl)
+  one-absent e = sym (one-verdict true (askedPasses Misfits a) e refl)
 
-  pub one-misfits : asked (Absent n) a ≡ false → asked Misfits a ≡ true → Refused OperandRange ≡ verdictOf (updatesRefusal n (asUpdate a ∷ []))
+  pub one-misfits : askedPasses (Absent n) a ≡ false → askedPasses Misfits a ≡ true → Refused OperandRange ≡ verdictOf (updatesRefusal n (asUpdate a ∷ []))
   unfolding verdictOf check
   one-misfits e f = sym (one-verdict false true e f)
 
-  pub one-passes : asked (Absent n) a ≡ false → asked Misfits a ≡ false → Passes ≡ verdictOf (updatesRefusal n (asUpdate a ∷ []))
+  pub one-passes : askedPasses (Absent n) a ≡ false → askedPasses Misfits a ≡ false → Passes ≡ verdictOf (updatesRefusal n (asUpdate a ∷ []))
   unfolding verdictOf check
   one-passes e f = sym (one-verdict false false e f)
 
@@ -204,17 +204,17 @@ changes-refusal n xs = sym (form-map changeUpdate (λ (u : Update). u .history) 
 
 -- what is held of the changes, as held updates
 pub held-changes : (held : DoneHeld) (xs : List Change) → held ≡ heldChanges xs → {a b c d : Asked}
-    → a ≡ asAsked (changeUpdate (asChange (getD (held .first) 0 noDone))) → b ≡ asAsked (changeUpdate (asChange (getD (held .first) 1 noDone)))
-    → c ≡ asAsked (changeUpdate (asChange (getD (held .first) 2 noDone))) → d ≡ asAsked (changeUpdate (asChange (getD (held .first) 3 noDone)))
+    → a ≡ asAsked (changeUpdate (asChange (getD (held .first) 0 noDoneUpdate))) → b ≡ asAsked (changeUpdate (asChange (getD (held .first) 1 noDoneUpdate)))
+    → c ≡ asAsked (changeUpdate (asChange (getD (held .first) 2 noDoneUpdate))) → d ≡ asAsked (changeUpdate (asChange (getD (held .first) 3 noDoneUpdate)))
     → _≡_ {A = AskedHeld} (record { count = held .count; first = a ∷ b ∷ c ∷ d ∷ [] }) (heldUpdates (map changeUpdate xs))
 unfolding heldUpdates heldChanges
 held-changes held xs e p q r s =
     ap₂ {C = AskedHeld} (λ (n : ℕ) (l : List Asked). record { count = n; first = l }) (ap (λ (h : DoneHeld). h .count) e ∙ sym (length-map xs changeUpdate))
     (four-eq (p ∙ at 0) (q ∙ at 1) (r ∙ at 2) (s ∙ at 3) ∙ four-map changeUpdate asAsked noChange xs)
   where
-    at : (i : ℕ) → asAsked (changeUpdate (asChange (getD (held .first) i noDone)))
-        ≡ asAsked (changeUpdate (asChange (getD (firstFour asDone noChange xs) i noDone)))
-    at i = ap (λ (h : DoneHeld). asAsked (changeUpdate (asChange (getD (h .first) i noDone)))) e
+    at : (i : ℕ) → asAsked (changeUpdate (asChange (getD (held .first) i noDoneUpdate)))
+        ≡ asAsked (changeUpdate (asChange (getD (firstFour asDone noChange xs) i noDoneUpdate)))
+    at i = ap (λ (h : DoneHeld). asAsked (changeUpdate (asChange (getD (h .first) i noDoneUpdate)))) e
 
 -- ### What passing 2 to 5 gives
 
@@ -286,7 +286,7 @@ usable-did n d most e =
       few = p .few;
       long = refl;
       each = λ i h. subst (λ (x : Done). UsableUpdate (changeUpdate (asChange x)))
-          (sym (four-at asDone noChange (d .changes) i noDone (omega (arith, h, p .few)))) (p .each most noChange i h);
+          (sym (four-at asDone noChange (d .changes) i noDoneUpdate (omega (arith, h, p .few)))) (p .each most noChange i h);
     }
 
 pub held-long : (held : AskedHeld) (us : List Update) → held ≡ heldUpdates us → length (held .first) ≡ 4
@@ -379,7 +379,7 @@ enters-did line u items q =
 
     ok : (i : ℕ) → i < held .count → UsableItem (changeItem (getD xs i noChange))
     ok i h =
-        let x = subst (λ (y : Change). UsableUpdate (changeUpdate y)) (mapped-in asChange (held .count) (held .first) i noDone h) (u .each i h) in
+        let x = subst (λ (y : Change). UsableUpdate (changeUpdate y)) (mapped-in asChange (held .count) (held .first) i noDoneUpdate h) (u .each i h) in
         record { history = x .history; operand = x .operand }
 
     same : (x : Change) → itemChange (changeItem x) ≡ x

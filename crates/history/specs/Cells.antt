@@ -1,4 +1,4 @@
--- What the rule book asks of the book of a log, asked of the cells of an array of histories.
+-- What the specification asks of the book of a log, asked of the cells of an array of histories.
 use Prim.Native.Nat.{ℕ, _+_, _≤_, _<_, _^_}
 use mathlib.Core.Path.{_≡_}
 use mathlib.Core.Bool.{Bool, false, _&&_, not}

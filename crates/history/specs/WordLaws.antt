@@ -12,7 +12,7 @@ use lib.Seq.{ext-getD, getD-at, getD-set-same, getD-set-other}
 use Rattle.forms.specs.Lists.{below}
 use Rattle.history.specs.declared.History.{History}
 use Rattle.history.specs.Entries.{noHistory}
-use Rattle.history.specs.Words.{within, Kept, historyFrom, historiesIn, rowFrom, persistedIn, stabilisedIn, PutHistory, Blank, Copied}
+use Rattle.history.specs.Words.{within, UnchangedOutside, historyFrom, historiesIn, rowFrom, persistedIn, stabilisedIn, PutHistory, Blank, Copied}
 
 -- a number below the limit
 pub within-of : (limit n : ℕ) → n < limit → within limit n ≡ n
@@ -79,17 +79,17 @@ abbrev pub Same : ℕ → ℕ → List ℕ → List ℕ → Type 0
 Same at n old new = (k : ℕ) → at ≤ k → k < at + n → getD new k 0 ≡ getD old k 0
 
 -- n words that do not meet those that changed
-pub kept-same : (at n : ℕ) {a w : ℕ} {old new : List ℕ} → Kept a w old new → (at + n ≤ a) ⊎ (a + w ≤ at) → Same at n old new
+pub kept-same : (at n : ℕ) {a w : ℕ} {old new : List ℕ} → UnchangedOutside a w old new → (at + n ≤ a) ⊎ (a + w ≤ at) → Same at n old new
 kept-same at n q (inl h) k l m = q .before k (omega arith)
 kept-same at n q (inr h) k l m = q .behind k (omega arith)
 
-pub kept-wide : (at n : ℕ) {a w : ℕ} {old new : List ℕ} → Kept a w old new → at ≤ a → a + w ≤ at + n → Kept at n old new
+pub kept-wide : (at n : ℕ) {a w : ℕ} {old new : List ℕ} → UnchangedOutside a w old new → at ≤ a → a + w ≤ at + n → UnchangedOutside at n old new
 kept-wide at n q h g = record { before = λ k l. q .before k (omega arith); behind = λ k l. q .behind k (omega arith) }
 
-pub kept-then : {at n : ℕ} {x y z : List ℕ} → Kept at n x y → Kept at n y z → Kept at n x z
+pub kept-then : {at n : ℕ} {x y z : List ℕ} → UnchangedOutside at n x y → UnchangedOutside at n y z → UnchangedOutside at n x z
 kept-then q r = record { before = λ k l. r .before k l ∙ q .before k l; behind = λ k l. r .behind k l ∙ q .behind k l }
 
-pub kept-set : (ws : List ℕ) (at v : ℕ) → Kept at 1 ws (set ws at v)
+pub kept-set : (ws : List ℕ) (at v : ℕ) → UnchangedOutside at 1 ws (set ws at v)
 kept-set ws at v =
     record {
       before = λ k l. getD-set-other ws at k v 0 (λ e. omega (arith, e));
@@ -143,7 +143,7 @@ histories-same old new s =
     (λ i h. history-same old new i h s ∙ sym (made-at (historyFrom old) 16 i noHistory h))
 
 -- a store behind the places
-pub histories-kept : {at n : ℕ} (old new : List ℕ) → Kept at n old new → 48 ≤ at → historiesIn new ≡ historiesIn old
+pub histories-kept : {at n : ℕ} (old new : List ℕ) → UnchangedOutside at n old new → 48 ≤ at → historiesIn new ≡ historiesIn old
 histories-kept old new q h = histories-same old new (λ k l m. q .before k (omega arith))
 
 -- The three stores of a history.
@@ -221,11 +221,11 @@ pub row-same : (at : ℕ) (old new : List ℕ) → Same at 16 old new → rowFro
 row-same at old new s =
     row-is at new (rowFrom at old) (row-long at old) (λ i h. s (at + i) (omega arith) (omega arith) ∙ sym (row-in at old i h))
 
-pub row-kept : (at : ℕ) {a n : ℕ} (old new : List ℕ) → Kept a n old new → (at + 16 ≤ a) ⊎ (a + n ≤ at) → rowFrom at new ≡ rowFrom at old
+pub row-kept : (at : ℕ) {a n : ℕ} (old new : List ℕ) → UnchangedOutside a n old new → (at + 16 ≤ a) ⊎ (a + n ≤ at) → rowFrom at new ≡ rowFrom at old
 row-kept at old new q apart = row-same at old new (kept-same at 16 q apart)
 
 -- what changes histories leaves the persistent and stable versions
-pub rows-kept : {old new : List ℕ} → Kept 0 48 old new → (persistedIn new ≡ persistedIn old) × (stabilisedIn new ≡ stabilisedIn old)
+pub rows-kept : {old new : List ℕ} → UnchangedOutside 0 48 old new → (persistedIn new ≡ persistedIn old) × (stabilisedIn new ≡ stabilisedIn old)
 rows-kept {old} {new} q = (row-kept 48 old new q (inr (omega arith)), row-kept 64 old new q (inr (omega arith)))
 
 -- the versions and the places of the histories are rows

@@ -15,7 +15,7 @@ unfoldable pub within : ℕ → ℕ → ℕ
 within limit n = cond (ltb n limit) n 0
 
 -- Outside the n words that begin at `at`, the words are as they were.
-pub record Kept (at n : ℕ) (old new : List ℕ) : Type 0 where
+pub record UnchangedOutside (at n : ℕ) (old new : List ℕ) : Type 0 where
   pub before : (k : ℕ) → k < at → getD new k 0 ≡ getD old k 0
   pub behind : (k : ℕ) → at + n ≤ k → getD new k 0 ≡ getD old k 0
 
@@ -45,12 +45,12 @@ stabilisedIn ws = rowFrom 64 ws
 -- History i is h now; the other histories, and the persistent and stable versions, are as they were.
 pub record PutHistory (i : ℕ) (h : History) (old new : List ℕ) : Type 0 where
   pub histories : historiesIn new ≡ set (historiesIn old) i h
-  pub rest : Kept 0 48 old new
+  pub rest : UnchangedOutside 0 48 old new
 
 -- The row that begins at `at` is this one now; the other words are as they were.
 pub record PutRow (at : ℕ) (row old new : List ℕ) : Type 0 where
   pub numbers : rowFrom at new ≡ row
-  pub rest : Kept at 16 old new
+  pub rest : UnchangedOutside at 16 old new
 
 -- All words are 0.
 abbrev pub Blank : List ℕ → Type 0
@@ -63,4 +63,4 @@ Copied from new = (k : ℕ) → k < 80 → getD new k 0 ≡ getD from k 0
 -- The histories after the changes of a line are what the book makes of them; the persistent and stable versions are as they were.
 pub record AppliesIn (e : Entry) (old new : List ℕ) : Type 0 where
   pub applies : Applies (historiesIn old) e (historiesIn new)
-  pub rest : Kept 0 48 old new
+  pub rest : UnchangedOutside 0 48 old new

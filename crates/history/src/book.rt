@@ -28,7 +28,7 @@ pub fn small_half(n: u64) -> u32
 }
 
 // Words lent whole: there are as many as their type says.
-pub fn counted(_words: &[u64]) {}
+pub fn known_length(_words: &[u64]) {}
 
 // History i.
 pub fn history_at(words: &BookWords, i: usize) -> History
@@ -47,7 +47,7 @@ pub fn put_history(words: &mut BookWords, i: usize, h: History)
     requires { ⌜ i < 16 ⌝ }
     ensures { λ r. ⌜ PutHistory i h (now (words .entry)) (now (words .exit)) ⌝ }
 {
-    counted(words);
+    known_length(words);
     words[i] = h.profile as u64;
     words[VERSIONS + i] = h.version.0;
     words[PLACES + i] = h.place.0;
@@ -72,7 +72,7 @@ pub fn put_row(words: &mut BookWords, at: usize, row: [u64; 16])
     requires { ⌜ (at + 16 ≤ 80) × (length row ≡ 16) ⌝ }
     ensures { λ r. ⌜ PutRow at row (now (words .entry)) (now (words .exit)) ⌝ }
 {
-    counted(words);
+    known_length(words);
     let mut i: usize = 0;
     while i < 16 {
         words[at + i] = row[i];
@@ -84,7 +84,7 @@ pub fn put_row(words: &mut BookWords, at: usize, row: [u64; 16])
 pub fn clear(words: &mut BookWords)
     ensures { λ r. ⌜ Blank (now (words .exit)) ⌝ }
 {
-    counted(words);
+    known_length(words);
     let mut i: usize = 0;
     while i < 80 {
         words[i] = 0;
@@ -96,7 +96,7 @@ pub fn clear(words: &mut BookWords)
 pub fn put_book(words: &mut BookWords, from: &BookWords)
     ensures { λ r. ⌜ Copied (now (from .entry)) (now (words .exit)) ⌝ }
 {
-    counted(words);
+    known_length(words);
     let mut i: usize = 0;
     while i < 80 {
         words[i] = from[i];

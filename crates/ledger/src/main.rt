@@ -1,8 +1,8 @@
 // The fitting ledger: a session's forms from standard input, as they come, and its replies to standard output.
 ghost use Prim.Native.Nat.{_≤_};
 ghost use lib.ListN.{length};
-ghost use Rattle.session.specs.Feeding.{UsableBegun};
-ghost use Rattle.site.specs.Model.{came};
+ghost use Rattle.session.specs.Feeding.{UsablePartial};
+ghost use Rattle.site.specs.Model.{received};
 ghost use Rattle.stream.specs.Model.{ValidStream};
 use forms::ListWords;
 use forms::writer::Written;
@@ -14,7 +14,7 @@ use table::slots::DoneWords;
 use table::slots::QueueWords;
 
 // The stream after some input, and whether to go on.
-struct Going {
+struct Serving {
     stream: Stream,
     on: bool,
 }
@@ -30,10 +30,10 @@ fn answer(
     second: &mut ListWords,
     chunk: &[u8],
     out: &mut [u8],
-) -> Going
-    requires { ⌜ ValidStream start (came log queued done book) ⌝ }
+) -> Serving
+    requires { ⌜ ValidStream start (received log queued done book) ⌝ }
     requires { ⌜ 2730 ≤ length (now out) ⌝ }
-    ensures { λ r. ⌜ ValidStream (r .stream) (came (log .exit) (queued .exit) (done .exit) (book .exit)) ⌝ }
+    ensures { λ r. ⌜ ValidStream (r .stream) (received (log .exit) (queued .exit) (done .exit) (book .exit)) ⌝ }
 {
     let mut stream = start;
     let mut at: usize = 0;
@@ -43,15 +43,15 @@ fn answer(
         at += f.used;
         stream = f.stream;
         if !io::write_all(STDOUT_FILENO, &out[..n]) {
-            return Going { stream, on: false };
+            return Serving { stream, on: false };
         }
     }
-    Going { stream, on: true }
+    Serving { stream, on: true }
 }
 
 // Writes the reply to an unended rest of the input.
 fn close(stream: Stream, out: &mut [u8])
-    requires { ⌜ UsableBegun (stream .begun) ⌝ }
+    requires { ⌜ UsablePartial (stream .begun) ⌝ }
 {
     if let Written::At(n) = stream.finish(out, 0) {
         io::write_all(STDOUT_FILENO, &out[..n]);
@@ -69,18 +69,18 @@ fn step(
     second: &mut ListWords,
     chunk: &mut [u8],
     out: &mut [u8],
-) -> Going
-    requires { ⌜ ValidStream stream (came log queued done book) ⌝ }
+) -> Serving
+    requires { ⌜ ValidStream stream (received log queued done book) ⌝ }
     requires { ⌜ 2730 ≤ length (now out) ⌝ }
-    ensures { λ r. ⌜ ValidStream (r .stream) (came (log .exit) (queued .exit) (done .exit) (book .exit)) ⌝ }
+    ensures { λ r. ⌜ ValidStream (r .stream) (received (log .exit) (queued .exit) (done .exit) (book .exit)) ⌝ }
 {
     let got = libc::read(STDIN_FILENO, chunk);
     if got < 0 {
-        return Going { stream, on: false };
+        return Serving { stream, on: false };
     }
     if got == 0 {
         close(stream, out);
-        return Going { stream, on: false };
+        return Serving { stream, on: false };
     }
     let n = io::count(got, chunk);
     answer(

@@ -115,8 +115,8 @@ computed : T (all holds (whole ∷ edges))
 computed =
     unfold holds sameBytes below word digitsWithin digits more number numberOf in
     unfold fieldText fieldsText itemsText tailText listText updateText changeText oneText siteText didText redoText numbersText answerText outcomeText in
-    unfold reading.field reading.rule reading.doneRule reading.update reading.change reading.one reading.items reading.tail reading.did reading.add in
-    unfold reading.redo reading.numbered reading.command readDid readSite readCommand readWhole in
+    unfold reading.field reading.rule reading.doneRule reading.update reading.change reading.one reading.items reading.tail reading.did reading.addForm in
+    unfold reading.redoForm reading.numbered reading.command readDid readSite readCommand readWhole in
     unfold replaced entered enter enterAll cellFrom cell touches runsAt canRun in
     unfold check andThen wrongCount noSuchHistory historyTwice updateMisfits changeMisfits formRefusal updatesRefusal changesRefusal in
     unfold ended didsText logText linesFrom restFrom historiesFit accepts readLines readFirst readLog in

@@ -20,33 +20,33 @@ use Rattle.rules.specs.Keeper.{Keeper, KeeperReply, refused, ok, keptByt
 use Rattle.rules.specs.Keeper.{keeperFull, tooLong, keepRefusal, keepRead, keepLine, coveredBy, dropLines}
 
 -- A call with the number that it is refused with, 0 where it is accepted.
-pub data Asked : Type 0 where
-  keeping : List ℕ → ℕ → Asked
-  dropping : ℕ → ℕ → ℕ → Asked
+pub data KeeperAsked : Type 0 where
+  keeping : List ℕ → ℕ → KeeperAsked
+  dropping : ℕ → ℕ → ℕ → KeeperAsked
 
-abbrev kept : List ℕ → Asked
+abbrev kept : List ℕ → KeeperAsked
 kept line = keeping line 0
 
-abbrev pub numbered : KeeperReply → ℕ
-numbered (refused r) = numberOf r
-numbered (ok k) = 0
+abbrev pub numberedLine : KeeperReply → ℕ
+numberedLine (refused r) = numberOf r
+numberedLine (ok k) = 0
 
 abbrev pub next : KeeperReply → Keeper → Keeper
 next (refused r) k = k
 next (ok after) k = after
 
 -- Every call replies its number.
-unfoldable pub asExpected : List Asked → Keeper → Bool
+unfoldable pub asExpected : List KeeperAsked → Keeper → Bool
 asExpected [] k = true
-asExpected (keeping line n ∷ asked) k = eqb (numbered (keepLine line k)) n && asExpected asked (next (keepLine line k) k)
-asExpected (dropping h p n ∷ asked) k = eqb (numbered (dropLines h p k)) n && asExpected asked (next (dropLines h p k) k)
+asExpected (keeping line n ∷ asked) k = eqb (numberedLine (keepLine line k)) n && asExpected asked (next (keepLine line k) k)
+asExpected (dropping h p n ∷ asked) k = eqb (numberedLine (dropLines h p k)) n && asExpected asked (next (dropLines h p k) k)
 
 -- Calls of a keeper that keeps nothing, in a buffer of some bytes.
-pub record Row : Type 0 where
+pub record KeeperRow : Type 0 where
   pub room : ℕ
-  pub calls : List Asked
+  pub calls : List KeeperAsked
 
-abbrev row : ℕ → List Asked → Row
+abbrev row : ℕ → List KeeperAsked → KeeperRow
 row room calls = record { room = room; calls = calls }
 
 -- One line, and lines that differ from it in one thing; all but `other-order` have its length.
@@ -77,7 +77,7 @@ other-id = bytes "(did 6 (inc 0 1 1 513)(not 1 0 1 0))"
 abbrev fewer : List ℕ
 fewer = bytes "(did 5 (inc 0 1 1 513))"
 
-abbrev pub rows : List Row
+abbrev pub rows : List KeeperRow
 rows =
     -- "differ in a rule, version, operand or order"
     row 100 (kept line ∷ keeping other-operand 20 ∷ keeping other-version 20 ∷ keeping other-rule 20 ∷ keeping other-order 20 ∷ [])
@@ -96,7 +96,7 @@ rows =
     ∷ row 100 (kept line ∷ keeping (bytes "(did 5 (inc 0 1 1 1024)(not 1 0 1 0))") 5 ∷ [])
     ∷ []
 
-unfoldable holds : Row → Bool
+unfoldable holds : KeeperRow → Bool
 holds r = asExpected (r .calls) (record { room = r .room; lines = [] })
 
 computed : T (all holds rows)
@@ -110,6 +110,6 @@ computed =
     tt
 
 -- Every row's calls reply their numbers.
-pub examples : (r : Row) → Mem r rows → asExpected (r .calls) (record { room = r .room; lines = [] }) ≡ true
+pub examples : (r : KeeperRow) → Mem r rows → asExpected (r .calls) (record { room = r .room; lines = [] }) ≡ true
 unfolding holds
 examples r m = T-true (asExpected (r .calls) (record { room = r .room; lines = [] })) (all-at holds rows computed r m)

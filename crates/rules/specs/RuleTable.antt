@@ -347,7 +347,7 @@ computed =
     unfold fieldText fieldsText itemsText tailText listText updateText changeText oneText siteText didText redoText in
     unfold numbersText answerText outcomeText in
     unfold reading.field reading.rule reading.doneRule reading.update reading.change reading.one reading.items reading.tail in
-    unfold reading.did reading.add reading.redo reading.numbered reading.command readDid readSite readCommand readWhole in
+    unfold reading.did reading.addForm reading.redoForm reading.numbered reading.command readDid readSite readCommand readWhole in
     unfold replaced entered enter enterAll cellFrom cell touches runsAt canRun in
     unfold check andThen wrongCount noSuchHistory historyTwice updateMisfits changeMisfits formRefusal updatesRefusal changesRefusal in
     unfold ended didsText logText linesFrom restFrom historiesFit accepts readLines readFirst readLog in

@@ -1,1 +1,1 @@
-// No code: the rule book of document 01 stands in specs/.
+// No code: the specification of document 01 stands in specs/.

@@ -11,7 +11,7 @@ use Rattle.site.specs.Model.{Lent}
 use Rattle.forms.specs.declared.writer.Written.{Written}
 use Rattle.forms.specs.Write.{Writes, withEnd}
 use Rattle.session.specs.declared.Session.{Session}
-use Rattle.session.specs.declared.Turned.{Turned}
+use Rattle.session.specs.declared.LineResult.{LineResult}
 use Rattle.session.specs.Model.{viewIf, Turns, Starts, Answers}
 
 -- A session that is not open is "before site".
@@ -25,11 +25,11 @@ starts s e bytes =
           };
     }
 
--- What is written of a turn's reply is the rule book's reply.
-pub answers : (s : Session) (old : Lent) (t : Turn) (r : Turned) (new : Lent) (n : Written) (out written : List ℕ) →
+-- What is written of a turn's reply is the specification's reply.
+pub answers-turn : (s : Session) (old : Lent) (t : Turn) (r : LineResult) (new : Lent) (n : Written) (out written : List ℕ) →
     Turns s old t r new → Writes out 0 (withEnd (outcomeText (outcomeOf (replied (r .reply) (new .first) (new .second))))) n written →
     Answers s old t (record { session = r .session; next = n }) new out written
-answers s old t r new n out written h w =
+answers-turn s old t r new n out written h w =
     record {
       turned = r;
       session = refl;

@@ -8,9 +8,9 @@ use lib.ListN.{length, take}
 use Rattle.rules.specs.State.{State}
 use Rattle.rules.specs.Log.{linesFrom, restFrom}
 use Rattle.rules.specs.Session.{replies, afterLines}
-use Rattle.session.specs.declared.Begun.{Begun}
+use Rattle.session.specs.declared.PartialLine.{PartialLine}
 
--- ### By the rule book
+-- ### By the specification
 
 -- What a session has come to: the unended line so far, the session, and what it has replied.
 pub record Progress : Type 0 where
@@ -48,12 +48,12 @@ LineIs false held line = held ≡ line
 LineIs true held line = 1024 < length line
 
 -- What the code asks of it.
-pub record UsableBegun (b : Begun) : Type 0 where
+pub record UsablePartial (b : PartialLine) : Type 0 where
   pub few : b .len ≤ 1024
   pub long : length (b .bytes) ≡ 1024
 
 -- b holds the unended line.
-pub record Begins (b : Begun) (line : List ℕ) : Type 0 where
+pub record Begins (b : PartialLine) (line : List ℕ) : Type 0 where
   pub few : b .len ≤ 1024
   pub long : length (b .bytes) ≡ 1024
   pub is : LineIs (b .over) (take (b .len) (b .bytes)) line

@@ -97,7 +97,7 @@ unfolding fedAll joined
 chunks room [] g = sym (fed-none room g)
 chunks room (c ∷ cs) g = chunks room cs (fed room c g) ∙ fed-append room c (joined cs) g
 
--- A whole input, in any chunks, and the reply to its unended rest: the rule book's session.
+-- A whole input, in any chunks, and the reply to its unended rest: the specification's session.
 pub whole-input : (room : ℕ) (cs : List (List ℕ)) →
     sessionIn room (joined cs) ≡ fedAll room cs atStart .replied ++ restReply (fedAll room cs atStart .begun)
 unfolding sessionIn fed atStart

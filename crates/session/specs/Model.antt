@@ -1,4 +1,4 @@
--- The session and the bytes of its log buffer as the rule book has them, and what a line does.
+-- The session and the bytes of its log buffer as the specification has them, and what a line does.
 use Prim.Native.Nat.{ℕ, _+_, _≤_}
 use mathlib.Core.Path.{_≡_}
 use mathlib.Core.Bool.{Bool, true, false}
@@ -18,14 +18,14 @@ use Rattle.rules.specs.Session.{Turn, turnOf, turn}
 use Rattle.forms.specs.declared.reader.CommandForm.{CommandForm}
 use Rattle.forms.specs.declared.reader.CommandRead.{CommandRead}
 use Rattle.site.specs.declared.Site.{Site}
-use Rattle.site.specs.declared.Called.{Called}
-use Rattle.site.specs.Whole.{Whole, Sound}
-use Rattle.site.specs.Model.{Lent, lent, Ends, whole, view, Says, Does}
+use Rattle.site.specs.declared.CallResult.{CallResult}
+use Rattle.site.specs.Representation.{Representation, Sound}
+use Rattle.site.specs.Model.{Lent, lent, Ends, represented, view, Says, Does}
 use Rattle.site.specs.Trim.{updatesHeld, didHeld, redoOf}
 use Rattle.forms.specs.declared.writer.Written.{Written}
 use Rattle.forms.specs.Write.{Writes, withEnd}
 use Rattle.session.specs.declared.Session.{Session}
-use Rattle.session.specs.declared.Turned.{Turned}
+use Rattle.session.specs.declared.LineResult.{LineResult}
 use Rattle.session.specs.declared.Answered.{Answered}
 
 -- ### The session as a state
@@ -34,16 +34,16 @@ abbrev pub viewIf : Bool → Site → Lent → Option State
 viewIf true s bytes = some (view s bytes)
 viewIf false s bytes = none
 
--- The rule book's session that a session and what is lent to it are: none "before site".
+-- The specification's session that a session and what is lent to it are: none "before site".
 abbrev pub sessionView : Session → Lent → Option State
 sessionView s bytes = viewIf (s .opened) (s .site) bytes
 
 -- The invariant: a site that is open is valid.
-pub record ValidOpened (opened : Bool) (w : Whole) (log : List ℕ) : Type 0 where
+pub record ValidOpened (opened : Bool) (w : Representation) (log : List ℕ) : Type 0 where
   pub site : opened ≡ true → Sound w log
 
 abbrev pub ValidSession : Session → Lent → Type 0
-ValidSession s m = ValidOpened (s .opened) (whole (s .site) m) (m .log)
+ValidSession s m = ValidOpened (s .opened) (represented (s .site) m) (m .log)
 
 -- how many bytes of the log buffer are in use
 abbrev pub usedIf : Bool → Site → ℕ
@@ -53,37 +53,37 @@ usedIf false s = 0
 -- ### What a line does
 
 -- "A refusal returns its number only": nothing else has changed.
-pub record Unchanged (s : Session) (old : Lent) (r : Turned) (new : Lent) : Type 0 where
+pub record Unchanged (s : Session) (old : Lent) (r : LineResult) (new : Lent) : Type 0 where
   pub session : r .session ≡ s
   pub kept : new ≡ old
 
 -- "An accepted call alters no byte of a lent buffer past those in use": no byte of the log's.
-pub record PastKept (old : Lent) (r : Turned) (new : Lent) : Type 0 where
+pub record PastKept (old : Lent) (r : LineResult) (new : Lent) : Type 0 where
   pub past : drop (usedIf (r .session .opened) (r .session .site)) (new .log)
       ≡ drop (usedIf (r .session .opened) (r .session .site)) (old .log)
 
-abbrev pub Keeps : Outcome → Session → Lent → Turned → Lent → Type 0
+abbrev pub Keeps : Outcome → Session → Lent → LineResult → Lent → Type 0
 Keeps (Refused q) s old r new = Unchanged s old r new
 Keeps (Accepted a) s old r new = PastKept old r new
 
--- The session s, to which `old` was lent and is `new` after it, takes the turn t of the rule book.
-pub record Turns (s : Session) (old : Lent) (t : Turn) (r : Turned) (new : Lent) : Type 0 where
+-- The session s, to which `old` was lent and is `new` after it, takes the turn t of the specification.
+pub record Turns (s : Session) (old : Lent) (t : Turn) (r : LineResult) (new : Lent) : Type 0 where
   pub answer : Says (replied (r .reply) (new .first) (new .second)) (t .reply)
   pub after : sessionView (r .session) new ≡ t .after
   pub valid : ValidSession (r .session) new
   pub keeps : Keeps (t .reply) s old r new
 
 -- .. the turn of a line of the input
-abbrev pub TurnsLine : Session → Lent → List ℕ → Turned → Lent → Type 0
+abbrev pub TurnsLine : Session → Lent → List ℕ → LineResult → Lent → Type 0
 TurnsLine s old line r new = Turns s old (turn (length (old .log)) line (sessionView s old)) r new
 
 -- The line is refused with q, and the session is as it was.
-pub record Refuses (s : Session) (q : Refusal) (r : Turned) : Type 0 where
+pub record Refuses (s : Session) (q : Refusal) (r : LineResult) : Type 0 where
   pub answer : (xs ys : List ℕ) → Says (replied (r .reply) xs ys) (Refused q)
   pub session : r .session ≡ s
 
 -- what a call of the site hands back, as a turn
-abbrev pub turnedOf : Called → Turned
+abbrev pub turnedOf : CallResult → LineResult
 turnedOf c = record { session = record { opened = true; site = c .site }; reply = c .reply }
 
 -- A session that has no site yet.
@@ -99,7 +99,7 @@ pub record WritesTurn (r : Replied) (out : List ℕ) (at : ℕ) (n : Written) (w
 
 -- The turn t is taken, and its reply with its end stands at the front of the buffer that was `out` and is `written`, if it fits there.
 pub record Answers (s : Session) (old : Lent) (t : Turn) (r : Answered) (new : Lent) (out written : List ℕ) : Type 0 where
-  pub turned : Turned
+  pub turned : LineResult
   pub session : r .session ≡ turned .session
   pub turns : Turns s old t turned new
   pub text : Writes out 0 (withEnd (outcomeText (t .reply))) (r .next) written
@@ -144,15 +144,15 @@ obeyed room c none = turnOf (closedReply room (c .form)) none
 obeyed room c (some st) = turnOf (siteReply room (c .form) (c .asked) (c .did) st) (some st)
 
 -- The session takes the turn of the form that was read.
-abbrev pub TurnsForm : Session → Lent → CommandRead → Turned → Lent → Type 0
+abbrev pub TurnsForm : Session → Lent → CommandRead → LineResult → Lent → Type 0
 TurnsForm s old c r new = Turns s old (obeyed (length (old .log)) c (sessionView s old)) r new
 
 -- The open site does what it is asked for.
-abbrev pub DoesForm : Site → Lent → CommandRead → Called → Lent → Type 0
+abbrev pub DoesForm : Site → Lent → CommandRead → CallResult → Lent → Type 0
 DoesForm s old c r new = Does s old (siteReply (length (old .log)) (c .form) (c .asked) (c .did) (view s old)) r new
 
 -- The session, which is not open, takes the turn of opening a site of n histories, whatever is lent beside the log and the histories.
-abbrev pub Opens : Session → ℕ → Ends → Ends → Turned → Type 0
+abbrev pub Opens : Session → ℕ → Ends → Ends → LineResult → Type 0
 Opens s n log book r =
     (qs ds xs ys : List ℕ) → Turns s (lent (now (log .entry)) qs ds (now (book .entry)) xs ys)
     (turnOf (openSite n (length (now (log .entry)))) none) r (lent (now (log .exit)) qs ds (now (book .exit)) xs ys)

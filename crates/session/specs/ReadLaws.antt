@@ -25,7 +25,7 @@ use Rattle.site.specs.ModelLaws.{step-performs}
 use Rattle.site.specs.Trim.{didHeld, redoOf}
 use Rattle.site.specs.TrimLaws.{updates-writable, add-held, redo-held}
 use Rattle.session.specs.declared.Session.{Session}
-use Rattle.session.specs.declared.Turned.{Turned}
+use Rattle.session.specs.declared.LineResult.{LineResult}
 use Rattle.session.specs.Model.{sessionView, Turns, TurnsLine, siteReply, closedReply, obeyed, TurnsForm}
 
 -- the did line of a redo is shorter than its line
@@ -84,7 +84,7 @@ turn-is room line s = go (readCommand line) refl
 
 -- What is done for the form that was read is done for the line.
 pub turns-by : (line : List ℕ) (c : CommandRead) → c ≡ commandAnswer (readCommand line) →
-    (s : Session) (old : Lent) (r : Turned) (new : Lent) →
+    (s : Session) (old : Lent) (r : LineResult) (new : Lent) →
     TurnsForm s old c r new → TurnsLine s old line r new
 turns-by line c e s old r new h =
     subst (λ (t : Turn). Turns s old t r new) (sym (turn-is (length (old .log)) line (sessionView s old)))

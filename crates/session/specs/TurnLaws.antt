@@ -1,4 +1,4 @@
--- A call of the site as a turn of the session, and a line's form as the rule book obeys it.
+-- A call of the site as a turn of the session, and a line's form as the specification obeys it.
 use Prim.Native.Nat.{ℕ, _≤_, _<_}
 use native.Mathlib.Omega.{arith}
 use mathlib.Core.Path.{_≡_, refl, sym, ap, subst, _∙_}
@@ -18,10 +18,10 @@ use Rattle.rules.specs.Session.{Turn, turnOf, onCommand, turn}
 use Rattle.forms.specs.declared.reader.CommandForm.{CommandForm}
 use Rattle.forms.specs.declared.reader.CommandRead.{CommandRead}
 use Rattle.site.specs.declared.Site.{Site}
-use Rattle.site.specs.declared.Called.{Called}
+use Rattle.site.specs.declared.CallResult.{CallResult}
 use Rattle.site.specs.Model.{Lent, view, Valid, Does, Printable, Few}
 use Rattle.session.specs.declared.Session.{Session}
-use Rattle.session.specs.declared.Turned.{Turned}
+use Rattle.session.specs.declared.LineResult.{LineResult}
 use Rattle.session.specs.Model.{viewIf, sessionView, ValidSession, Refuses, Turns, turnedOf}
 use Rattle.session.specs.Model.{siteReply, closedReply, obeyed, TurnsForm, DoesForm}
 
@@ -39,7 +39,7 @@ lists-short r p = (short (r .first) (p .first), short (r .second) (p .second))
 -- ### A refused line
 
 -- The turn is a refusal, the reply says so, and nothing has changed.
-pub turn-refused : (s : Session) (old : Lent) (t : Turn) (q : Refusal) (r : Turned) → ValidSession s old →
+pub turn-refused : (s : Session) (old : Lent) (t : Turn) (q : Refusal) (r : LineResult) → ValidSession s old →
     t ≡ turnOf (refused q) (sessionView s old) → Refuses s q r → Turns s old t r old
 unfolding turnOf
 turn-refused s old t q r v e h =
@@ -54,7 +54,7 @@ turn-refused s old t q r v e h =
 -- ### A call of the site
 
 -- What a call of an open session's site does is the session's turn.
-call-turns : (s : Session) (old : Lent) (reply : Reply) (r : Called) (new : Lent) → s .opened ≡ true → ValidSession s old →
+call-turns : (s : Session) (old : Lent) (reply : Reply) (r : CallResult) (new : Lent) → s .opened ≡ true → ValidSession s old →
     Does (s .site) old reply r new → Turns s old (turnOf reply (some (view (s .site) old))) (turnedOf r) new
 unfolding turnOf
 call-turns s old (refused q) r new e v d =
@@ -79,17 +79,17 @@ call-turns s old (ok st a) r new e v d =
 -- ### A form
 
 -- What the open site does of a form is the session's turn.
-pub form-called : (s : Session) (old : Lent) (c : CommandRead) (r : Called) (new : Lent) (t : Turned) → s .opened ≡ true →
+pub form-called : (s : Session) (old : Lent) (c : CommandRead) (r : CallResult) (new : Lent) (t : LineResult) → s .opened ≡ true →
     ValidSession s old →
     DoesForm (s .site) old c r new → t ≡ turnedOf r → TurnsForm s old c t new
 unfolding obeyed
 form-called s old c r new t e v d same =
-    subst (λ (x : Turned). TurnsForm s old c x new) (sym same)
+    subst (λ (x : LineResult). TurnsForm s old c x new) (sym same)
     (subst (λ (b : Bool). Turns s old (obeyed (length (old .log)) c (viewIf b (s .site) old)) (turnedOf r) new) (sym e)
     (call-turns s old (siteReply (length (old .log)) (c .form) (c .asked) (c .did) (view (s .site) old)) r new e v d))
 
 -- .. of the form that it is
-pub formed : (s : Site) (old : Lent) (c : CommandRead) (f : CommandForm) (r : Called) (new : Lent) → c .form ≡ f →
+pub formed : (s : Site) (old : Lent) (c : CommandRead) (f : CommandForm) (r : CallResult) (new : Lent) → c .form ≡ f →
     Does s old (siteReply (length (old .log)) f (c .asked) (c .did) (view s old)) r new → DoesForm s old c r new
 formed s old c f r new e d =
     subst (λ (x : CommandForm). Does s old (siteReply (length (old .log)) x (c .asked) (c .did) (view s old)) r new) (sym e) d
@@ -103,7 +103,7 @@ closed-is s old c f e h =
     ∙ ap (λ (x : CommandForm). turnOf (closedReply (length (old .log)) x) none) h
 
 -- .. a refusal
-pub form-refused : (s : Session) (old : Lent) (c : CommandRead) (f : CommandForm) (q : Refusal) (t : Turned) → s .opened ≡ false →
+pub form-refused : (s : Session) (old : Lent) (c : CommandRead) (f : CommandForm) (q : Refusal) (t : LineResult) → s .opened ≡ false →
     c .form ≡ f → closedReply (length (old .log)) f ≡ refused q → ValidSession s old → Refuses s q t → TurnsForm s old c t old
 form-refused s old c f q t e h k v x =
     turn-refused s old (obeyed (length (old .log)) c (sessionView s old)) q t v
@@ -112,7 +112,7 @@ form-refused s old c f q t e h k v x =
     ∙ sym (ap (λ (b : Bool). turnOf (refused q) (viewIf b (s .site) old)) e)) x
 
 -- .. or that of opening
-pub form-opens : (s : Session) (old : Lent) (c : CommandRead) (n : ℕ) (t : Turned) (new : Lent) → s .opened ≡ false →
+pub form-opens : (s : Session) (old : Lent) (c : CommandRead) (n : ℕ) (t : LineResult) (new : Lent) → s .opened ≡ false →
     c .form ≡ CommandForm.SiteOf n → Turns s old (turnOf (openSite n (length (old .log))) none) t new → TurnsForm s old c t new
 unfolding closedReply
 form-opens s old c n t new e h x = subst (λ (y : Turn). Turns s old y t new) (sym (closed-is s old c (CommandForm.SiteOf n) e h)) x

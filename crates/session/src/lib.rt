@@ -3,7 +3,7 @@ ghost use mathlib.Core.Path.{_≡_};
 ghost use mathlib.Core.Bool.{false};
 ghost use mathlib.Core.List.{[]};
 ghost use Rattle.forms.specs.Held.{replied};
-ghost use Rattle.site.specs.Model.{Lent, came, old, new, Valid, RefusedAs, Printable};
+ghost use Rattle.site.specs.Model.{Lent, received, old, new, Valid, RefusedAs, Printable};
 ghost use Rattle.session.specs.Model.{ValidSession, Refuses, Starts, TurnsLine, AnswersLine, WritesTurn};
 ghost use Rattle.session.specs.Model.{turnedOf, Opens, DoesForm, TurnsForm};
 ghost use Rattle.session.specs.Feeding.{Begins};
@@ -16,7 +16,7 @@ use forms::reader::read_command;
 use forms::writer::Written;
 use forms::writer::write_reply;
 use history::book::BookWords;
-use site::Called;
+use site::CallResult;
 use site::Site;
 use site::refusal;
 use table::slots::DoneWords;
@@ -29,7 +29,7 @@ pub struct Session {
 }
 
 // What a line gives: the session after it, and the reply.
-pub struct Turned {
+pub struct LineResult {
     pub session: Session,
     pub reply: ReplyLine,
 }
@@ -41,17 +41,17 @@ pub struct Answered {
 }
 
 // The unended line so far: its first `len` bytes, or that it is above 1,024 bytes.
-pub struct Begun {
+pub struct PartialLine {
     pub bytes: [u8; 1024],
     pub len: usize,
     pub over: bool,
 }
 
 // No byte of a line yet.
-pub fn no_line() -> Begun
+pub fn no_line() -> PartialLine
     ensures { λ r. ⌜ Begins r [] ⌝ }
 {
-    Begun {
+    PartialLine {
         bytes: [0; 1024],
         len: 0,
         over: false,
@@ -59,22 +59,22 @@ pub fn no_line() -> Begun
 }
 
 // What an open site hands back where it refuses.
-fn refused(site: Site, q: Refusal) -> Called
+fn refused(site: Site, q: Refusal) -> CallResult
     ensures { λ r. ⌜ ((m : Lent) → RefusedAs site m q r m) ⌝ }
 {
-    Called {
+    CallResult {
         site,
         reply: refusal(q),
     }
 }
 
 // What the session's site handed back.
-fn called(r: Called) -> Turned
+fn called(r: CallResult) -> LineResult
     ensures { λ t. ⌜ t ≡ turnedOf r ⌝ }
 {
     let site = r.site;
     let reply = r.reply;
-    Turned {
+    LineResult {
         session: Session { opened: true, site },
         reply,
     }
@@ -90,8 +90,8 @@ fn call(
     first: &mut ListWords,
     second: &mut ListWords,
     c: CommandRead,
-) -> Called
-    requires { ⌜ Valid site (came log queued done book) ⌝ }
+) -> CallResult
+    requires { ⌜ Valid site (received log queued done book) ⌝ }
     ensures { λ r. ⌜ DoesForm site (old log queued done book first second) c r (new log queued done book first second) ⌝ }
 {
     let form = c.form;
@@ -125,17 +125,17 @@ pub fn write_turn(out: &mut [u8], at: usize, r: ReplyLine, first: &[u64], second
 
 impl Session {
     // A line that is refused.
-    pub fn refuse(self, q: Refusal) -> Turned
+    pub fn refuse(self, q: Refusal) -> LineResult
         ensures { λ r. ⌜ Refuses self q r ⌝ }
     {
-        Turned {
+        LineResult {
             session: self,
             reply: refusal(q),
         }
     }
 
     // `(site N)` "before site": a refused opening hands back a site without histories.
-    fn open_site(self, log: &mut [u8], book: &mut BookWords, n: u64) -> Turned
+    fn open_site(self, log: &mut [u8], book: &mut BookWords, n: u64) -> LineResult
         requires { ⌜ self .opened ≡ false ⌝ }
         ensures { λ r. ⌜ Opens self n log book r ⌝ }
     {
@@ -143,7 +143,7 @@ impl Session {
         let site = c.site;
         let reply = c.reply;
         if site.count == 0 {
-            Turned {
+            LineResult {
                 session: self,
                 reply,
             }
@@ -162,8 +162,8 @@ impl Session {
         first: &mut ListWords,
         second: &mut ListWords,
         c: CommandRead,
-    ) -> Turned
-        requires { ⌜ ValidSession self (came log queued done book) ⌝ }
+    ) -> LineResult
+        requires { ⌜ ValidSession self (received log queued done book) ⌝ }
         ensures { λ r. ⌜ TurnsForm self (old log queued done book first second) c r (new log queued done book first second) ⌝ }
     {
         let form = c.form;
@@ -188,8 +188,8 @@ impl Session {
         first: &mut ListWords,
         second: &mut ListWords,
         line: &[u8],
-    ) -> Turned
-        requires { ⌜ ValidSession self (came log queued done book) ⌝ }
+    ) -> LineResult
+        requires { ⌜ ValidSession self (received log queued done book) ⌝ }
         ensures { λ r. ⌜ TurnsLine self (old log queued done book first second) (now (line .entry)) r
             (new log queued done book first second) ⌝ }
     {
@@ -219,7 +219,7 @@ impl Session {
         line: &[u8],
         out: &mut [u8],
     ) -> Answered
-        requires { ⌜ ValidSession self (came log queued done book) ⌝ }
+        requires { ⌜ ValidSession self (received log queued done book) ⌝ }
         ensures { λ r. ⌜ AnswersLine self (old log queued done book first second) (now (line .entry)) r
             (new log queued done book first second) (now (out .entry)) (now (out .exit)) ⌝ }
     {

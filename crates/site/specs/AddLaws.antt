@@ -1,4 +1,4 @@
--- Add against the rule book.
+-- Add against the specification.
 use Prim.Native.Nat.{ℕ, _≤_, _<_}
 use native.Mathlib.Omega.{arith}
 use mathlib.Core.Path.{_≡_, refl, sym, ap, ap₂, subst, _∙_}
@@ -36,42 +36,42 @@ use Rattle.table.specs.Lists.{IsNumbers}
 use Rattle.table.specs.Queues.{Queued, queueOf, IsQueue}
 use Rattle.table.specs.Tries.{Tries, tryAllIn, operationsOf}
 use Rattle.table.specs.TryLaws.{try-all-is}
-use Rattle.site.specs.declared.seen.Seen.{Seen}
-use Rattle.site.specs.Whole.{Whole, stateOf, pendingIn, waitingIn, Sound}
-use Rattle.site.specs.ModelLaws.{Accepts, step-performs, accepts-step, says-lists, means, means-none}
+use Rattle.site.specs.declared.seen.CheckInputs.{CheckInputs}
+use Rattle.site.specs.Representation.{Representation, stateOf, pendingIn, waitingIn, Sound}
+use Rattle.site.specs.ModelLaws.{AcceptsCall, step-performs, accepts-step, says-lists, means, means-none}
 use Rattle.site.specs.QueueLaws.{withQueue, carries-queue}
 use Rattle.site.specs.ShowLaws.{count-most}
-use Rattle.site.specs.Seen.{Sees, conflicts}
+use Rattle.site.specs.CheckInputs.{Sees, conflictRefusal}
 use Rattle.site.specs.SeenLaws.{live-is}
 
 -- the operation that an add brings
-abbrev pub asking : ℕ → List Update → Operation
-asking i us = record { id = i; updates = us; running = false }
+abbrev pub addedOperation : ℕ → List Update → Operation
+addedOperation i us = record { id = i; updates = us; running = false }
 
 -- ### Refusals
 
-module _ (x : Seen) (hs : List History) (i : ℕ) (us : List Update) (st : State) (s : Sees x hs i st) where
+module _ (x : CheckInputs) (hs : List History) (i : ℕ) (us : List Update) (st : State) (s : Sees x hs i st) where
   -- the checks behind turn and form, by what was read
   abbrev others : Option Refusal
-  others = check (nothingOrders us) NothingOrders (conflicts (x .pending) (x .done || any (alreadyDone st) us) (any (readOvertaken st) us) (x .full) false)
+  others = check (nothingOrders us) NothingOrders (conflictRefusal (x .pending) (x .done || any (alreadyDone st) us) (any (readOvertaken st) us) (x .full) false)
 
   pub add-refusal-is : addRefusal i us st ≡ check (x .restoring) OutOfTurn (andThen (updatesRefusal (x .count) us) others)
-  unfolding addRefusal conflicts check
+  unfolding addRefusal conflictRefusal check
   add-refusal-is =
       sym (λ j. check (s .restoring j) OutOfTurn (andThen (updatesRefusal (s .count j) us) (check (nothingOrders us) NothingOrders
-      (conflicts (s .pending j) (s .done j || any (alreadyDone st) us) (any (readOvertaken st) us) (s .full j) false))))
+      (conflictRefusal (s .pending j) (s .done j || any (alreadyDone st) us) (any (readOvertaken st) us) (s .full j) false))))
 
   pub nothing-orders-is : nothingOrders us ≡ true → Refused NothingOrders ≡ verdictOf others
   unfolding check verdictOf
   nothing-orders-is e = rw e refl
 
-  pub conflict-is : nothingOrders us ≡ false → (e : Entry) → Enters (asking i us) e → (done overtaken : Bool) →
+  pub conflict-is : nothingOrders us ≡ false → (e : Entry) → Enters (addedOperation i us) e → (done overtaken : Bool) →
       done ≡ (x .done || any (alreadyDoneIn (cellsOf hs)) (operationOf e .updates)) →
       overtaken ≡ any (readOvertakenIn (cellsOf hs)) (operationOf e .updates) →
-      (v : Verdict) → v ≡ verdictOf (conflicts (x .pending) done overtaken (x .full) false) → v ≡ verdictOf others
+      (v : Verdict) → v ≡ verdictOf (conflictRefusal (x .pending) done overtaken (x .full) false) → v ≡ verdictOf others
   unfolding check
   conflict-is orders e enters done overtaken d o v h =
-      h ∙ λ j. verdictOf (check (sym orders j) NothingOrders (conflicts (x .pending) (ran j) (late j) (x .full) false))
+      h ∙ λ j. verdictOf (check (sym orders j) NothingOrders (conflictRefusal (x .pending) (ran j) (late j) (x .full) false))
     where
       ran : done ≡ (x .done || any (alreadyDone st) us)
       ran =
@@ -110,8 +110,8 @@ pub asked-back : (a : AskedHeld) (us : List Update) (n : ℕ) → a ≡ heldUpda
 asked-back a us n e f = ap updatesOf e ∙ updates-back us (formed-updates n us f .few)
 
 -- .. and the entry is theirs
-pub asked-enters : (i : ℕ) (ks us : List Update) → ks ≡ us → (e : Entry) → Enters (asking i ks) e → Enters (asking i us) e
-asked-enters i ks us b e x = subst (λ (l : List Update). Enters (asking i l) e) b x
+pub asked-enters : (i : ℕ) (ks us : List Update) → ks ≡ us → (e : Entry) → Enters (addedOperation i ks) e → Enters (addedOperation i us) e
+asked-enters i ks us b e x = subst (λ (l : List Update). Enters (addedOperation i l) e) b x
 
 -- ### The call
 
@@ -130,8 +130,8 @@ pub add-accepted : (i : ℕ) (us : List Update) (st : State) → i ≤ top → T
 unfolding add unless
 add-accepted i us st le w e = add-performs i us st le w ∙ rw e refl
 
-module _ (s : Whole) (bytes : List ℕ) (v : Sound s bytes) (i : ℕ) (us : List Update) (le : i ≤ top) (w : T (all writableUpdate us))
-    (free : addRefusal i us (stateOf s bytes) ≡ none) (e : Entry) (x : Enters (asking i us) e)
+module _ (s : Representation) (bytes : List ℕ) (v : Sound s bytes) (i : ℕ) (us : List Update) (le : i ≤ top) (w : T (all writableUpdate us))
+    (free : addRefusal i us (stateOf s bytes) ≡ none) (e : Entry) (x : Enters (addedOperation i us) e)
     (q : Queued) (more : IsQueue q (queueOf (s .queue) ++ (e ∷ []))) (tq : Queued) (ns : Numbers) (tries : Tries (cellsOf (s .histories)) (queueOf q) tq ns) where
   abbrev st : State
   st = stateOf s bytes
@@ -145,7 +145,7 @@ module _ (s : Whole) (bytes : List ℕ) (v : Sound s bytes) (i : ℕ) (us : List
       ap (map operationOf) (more .list)
       ∙ map-append operationOf (queueOf (s .queue)) (e ∷ [])
       ∙ ap (λ (y : Operation). map operationOf (queueOf (s .queue)) ++ (y ∷ [])) (x .operation)
-      ∙ ap (λ (b : Bool). pendingIn b s ++ (asking i us ∷ [])) (sym idle)
+      ∙ ap (λ (b : Bool). pendingIn b s ++ (addedOperation i us ∷ [])) (sym idle)
 
   tried : tryAllIn (cellsOf (s .histories)) (operationsOf (queueOf q)) ≡ tryAll (st .log) (arrived i us st)
   unfolding Sound
@@ -154,11 +154,11 @@ module _ (s : Whole) (bytes : List ℕ) (v : Sound s bytes) (i : ℕ) (us : List
   ready : IsNumbers ns (madeReady (arrived i us st) (tryAll (st .log) (arrived i us st)))
   ready = subst (IsNumbers ns) (ap₂ madeReady entries tried) (tries .ready)
 
-  abbrev after : Whole
+  abbrev after : Representation
   after = withQueue tq (s .restoring) (s .reserved) s
 
   pub add-does : (ys : List ℕ) →
-      Accepts bytes (step (Call.Add i us) st) (record { site = after; reply = record { form = ReplyForm.Added; first = ns; second = listed 0 ys } }) bytes
+      AcceptsCall bytes (step (Call.Add i us) st) (record { site = after; reply = record { form = ReplyForm.Added; first = ns; second = listed 0 ys } }) bytes
   unfolding Sound outcomeWith
   add-does ys =
       accepts-step s bytes (Call.Add i us) (withPending (tryAll (st .log) (arrived i us st)) st)
@@ -179,7 +179,7 @@ unfolding heldUpdates
 asks-long a us e = ap (λ (h : AskedHeld). length (h .first)) e
 
 -- an add that passed all checks
-module _ (s : Whole) (bytes : List ℕ) (v : Sound s bytes) (i : ℕ) (us : List Update) (free : addRefusal i us (stateOf s bytes) ≡ none) where
+module _ (s : Representation) (bytes : List ℕ) (v : Sound s bytes) (i : ℕ) (us : List Update) (free : addRefusal i us (stateOf s bytes) ≡ none) where
   -- there is room for one entry more
   pub add-room : s .queue .count < 64
   unfolding Sound
@@ -189,5 +189,5 @@ module _ (s : Whole) (bytes : List ℕ) (v : Sound s bytes) (i : ℕ) (us : List
     pub passed-usable : UsableHeld a
     passed-usable = usable-asked a us (s .count) (count-most s bytes v) h (free-of i us (stateOf s bytes) free .formed)
 
-    pub passed-enters : (e : Entry) → Enters (asking i (updatesOf a)) e → Enters (asking i us) e
+    pub passed-enters : (e : Entry) → Enters (addedOperation i (updatesOf a)) e → Enters (addedOperation i us) e
     passed-enters = asked-enters i (updatesOf a) us (asked-back a us (s .count) h (free-of i us (stateOf s bytes) free .formed))

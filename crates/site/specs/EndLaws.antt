@@ -1,4 +1,4 @@
--- End against the rule book.
+-- End against the specification.
 use Prim.Native.Nat.{ℕ}
 use mathlib.Core.Path.{_≡_, refl, ap, _∙_}
 use mathlib.Core.Bool.{true, false}
@@ -14,11 +14,11 @@ use Rattle.history.specs.declared.Entry.{Entry}
 use Rattle.history.specs.Entries.{didOfEntry, operationOf}
 use Rattle.table.specs.Lists.{IsNumbers}
 use Rattle.table.specs.Queues.{Queued, queueOf, IsQueue, idOf}
-use Rattle.site.specs.Whole.{Whole, stateOf, Sound}
-use Rattle.site.specs.ModelLaws.{Accepts, step-performs, accepts-step, says-lists, means, means-none}
+use Rattle.site.specs.Representation.{Representation, stateOf, Sound}
+use Rattle.site.specs.ModelLaws.{AcceptsCall, step-performs, accepts-step, says-lists, means, means-none}
 use Rattle.site.specs.QueueLaws.{withQueue, withOpen, carries-queue}
 
-pub end-refused : (s : Whole) (bytes : List ℕ) → s .restoring ≡ false → step Call.End (stateOf s bytes) ≡ refused OutOfTurn
+pub end-refused : (s : Representation) (bytes : List ℕ) → s .restoring ≡ false → step Call.End (stateOf s bytes) ≡ refused OutOfTurn
 unfolding writable perform end check unless
 end-refused s bytes e = step-performs Call.End (stateOf s bytes) refl ∙ rw e refl
 
@@ -28,16 +28,16 @@ unfolding didOfEntry
 dids-ids [] = refl
 dids-ids (e ∷ es) = ap (λ (l : List ℕ). e .id ∷ l) (dids-ids es)
 
-pub end-accepted : (s : Whole) (bytes : List ℕ) → s .restoring ≡ true →
+pub end-accepted : (s : Representation) (bytes : List ℕ) → s .restoring ≡ true →
     step Call.End (stateOf s bytes) ≡ ok (withOpen [] [] false (stateOf s bytes)) (Ended (map idOf (queueOf (s .queue))))
 unfolding writable perform end check unless
 end-accepted s bytes e =
     step-performs Call.End (stateOf s bytes) refl
     ∙ rw e (ap (λ (l : List ℕ). ok (withOpen [] [] false (stateOf s bytes)) (Ended l)) (dids-ids (queueOf (s .queue))))
 
-pub end-does : (s : Whole) (bytes : List ℕ) → Sound s bytes → s .restoring ≡ true → (q : Queued) → IsQueue q [] → (a : Numbers) (ys : List ℕ) →
+pub end-does : (s : Representation) (bytes : List ℕ) → Sound s bytes → s .restoring ≡ true → (q : Queued) → IsQueue q [] → (a : Numbers) (ys : List ℕ) →
     IsNumbers a (map idOf (queueOf (s .queue))) →
-    Accepts bytes (step Call.End (stateOf s bytes)) (record { site = withQueue q false 0 s; reply = record { form = ReplyForm.Ended; first = a; second = listed 0 ys } }) bytes
+    AcceptsCall bytes (step Call.End (stateOf s bytes)) (record { site = withQueue q false 0 s; reply = record { form = ReplyForm.Ended; first = a; second = listed 0 ys } }) bytes
 unfolding Sound outcomeWith
 end-does s bytes v e q empty a ys ids =
     accepts-step s bytes Call.End (withOpen [] [] false (stateOf s bytes)) (Ended (map idOf (queueOf (s .queue)))) _ bytes v (end-accepted s bytes e)

@@ -1,4 +1,4 @@
-pub mod Whole
+pub mod Representation
 pub mod Model
 pub mod ModelLaws
 pub mod QueueLaws
@@ -12,7 +12,7 @@ pub mod ShowLaws
 pub mod EndLaws
 pub mod LineLaws
 pub mod Trim
-pub mod Seen
+pub mod CheckInputs
 pub mod SeenLaws
 pub mod AddLaws
 pub mod FinishLaws

@@ -1,4 +1,4 @@
--- The site and what is lent to it as a state of the rule book, the invariant of the two, and what a call promises.
+-- The site and what is lent to it as a state of the specification, the invariant of the two, and what a call promises.
 use Prim.Native.Nat.{ℕ, _≤_}
 use mathlib.Core.Path.{_≡_}
 use mathlib.Core.List.{List, []}
@@ -13,8 +13,8 @@ use Rattle.rules.specs.Calls.{Call, step}
 use Rattle.history.specs.Words.{historiesIn, persistedIn, stabilisedIn}
 use Rattle.table.specs.Slots.{stored, storedDone}
 use Rattle.site.specs.declared.Site.{Site}
-use Rattle.site.specs.declared.Called.{Called}
-use Rattle.site.specs.Whole.{Whole, stateOf, Sound}
+use Rattle.site.specs.declared.CallResult.{CallResult}
+use Rattle.site.specs.Representation.{Representation, stateOf, Sound}
 
 -- ### What is lent
 
@@ -36,8 +36,8 @@ abbrev pub Ends : Type 0
 Ends = Both (RefT (List ℕ)) (RefT (List ℕ))
 
 -- What was lent, in a `requires`: the lists of a reply do not matter there.
-abbrev pub came : RefT (List ℕ) → RefT (List ℕ) → RefT (List ℕ) → RefT (List ℕ) → Lent
-came log queue done book = lent (now log) (now queue) (now done) (now book) [] []
+abbrev pub received : RefT (List ℕ) → RefT (List ℕ) → RefT (List ℕ) → RefT (List ℕ) → Lent
+received log queue done book = lent (now log) (now queue) (now done) (now book) [] []
 
 -- What was lent, in an `ensures`, as it came and as it is left.
 abbrev pub old : Ends → Ends → Ends → Ends → Ends → Ends → Lent
@@ -49,8 +49,8 @@ new log queue done book first second =
     lent (now (log .exit)) (now (queue .exit)) (now (done .exit)) (now (book .exit)) (now (first .exit)) (now (second .exit))
 
 -- The site with the histories and the entries that stand in what is lent.
-abbrev pub whole : Site → Lent → Whole
-whole s m =
+abbrev pub represented : Site → Lent → Representation
+represented s m =
     record {
       count = s .count;
       used = s .used;
@@ -68,12 +68,12 @@ whole s m =
 
 -- The state that a site and what is lent to it are.
 abbrev pub view : Site → Lent → State
-view s m = stateOf (whole s m) (m .log)
+view s m = stateOf (represented s m) (m .log)
 
 -- The invariant of a site and what is lent to it: opening and restart establish it, and every call keeps it. It does not look at the lists of a reply,
 -- so that contracts that require it write `[] []` for them.
 abbrev pub Valid : Site → Lent → Type 0
-Valid s m = Sound (whole s m) (m .log)
+Valid s m = Sound (represented s m) (m .log)
 
 -- ### What a call promises
 
@@ -92,24 +92,24 @@ pub record Says (r : Replied) (o : Outcome) : Type 0 where
   pub printable : Printable r
 
 -- "A refusal returns its number only; site, log .. and all other lent buffers do not change."
-pub record RefusedAs (s : Site) (old : Lent) (q : Refusal) (r : Called) (new : Lent) : Type 0 where
+pub record RefusedAs (s : Site) (old : Lent) (q : Refusal) (r : CallResult) (new : Lent) : Type 0 where
   pub answer : Says (replied (r .reply) (new .first) (new .second)) (Refused q)
   pub site : r .site ≡ s
   pub kept : new ≡ old
 
 -- "An accepted call alters no byte of a lent buffer past those in use": no byte of the log's. Of the arrays of numbers an accepted call says what
 -- they mean, by the answer and the state; nothing is said of numbers behind those in use.
-pub record AcceptedAs (old : Lent) (st : State) (a : Answer) (r : Called) (new : Lent) : Type 0 where
+pub record AcceptedAs (old : Lent) (st : State) (a : Answer) (r : CallResult) (new : Lent) : Type 0 where
   pub answer : Says (replied (r .reply) (new .first) (new .second)) (Accepted a)
   pub valid : Valid (r .site) new
   pub state : view (r .site) new ≡ st
   pub past : drop (r .site .used) (new .log) ≡ drop (r .site .used) (old .log)
 
--- A call of the site s, to which `old` was lent and is `new` after it, does what the rule book replies.
-abbrev pub Does : Site → Lent → Reply → Called → Lent → Type 0
+-- A call of the site s, to which `old` was lent and is `new` after it, does what the specification replies.
+abbrev pub Does : Site → Lent → Reply → CallResult → Lent → Type 0
 Does s old (refused q) r new = RefusedAs s old q r new
 Does s old (ok st a) r new = AcceptedAs old st a r new
 
 -- .. of this call
-abbrev pub Steps : Site → Lent → Call → Called → Lent → Type 0
+abbrev pub Steps : Site → Lent → Call → CallResult → Lent → Type 0
 Steps s old c r new = Does s old (step c (view s old)) r new

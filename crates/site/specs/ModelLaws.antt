@@ -18,9 +18,9 @@ use Rattle.rules.specs.Good.{Good}
 use Rattle.history.specs.declared.History.{History}
 use Rattle.table.specs.Lists.{IsNumbers}
 use Rattle.site.specs.declared.Site.{Site}
-use Rattle.site.specs.declared.Called.{Called}
-use Rattle.site.specs.Whole.{Whole, stateOf, didsIn, Carries, Holds, Sound}
-use Rattle.site.specs.Model.{Lent, lent, whole, Few, Says, Does}
+use Rattle.site.specs.declared.CallResult.{CallResult}
+use Rattle.site.specs.Representation.{Representation, stateOf, didsIn, Carries, Represents, Sound}
+use Rattle.site.specs.Model.{Lent, lent, represented, Few, Says, Does}
 
 -- ### Replies
 
@@ -49,14 +49,14 @@ says-lists r xs ys a b =
 -- ### What a site holds
 
 -- The log that the bytes in use say.
-pub log-is : (s : Whole) (bytes : List ℕ) (st : State) → Holds s bytes st → didsIn (readLog (take (s .used) bytes)) ≡ st .log
+pub log-is : (s : Representation) (bytes : List ℕ) (st : State) → Represents s bytes st → didsIn (readLog (take (s .used) bytes)) ≡ st .log
 unfolding logBytes
 log-is s bytes st h =
     ap (λ (b : List ℕ). didsIn (readLog b)) (h .carries .text)
     ∙ ap didsIn (read-printed (st .histories) (st .log) (h .good .histories) (h .good .formed) (h .good .ran))
 
 -- What a site holds is its view.
-pub view-is : (s : Whole) (bytes : List ℕ) (st : State) → Holds s bytes st → stateOf s bytes ≡ st
+pub view-is : (s : Representation) (bytes : List ℕ) (st : State) → Represents s bytes st → stateOf s bytes ≡ st
 view-is s bytes st h =
     λ i. record {
       histories = c .count i;
@@ -73,12 +73,12 @@ view-is s bytes st h =
     c = h .carries
 
 -- A site that holds a state is valid.
-pub valid-is : (s : Whole) (bytes : List ℕ) (st : State) → Holds s bytes st → Sound s bytes
+pub valid-is : (s : Representation) (bytes : List ℕ) (st : State) → Represents s bytes st → Sound s bytes
 unfolding Sound
-valid-is s bytes st h = subst (Holds s bytes) (sym (view-is s bytes st h)) h
+valid-is s bytes st h = subst (Represents s bytes) (sym (view-is s bytes st h)) h
 
 -- the site with these histories and versions
-abbrev pub withBook : List History → List ℕ → List ℕ → Whole → Whole
+abbrev pub withBook : List History → List ℕ → List ℕ → Representation → Representation
 withBook histories persisted stabilised w =
     record {
       count = w .count;
@@ -96,18 +96,18 @@ withBook histories persisted stabilised w =
     }
 
 -- .. which is the site itself, when they are the same
-pub same-book : (w : Whole) {hs : List History} {ps ss : List ℕ} → hs ≡ w .histories → ps ≡ w .persisted → ss ≡ w .stabilised → w ≡ withBook hs ps ss w
+pub same-book : (w : Representation) {hs : List History} {ps ss : List ℕ} → hs ≡ w .histories → ps ≡ w .persisted → ss ≡ w .stabilised → w ≡ withBook hs ps ss w
 same-book w h p s = λ i. withBook (sym h i) (sym p i) (sym s i) w
 
 -- ### What a call does
 
 -- A site with its tables after a call, and the reply.
 pub record Taken : Type 0 where
-  pub site : Whole
+  pub site : Representation
   pub reply : Replied
 
--- A call that the rule book accepts: the site after it is sound and has the next state, and the bytes past those in use are as before.
-pub record Accepts (old : List ℕ) (x : Reply) (r : Taken) (new : List ℕ) : Type 0 where
+-- A call that the specification accepts: the site after it is sound and has the next state, and the bytes past those in use are as before.
+pub record AcceptsCall (old : List ℕ) (x : Reply) (r : Taken) (new : List ℕ) : Type 0 where
   pub next : State
   pub answer : Answer
   pub accepted : x ≡ ok next answer
@@ -117,34 +117,34 @@ pub record Accepts (old : List ℕ) (x : Reply) (r : Taken) (new : List ℕ) : T
   pub past : drop (r .site .used) new ≡ drop (r .site .used) old
 
 -- .. so too with these histories and versions, when they are the same
-pub accepts-book : (old : List ℕ) (x : Reply) (w : Whole) (reply : Replied) (new : List ℕ) {hs : List History} {ps ss : List ℕ} →
+pub accepts-book : (old : List ℕ) (x : Reply) (w : Representation) (reply : Replied) (new : List ℕ) {hs : List History} {ps ss : List ℕ} →
     hs ≡ w .histories → ps ≡ w .persisted → ss ≡ w .stabilised →
-    Accepts old x (record { site = w; reply = reply }) new → Accepts old x (record { site = withBook hs ps ss w; reply = reply }) new
+    AcceptsCall old x (record { site = w; reply = reply }) new → AcceptsCall old x (record { site = withBook hs ps ss w; reply = reply }) new
 accepts-book old x w reply new h p s a =
-    subst (λ (z : Whole). Accepts old x (record { site = z; reply = reply }) new) (same-book w h p s) a
+    subst (λ (z : Representation). AcceptsCall old x (record { site = z; reply = reply }) new) (same-book w h p s) a
 
--- .. and so it does what the rule book replies.
-pub does : (s : Site) (old : Lent) (x : Reply) (r : Called) (new : Lent) →
-    Accepts (old .log) x (record { site = whole (r .site) new; reply = replied (r .reply) (new .first) (new .second) }) (new .log) →
+-- .. and so it does what the specification replies.
+pub does : (s : Site) (old : Lent) (x : Reply) (r : CallResult) (new : Lent) →
+    AcceptsCall (old .log) x (record { site = represented (r .site) new; reply = replied (r .reply) (new .first) (new .second) }) (new .log) →
     Does s old x r new
 does s old x r new a =
     subst (λ (y : Reply). Does s old y r new) (sym (a .accepted)) (record { answer = a .says; valid = a .sound; state = a .state; past = a .past })
 
--- A call that the rule book refuses: site and all that is lent are the very ones that came in.
-pub refuses : (s : Site) (old : Lent) (reply : Reply) (q : Refusal) (r : Called) → reply ≡ refused q →
+-- A call that the specification refuses: site and all that is lent are the very ones that came in.
+pub refuses : (s : Site) (old : Lent) (reply : Reply) (q : Refusal) (r : CallResult) → reply ≡ refused q →
     Says (replied (r .reply) (old .first) (old .second)) (Refused q) → r .site ≡ s → Does s old reply r old
 refuses s old reply q r e says same = subst (λ (x : Reply). Does s old x r old) (sym e) (record { answer = says; site = same; kept = refl })
 
 -- .. the log too, where the writer found no room
-pub refuses-full : (s : Site) (old : Lent) (new : List ℕ) (reply : Reply) (q : Refusal) (r : Called) → reply ≡ refused q → new ≡ old .log →
+pub refuses-full : (s : Site) (old : Lent) (new : List ℕ) (reply : Reply) (q : Refusal) (r : CallResult) → reply ≡ refused q → new ≡ old .log →
     Says (replied (r .reply) (old .first) (old .second)) (Refused q) → r .site ≡ s → Does s old reply r (lent new (old .queue) (old .done) (old .book) (old .first) (old .second))
 refuses-full s old new reply q r e f says same =
     subst (λ (b : List ℕ). Does s old reply r (lent b (old .queue) (old .done) (old .book) (old .first) (old .second))) (sym f) (refuses s old reply q r e says same)
 
--- A call that the rule book accepts: the site after it holds the next state.
-pub accepts : (old : List ℕ) (reply : Reply) (st : State) (a : Answer) (r : Taken) (new : List ℕ) → reply ≡ ok st a →
-    Says (r .reply) (Accepted a) → Holds (r .site) new st → drop (r .site .used) new ≡ drop (r .site .used) old → Accepts old reply r new
-accepts old reply st a r new e says h past =
+-- A call that the specification accepts: the site after it holds the next state.
+pub accepts-call : (old : List ℕ) (reply : Reply) (st : State) (a : Answer) (r : Taken) (new : List ℕ) → reply ≡ ok st a →
+    Says (r .reply) (Accepted a) → Represents (r .site) new st → drop (r .site .used) new ≡ drop (r .site .used) old → AcceptsCall old reply r new
+accepts-call old reply st a r new e says h past =
     record {
       next = st;
       answer = a;
@@ -160,12 +160,12 @@ pub step-performs : (c : Call) (st : State) → writable c ≡ true → step c s
 unfolding step check unless
 step-performs c st e = rw e refl
 
--- A call that is accepted: the site after it carries the next state, which the rule book's laws make good.
-pub accepts-step : (s : Whole) (old : List ℕ) (c : Call) (st : State) (a : Answer) (r : Taken) (new : List ℕ) → Sound s old → step c (stateOf s old) ≡ ok st a →
-    Says (r .reply) (Accepted a) → Carries (r .site) new st → drop (r .site .used) new ≡ drop (r .site .used) old → Accepts old (step c (stateOf s old)) r new
+-- A call that is accepted: the site after it carries the next state, which the specification's laws make good.
+pub accepts-step : (s : Representation) (old : List ℕ) (c : Call) (st : State) (a : Answer) (r : Taken) (new : List ℕ) → Sound s old → step c (stateOf s old) ≡ ok st a →
+    Says (r .reply) (Accepted a) → Carries (r .site) new st → drop (r .site .used) new ≡ drop (r .site .used) old → AcceptsCall old (step c (stateOf s old)) r new
 unfolding Sound settle
 accepts-step s old c st a r new v e says carries past =
-    accepts old (step c (stateOf s old)) st a r new e says (record { carries = carries; good = good }) past
+    accepts-call old (step c (stateOf s old)) st a r new e says (record { carries = carries; good = good }) past
   where
     good : Good st
     good = subst (λ (x : Reply). Good (settle x (stateOf s old))) e (good-step c (stateOf s old) (v .good))

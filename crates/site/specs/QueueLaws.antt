@@ -7,10 +7,10 @@ use Rattle.forms.specs.Lists.{sum}
 use Rattle.forms.specs.Forms.{Did}
 use Rattle.rules.specs.State.{Operation, State, logBytes, versionAt, liveDone, lineBytes}
 use Rattle.table.specs.Queues.{Queued, UsableQueue}
-use Rattle.site.specs.Whole.{Whole, pendingIn, waitingIn, Carries}
+use Rattle.site.specs.Representation.{Representation, pendingIn, waitingIn, Carries}
 
 -- the site with another queue
-abbrev pub withQueue : Queued → Bool → ℕ → Whole → Whole
+abbrev pub withQueue : Queued → Bool → ℕ → Representation → Representation
 withQueue q restoring reserved s =
     record {
       count = s .count;
@@ -41,7 +41,7 @@ withOpen pending waiting restoring st =
       restoring = restoring;
     }
 
-pub carries-queue : (s : Whole) (bytes : List ℕ) (st : State) → Carries s bytes st → (q : Queued) (restoring : Bool) (reserved : ℕ)
+pub carries-queue : (s : Representation) (bytes : List ℕ) (st : State) → Carries s bytes st → (q : Queued) (restoring : Bool) (reserved : ℕ)
     (pending : List Operation) (waiting : List Did) → UsableQueue q → pendingIn restoring (withQueue q restoring reserved s) ≡ pending →
     waitingIn restoring (withQueue q restoring reserved s) ≡ waiting → reserved ≡ sum lineBytes waiting →
     Carries (withQueue q restoring reserved s) bytes (withOpen pending waiting restoring st)

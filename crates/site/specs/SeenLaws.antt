@@ -1,4 +1,4 @@
--- Laws of the checks that an add and a redo share: what is read of a valid site is so in its stateOf, and a verdict is that of the rule book.
+-- Laws of the checks that an add and a redo share: what is read of a valid site is so in its stateOf, and a verdict is that of the specification.
 use Prim.Native.Nat.{ℕ, _+_}
 use native.Mathlib.Omega.{arith}
 use mathlib.Core.Path.{_≡_, refl, sym, ap, _∙_}
@@ -24,8 +24,8 @@ use Rattle.table.specs.BookLaws.{done-ids}
 use Rattle.table.specs.Queues.{queueOf, hasId}
 use Rattle.table.specs.QueueLaws.{queue-length}
 use Rattle.table.specs.Dones.{doneOf, doneHasId}
-use Rattle.site.specs.Whole.{Whole, stateOf, pendingIn, waitingIn, Carries, Sound}
-use Rattle.site.specs.Seen.{Sees}
+use Rattle.site.specs.Representation.{Representation, stateOf, pendingIn, waitingIn, Carries, Sound}
+use Rattle.site.specs.CheckInputs.{Sees}
 
 -- ### The table
 
@@ -34,7 +34,7 @@ or-nothing true = refl
 or-nothing false = refl
 
 -- 7: the queue has an entry with this id
-id-pending : (s : Whole) (bytes : List ℕ) (i : ℕ) → any (hasId i) (queueOf (s .queue)) ≡ idPending i (stateOf s bytes)
+id-pending : (s : Representation) (bytes : List ℕ) (i : ℕ) → any (hasId i) (queueOf (s .queue)) ≡ idPending i (stateOf s bytes)
 unfolding idPending
 id-pending s bytes i = go (s .restoring)
   where
@@ -44,12 +44,12 @@ id-pending s bytes i = go (s .restoring)
     go false = has-operation i (queueOf (s .queue)) ∙ sym (or-nothing (any (λ (x : Operation). eqb (x .id) i) (map operationOf (queueOf (s .queue)))))
 
 -- 8: a done operation that is live has this id
-id-done : (s : Whole) (bytes : List ℕ) (st : State) → Carries s bytes st → (i : ℕ) → any (doneHasId i) (doneOf (s .finished)) ≡ idDone i st
+id-done : (s : Representation) (bytes : List ℕ) (st : State) → Carries s bytes st → (i : ℕ) → any (doneHasId i) (doneOf (s .finished)) ≡ idDone i st
 unfolding idDone
 id-done s bytes st c i = ap (any (doneHasId i)) (c .finished .list) ∙ done-ids i (liveDone st)
 
 -- 10: the entries of the table
-pub live-is : (s : Whole) (bytes : List ℕ) → Carries s bytes (stateOf s bytes) → s .queue .count + s .finished .count ≡ live (stateOf s bytes)
+pub live-is : (s : Representation) (bytes : List ℕ) → Carries s bytes (stateOf s bytes) → s .queue .count + s .finished .count ≡ live (stateOf s bytes)
 unfolding live
 live-is s bytes c = omega (arith, go (s .restoring), done)
   where
@@ -67,7 +67,7 @@ live-is s bytes c = omega (arith, go (s .restoring), done)
         ∙ length-map (liveDone (stateOf s bytes)) doneEntryOf
 
 -- what is read of a valid site is so in its stateOf
-pub site-sees : (s : Whole) (bytes : List ℕ) → Sound s bytes → (i : ℕ) (pending done full : Bool) → pending ≡ any (hasId i) (queueOf (s .queue)) →
+pub site-sees : (s : Representation) (bytes : List ℕ) → Sound s bytes → (i : ℕ) (pending done full : Bool) → pending ≡ any (hasId i) (queueOf (s .queue)) →
     done ≡ any (doneHasId i) (doneOf (s .finished)) → full ≡ leb 64 (s .queue .count + s .finished .count) →
     Sees (record { restoring = s .restoring; count = s .count; pending = pending; done = done; full = full }) (s .histories) i (stateOf s bytes)
 unfolding Sound tableFull

@@ -1,4 +1,4 @@
--- Show against the rule book.
+-- Show against the specification.
 use Prim.Native.Nat.{ℕ, _≤_, _<_}
 use native.Mathlib.Omega.{arith}
 use mathlib.Core.Path.{_≡_, refl, sym, _∙_}
@@ -17,11 +17,11 @@ use Rattle.rules.specs.LogLaws.{histories-most}
 use Rattle.rules.specs.Calls.{Call, unless, writable, perform, step, show}
 use Rattle.history.specs.declared.History.{History}
 use Rattle.history.specs.Entries.{cellsOf, noHistory}
-use Rattle.site.specs.Whole.{Whole, stateOf, Carries, Sound}
-use Rattle.site.specs.ModelLaws.{Accepts, step-performs, accepts, says-lists, means-none}
+use Rattle.site.specs.Representation.{Representation, stateOf, Carries, Sound}
+use Rattle.site.specs.ModelLaws.{AcceptsCall, step-performs, accepts-call, says-lists, means-none}
 
 -- There are at most sixteen histories.
-pub count-most : (s : Whole) (bytes : List ℕ) → Sound s bytes → s .count ≤ 16
+pub count-most : (s : Representation) (bytes : List ℕ) → Sound s bytes → s .count ≤ 16
 unfolding Sound
 count-most s bytes v = histories-most (s .count) (v .good .histories)
 
@@ -29,12 +29,12 @@ pub show-performs : (h : ℕ) (st : State) → h ≤ top → step (Call.Show h) 
 unfolding writable perform
 show-performs h st le = step-performs (Call.Show h) st (le-leb h top le)
 
-pub show-refused : (s : Whole) (bytes : List ℕ) (h : ℕ) → h ≤ top → s .count ≤ h → step (Call.Show h) (stateOf s bytes) ≡ refused NoSuchHistory
+pub show-refused : (s : Representation) (bytes : List ℕ) (h : ℕ) → h ≤ top → s .count ≤ h → step (Call.Show h) (stateOf s bytes) ≡ refused NoSuchHistory
 unfolding show check unless
 show-refused s bytes h le past = show-performs h (stateOf s bytes) le ∙ rw (le-leb (s .count) h past) refl
 
--- What the site holds of history h is what the rule book shows of it.
-pub show-accepted : (s : Whole) (bytes : List ℕ) (h : ℕ) → Sound s bytes → h ≤ top → h < s .count →
+-- What the site holds of history h is what the specification shows of it.
+pub show-accepted : (s : Representation) (bytes : List ℕ) (h : ℕ) → Sound s bytes → h ≤ top → h < s .count →
     step (Call.Show h) (stateOf s bytes)
     ≡ ok (stateOf s bytes)
     (Shown h (cellsOf (s .histories) h .version) (getD (s .persisted) h 0) (getD (s .stabilised) h 0) (cellsOf (s .histories) h .place) (cellsOf (s .histories) h .profile))
@@ -74,13 +74,13 @@ shownOf h x p q xs ys =
       second = listed 0 ys;
     }
 
-pub show-does : (s : Whole) (bytes : List ℕ) (h : ℕ) → Sound s bytes → h ≤ top → h < s .count →
+pub show-does : (s : Representation) (bytes : List ℕ) (h : ℕ) → Sound s bytes → h ≤ top → h < s .count →
     (x : History) → x ≡ getD (s .histories) h noHistory → (p : ℕ) → p ≡ getD (s .persisted) h 0 → (q : ℕ) → q ≡ getD (s .stabilised) h 0 →
     (xs ys : List ℕ) →
-    Accepts bytes (step (Call.Show h) (stateOf s bytes)) (record { site = s; reply = shownOf h x p q xs ys }) bytes
+    AcceptsCall bytes (step (Call.Show h) (stateOf s bytes)) (record { site = s; reply = shownOf h x p q xs ys }) bytes
 unfolding outcomeWith Sound
 show-does s bytes h v le below x is p persisted q stabilised xs ys =
-    accepts bytes (step (Call.Show h) (stateOf s bytes)) (stateOf s bytes) (Shown h (x .version .0) p q (x .place .0) (x .profile))
+    accepts-call bytes (step (Call.Show h) (stateOf s bytes)) (stateOf s bytes) (Shown h (x .version .0) p q (x .place .0) (x .profile))
     (record { site = s; reply = shownOf h x p q xs ys }) bytes
     (show-accepted s bytes h v le below
     ∙ sym (λ i. ok (stateOf s bytes) (Shown h (is i .version .0) (persisted i) (stabilised i) (is i .place .0) (is i .profile))))

@@ -1,4 +1,4 @@
--- Withdraw against the rule book.
+-- Withdraw against the specification.
 use Prim.Native.Nat.{ℕ, _+_, _-_, _≤_, _<_}
 use native.Mathlib.Omega.{arith}
 use mathlib.Core.Path.{_≡_, refl, sym, ap, subst, _∙_}
@@ -19,37 +19,37 @@ use Rattle.rules.specs.Calls.{Call, unless, writable, perform, step, without, w
 use Rattle.rules.specs.Good.{operationIds, didIds}
 use Rattle.table.specs.declared.Found.the-variants.{At, Nothing}
 use Rattle.table.specs.Lists.{IsNumbers, firstAt}
-use Rattle.table.specs.Arrays.{Says, ceases}
+use Rattle.table.specs.Arrays.{Tabulates, ceases}
 use Rattle.table.specs.Queues.{Queued, queueOf, UsableQueue, IsQueue, isEntry, pastEntry}
 use Rattle.table.specs.QueueLaws.{queue-length}
 use Rattle.table.specs.Tries.{operationsOf}
 use Rattle.table.specs.FindLaws.{first-found, any-future, no-future, without-is}
 use Rattle.table.specs.BookLaws.{became-dry-is}
-use Rattle.site.specs.Whole.{Whole, stateOf, pendingIn, waitingIn, Sound}
-use Rattle.site.specs.ModelLaws.{Accepts, step-performs, accepts-step, says-lists, means, means-none}
+use Rattle.site.specs.Representation.{Representation, stateOf, pendingIn, waitingIn, Sound}
+use Rattle.site.specs.ModelLaws.{AcceptsCall, step-performs, accepts-step, says-lists, means, means-none}
 use Rattle.site.specs.QueueLaws.{withQueue, carries-queue}
 use Rattle.site.specs.Busy.{busyIn}
 use Rattle.site.specs.BusyLaws.{busy-wet}
-use Rattle.site.specs.MarkLaws.{marked}
+use Rattle.site.specs.MarkLaws.{marks-ordered}
 
 withdraw-performs : (i : ℕ) (st : State) → i ≤ top → step (Call.Withdraw i) st ≡ withdraw i st
 unfolding writable perform
 withdraw-performs i st le = step-performs (Call.Withdraw i) st (le-leb i top le)
 
-pub withdraw-refused-turn : (s : Whole) (bytes : List ℕ) (i : ℕ) → i ≤ top → s .restoring ≡ true → step (Call.Withdraw i) (stateOf s bytes) ≡ refused OutOfTurn
+pub withdraw-refused-turn : (s : Representation) (bytes : List ℕ) (i : ℕ) → i ≤ top → s .restoring ≡ true → step (Call.Withdraw i) (stateOf s bytes) ≡ refused OutOfTurn
 unfolding withdraw withdrawRefusal check unless
 withdraw-refused-turn s bytes i le e = withdraw-performs i (stateOf s bytes) le ∙ rw e refl
 
-pub withdraw-refused-state : (s : Whole) (bytes : List ℕ) (i : ℕ) → i ≤ top → s .restoring ≡ false → firstAt (isEntry i false) (queueOf (s .queue)) ≡ Nothing →
+pub withdraw-refused-state : (s : Representation) (bytes : List ℕ) (i : ℕ) → i ≤ top → s .restoring ≡ false → firstAt (isEntry i false) (queueOf (s .queue)) ≡ Nothing →
     step (Call.Withdraw i) (stateOf s bytes) ≡ refused WrongState
 unfolding withdraw withdrawRefusal check unless
 withdraw-refused-state s bytes i le e nothing = withdraw-performs i (stateOf s bytes) le ∙ rw (e, no-future i (queueOf (s .queue)) nothing) refl
 
 -- the state after it
-abbrev pub withdrawnFrom : ℕ → Whole → List ℕ → State
+abbrev pub withdrawnFrom : ℕ → Representation → List ℕ → State
 withdrawnFrom i s bytes = withPending (without i (pendingIn (s .restoring) s)) (stateOf s bytes)
 
-withdraw-accepted : (s : Whole) (bytes : List ℕ) (i k : ℕ) → i ≤ top → s .restoring ≡ false → firstAt (isEntry i false) (queueOf (s .queue)) ≡ At k →
+withdraw-accepted : (s : Representation) (bytes : List ℕ) (i k : ℕ) → i ≤ top → s .restoring ≡ false → firstAt (isEntry i false) (queueOf (s .queue)) ≡ At k →
     step (Call.Withdraw i) (stateOf s bytes) ≡ ok (withdrawnFrom i s bytes) (Withdrawn (becameDry (stateOf s bytes) (withdrawnFrom i s bytes)))
 unfolding withdraw withdrawRefusal check unless
 withdraw-accepted s bytes i k le e found = withdraw-performs i (stateOf s bytes) le ∙ rw (e, any-future i (queueOf (s .queue)) k found) refl
@@ -59,15 +59,15 @@ pub found-below : (q : Queued) → UsableQueue q → (i : ℕ) (running : Bool) 
 found-below q u i running k found = omega (arith, queue-length q u, first-found (isEntry i running) pastEntry (queueOf q) k found .lt)
 
 -- The volatile operations are some of those that are done and not yet stable.
-pub volatile-few : (s : Whole) (bytes : List ℕ) → Sound s bytes → s .persistent .0 - s .stable .0 ≤ s .finished .count
-volatile-few s bytes v = let m = marked s bytes v in omega (arith, m .stable, m .persistent, m .finished)
+pub volatile-few : (s : Representation) (bytes : List ℕ) → Sound s bytes → s .persistent .0 - s .stable .0 ≤ s .finished .count
+volatile-few s bytes v = let m = marks-ordered s bytes v in omega (arith, m .stable, m .persistent, m .finished)
 
-module _ (s : Whole) (bytes : List ℕ) (i k : ℕ) (v : Sound s bytes) (le : i ≤ top) (e : s .restoring ≡ false)
+module _ (s : Representation) (bytes : List ℕ) (i k : ℕ) (v : Sound s bytes) (le : i ≤ top) (e : s .restoring ≡ false)
     (found : firstAt (isEntry i false) (queueOf (s .queue)) ≡ At k)
     (left : Queued) (before after : List Bool) (a : Numbers) (ys : List ℕ)
     (removed : IsQueue left (take k (queueOf (s .queue)) ++ drop (k + 1) (queueOf (s .queue))))
-    (was : Says false before (busyIn (s .restoring) (s .queue) (s .finished) (s .persistent .0 - s .stable .0)))
-    (is : Says false after (busyIn (s .restoring) left (s .finished) (s .persistent .0 - s .stable .0)))
+    (was : Tabulates false before (busyIn (s .restoring) (s .queue) (s .finished) (s .persistent .0 - s .stable .0)))
+    (is : Tabulates false after (busyIn (s .restoring) left (s .finished) (s .persistent .0 - s .stable .0)))
     (dried : IsNumbers a (keep (ceases before after) (below (s .count)))) where
   -- the ids of the operations are distinct
   once : Nodup (operationIds (operationsOf (queueOf (s .queue))))
@@ -81,19 +81,19 @@ module _ (s : Whole) (bytes : List ℕ) (i k : ℕ) (v : Sound s bytes) (le : i 
   left-is = ap operationsOf (removed .list) ∙ sym (without-is i false (queueOf (s .queue)) k once found)
 
   from-is : s .persistent .0 ≡ s .stable .0 + (s .persistent .0 - s .stable .0)
-  from-is = let m = marked s bytes v in omega (arith, m .stable)
+  from-is = let m = marks-ordered s bytes v in omega (arith, m .stable)
 
-  wet-before : Says false before (λ (h : ℕ). not (dry (stateOf s bytes) h))
+  wet-before : Tabulates false before (λ (h : ℕ). not (dry (stateOf s bytes) h))
   unfolding Sound
   wet-before =
       busy-wet before (s .queue) (s .finished) _ (s .count) (stateOf s bytes) (rw e refl) (v .good .formed) (v .carries .finished .list) from-is was
 
-  wet-after : Says false after (λ (h : ℕ). not (dry (withdrawnFrom i s bytes) h))
+  wet-after : Tabulates false after (λ (h : ℕ). not (dry (withdrawnFrom i s bytes) h))
   unfolding Sound liveDone
   wet-after =
       busy-wet after left (s .finished) _ (s .count) (withdrawnFrom i s bytes) (rw e left-is) (v .good .formed) (v .carries .finished .list) from-is is
 
-  pub withdraw-does : Accepts bytes (step (Call.Withdraw i) (stateOf s bytes))
+  pub withdraw-does : AcceptsCall bytes (step (Call.Withdraw i) (stateOf s bytes))
       (record {
         site = withQueue left (s .restoring) (s .reserved) s;
         reply = record { form = ReplyForm.Withdrawn; first = a; second = listed 0 ys };
@@ -106,7 +106,7 @@ module _ (s : Whole) (bytes : List ℕ) (i k : ℕ) (v : Sound s bytes) (le : i 
       (means (record {
         few = dried .few;
         long = dried .long;
-        list = dried .list ∙ became-dry-is before after (stateOf s bytes) (withdrawnFrom i s bytes) (marked s bytes v .few) wet-before wet-after;
+        list = dried .list ∙ became-dry-is before after (stateOf s bytes) (withdrawnFrom i s bytes) (marks-ordered s bytes v .few) wet-before wet-after;
       }))
       (means-none ys))
       (carries-queue s bytes (stateOf s bytes) (v .carries) left (s .restoring) (s .reserved) (without i (pendingIn (s .restoring) s)) (waitingIn (s .restoring) s)

@@ -2,7 +2,7 @@
 ghost use mathlib.Core.Bool.{false, _||_};
 ghost use Prim.Native.Nat.{ℕ, _≤_};
 ghost use lib.ListN.{getD};
-ghost use Rattle.table.specs.Arrays.{Says};
+ghost use Rattle.table.specs.Arrays.{Tabulates};
 ghost use Rattle.table.specs.Dones.{UsableDones};
 ghost use Rattle.table.specs.Queues.{UsableQueue};
 ghost use Rattle.table.specs.Slots.{stored, storedDone};
@@ -14,7 +14,7 @@ use table::slots::QueueWords;
 
 // The histories that are marked in one array or in the other.
 fn joined(a: [bool; 16], b: [bool; 16]) -> [bool; 16]
-    ensures { λ r. ⌜ Says false r (λ (h : ℕ). getD a h false || getD b h false) ⌝ }
+    ensures { λ r. ⌜ Tabulates false r (λ (h : ℕ). getD a h false || getD b h false) ⌝ }
 {
     let mut r = [false; 16];
     let mut h = 0;
@@ -38,7 +38,7 @@ pub fn busy(
     requires { ⌜ UsableQueue (stored queue (now queued)) ⌝ }
     requires { ⌜ UsableDones (storedDone finished (now done)) ⌝ }
     requires { ⌜ from ≤ finished .count ⌝ }
-    ensures { λ r. ⌜ Says false r (busyIn restoring (stored queue (now (queued .entry))) (storedDone finished (now (done .entry))) from) ⌝ }
+    ensures { λ r. ⌜ Tabulates false r (busyIn restoring (stored queue (now (queued .entry))) (storedDone finished (now (done .entry))) from) ⌝ }
 {
     let volatile = finished.touched(done, from);
     if restoring {

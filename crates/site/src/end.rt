@@ -3,7 +3,7 @@ ghost use Prim.Native.Nat.{ℕ};
 ghost use mathlib.Core.List.{List, []};
 ghost use Rattle.rules.specs.Calls.{Call};
 ghost use Rattle.site.specs.Model.{lent, Valid, Steps};
-use super::Called;
+use super::CallResult;
 use super::Site;
 use super::refusal;
 use forms::ListWords;
@@ -24,7 +24,7 @@ impl Site {
         done: &DoneWords,
         book: &BookWords,
         first: &mut ListWords,
-    ) -> Called
+    ) -> CallResult
         requires { ⌜ Valid self (lent (now log) (now queued) (now done) (now book) [] []) ⌝ }
         ensures { λ r. ⌜ ((ys : List ℕ) → Steps self (lent (now (log .entry)) (now (queued .entry)) (now (done .entry)) (now (book .entry)) (now (first .entry)) ys) Call.End r
             (lent (now (log .entry)) (now (queued .entry)) (now (done .entry)) (now (book .entry)) (now (first .exit)) ys)) ⌝ }
@@ -37,7 +37,7 @@ impl Site {
             site.queue = Queue::empty();
             site.restoring = false;
             site.reserved = 0;
-            Called {
+            CallResult {
                 site,
                 reply: ReplyLine {
                     form: ReplyForm::Ended,
@@ -46,7 +46,7 @@ impl Site {
                 },
             }
         } else {
-            Called {
+            CallResult {
                 site: self,
                 reply: refusal(Refusal::OutOfTurn),
             }

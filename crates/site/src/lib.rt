@@ -46,7 +46,7 @@ pub struct Site {
 }
 
 // What a call hands back: the site after it, and the reply.
-pub struct Called {
+pub struct CallResult {
     pub site: Site,
     pub reply: ReplyLine,
 }

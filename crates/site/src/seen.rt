@@ -1,12 +1,12 @@
 // What the checks of an add and of a redo read of a site, and those that both have.
 ghost use mathlib.Core.Path.{_≡_};
 ghost use Rattle.history.specs.Asking.{verdictOf};
-ghost use Rattle.site.specs.Seen.{conflicts};
+ghost use Rattle.site.specs.CheckInputs.{conflictRefusal};
 use forms::Refusal;
 use history::Verdict;
 
 // What the checks of an operation or of a did line read of a site, beside its histories.
-pub struct Seen {
+pub struct CheckInputs {
     pub restoring: bool,
     // how many histories there are
     pub count: usize,
@@ -19,7 +19,7 @@ pub struct Seen {
 
 // The checks 7 to 12, by what each has found.
 pub fn conflict(pending: bool, done: bool, overtaken: bool, full: bool, short: bool) -> Verdict
-    ensures { λ r. ⌜ r ≡ verdictOf (conflicts pending done overtaken full short) ⌝ }
+    ensures { λ r. ⌜ r ≡ verdictOf (conflictRefusal pending done overtaken full short) ⌝ }
 {
     if pending {
         return Verdict::Refused(Refusal::IdPending);

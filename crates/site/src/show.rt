@@ -3,7 +3,7 @@ ghost use Prim.Native.Nat.{ℕ};
 ghost use mathlib.Core.List.{List, []};
 ghost use Rattle.rules.specs.Calls.{Call};
 ghost use Rattle.site.specs.Model.{lent, Valid, Steps};
-use super::Called;
+use super::CallResult;
 use super::Site;
 use super::refusal;
 use forms::Refusal;
@@ -27,14 +27,14 @@ impl Site {
         done: &DoneWords,
         book: &BookWords,
         h: u64,
-    ) -> Called
+    ) -> CallResult
         requires { ⌜ Valid self (lent (now log) (now queued) (now done) (now book) [] []) ⌝ }
         ensures { λ r. ⌜ ((xs ys : List ℕ) → Steps self (lent (now (log .entry)) (now (queued .entry)) (now (done .entry)) (now (book .entry)) xs ys) (Call.Show h) r
             (lent (now (log .entry)) (now (queued .entry)) (now (done .entry)) (now (book .entry)) xs ys)) ⌝ }
     {
         let n = self.count;
         if n as u64 <= h {
-            return Called {
+            return CallResult {
                 site: self,
                 reply: refusal(Refusal::NoSuchHistory),
             };
@@ -51,7 +51,7 @@ impl Site {
             place,
             profile: c.profile as u64,
         };
-        Called {
+        CallResult {
             site: self,
             reply: ReplyLine {
                 form: ReplyForm::Shows(shown),

@@ -11,37 +11,37 @@ use Rattle.session.specs.Model.{sessionView}
 use Rattle.session.specs.Feeding.{Progress, atStart, fed, fedAll, joined, Begins}
 use Rattle.session.specs.FeedingLaws.{chunks, whole-input, fed-none}
 use Rattle.stream.specs.declared.Stream.{Stream}
-use Rattle.stream.specs.declared.Fed.{Fed}
+use Rattle.stream.specs.declared.FeedResult.{FeedResult}
 use Rattle.stream.specs.Model.{ValidStream, standing, StartsStream, Fronts, Feeds}
 use Rattle.stream.specs.LineLaws.{some-line}
 
 -- ### Calls of feed
 
 -- One call: the chunk, what it gave, what is lent after it, and the buffer of replies before and after it.
-pub record Call : Type 0 where
+pub record FeedCall : Type 0 where
   pub chunk : List ℕ
-  pub result : Fed
+  pub result : FeedResult
   pub lent : Lent
   pub out : List ℕ
   pub page : List ℕ
 
 -- Calls one after the other: each takes the stream and what is lent to it as the one before left them.
-abbrev pub FedBy : Stream → Lent → List Call → Type 0
+abbrev pub FedBy : Stream → Lent → List FeedCall → Type 0
 FedBy s bytes [] = Unit {0}
 FedBy s bytes (c ∷ cs) = Feeds s bytes (c .chunk) (c .result) (c .lent) (c .out) (c .page) × FedBy (c .result .stream) (c .lent) cs
 
 -- the bytes that each call has used
-unfoldable pub usedIn : List Call → List (List ℕ)
+unfoldable pub usedIn : List FeedCall → List (List ℕ)
 usedIn [] = []
 usedIn (c ∷ cs) = take (c .result .used) (c .chunk) ∷ usedIn cs
 
 -- what the calls have written, one behind the other
-unfoldable pub writtenIn : List Call → List ℕ
+unfoldable pub writtenIn : List FeedCall → List ℕ
 writtenIn [] = []
 writtenIn (c ∷ cs) = take (c .result .written) (c .page) ++ writtenIn cs
 
 -- the stream after the calls
-unfoldable pub streamAfter : Stream → List Call → Stream
+unfoldable pub streamAfter : Stream → List FeedCall → Stream
 streamAfter s [] = s
 streamAfter s (c ∷ cs) = streamAfter (c .result .stream) cs
 
@@ -69,12 +69,12 @@ comes-quiet g s bytes e = λ i. record { begun = g .begun; session = sym e i; re
 front-is : (text out page : List ℕ) (n : ℕ) → Fronts text out page n → take n page ≡ text
 front-is text out page n f = ap (λ (l : List ℕ). take n l) (f .bytes) ∙ take-at text (drop n out) n (sym (f .count))
 
--- What the calls have written is what the rule book replies to the bytes that they have used, and the unended line is the rule book's.
-pub record Replied (room : ℕ) (s : Stream) (g : Progress) (cs : List Call) : Type 0 where
+-- What the calls have written is what the specification replies to the bytes that they have used, and the unended line is the specification's.
+pub record RepliedSoFar (room : ℕ) (s : Stream) (g : Progress) (cs : List FeedCall) : Type 0 where
   pub text : writtenIn cs ≡ fedAll room (usedIn cs) g .replied
   pub begun : Begins (streamAfter s cs .begun) (fedAll room (usedIn cs) g .begun)
 
-module _ (c : Call) (cs : List Call) (s : Stream) (line : List ℕ) (bytes : Lent)
+module _ (c : FeedCall) (cs : List FeedCall) (s : Stream) (line : List ℕ) (bytes : Lent)
     (f : Feeds s bytes (c .chunk) (c .result) (c .lent) (c .out) (c .page))
     (h : Begins (s .begun) line) where
   -- after the first call
@@ -88,8 +88,8 @@ module _ (c : Call) (cs : List Call) (s : Stream) (line : List ℕ) (bytes : Len
   same = ap₂ (λ (k : ℕ) (p : Progress). fedAll k (usedIn cs) p) (f .room)
       (sym (comes-quiet next (c .result .stream) (c .lent) (f .does line h .session)))
 
-  replied-more : Replied (length (c .lent .log)) (c .result .stream) soFar cs →
-      Replied (length (bytes .log)) s (standing s line bytes) (c ∷ cs)
+  replied-more : RepliedSoFar (length (c .lent .log)) (c .result .stream) soFar cs →
+      RepliedSoFar (length (bytes .log)) s (standing s line bytes) (c ∷ cs)
   unfolding fedAll usedIn writtenIn streamAfter
   replied-more later =
       record {
@@ -102,21 +102,21 @@ module _ (c : Call) (cs : List Call) (s : Stream) (line : List ℕ) (bytes : Len
             (ap (λ (p : Progress). p .begun) same ∙ sym (begun-same (length (bytes .log)) (usedIn cs) next)) (later .begun);
       }
 
-pub calls-replied : (cs : List Call) (s : Stream) (line : List ℕ) (bytes : Lent) → Begins (s .begun) line → FedBy s bytes cs →
-    Replied (length (bytes .log)) s (standing s line bytes) cs
+pub calls-replied : (cs : List FeedCall) (s : Stream) (line : List ℕ) (bytes : Lent) → Begins (s .begun) line → FedBy s bytes cs →
+    RepliedSoFar (length (bytes .log)) s (standing s line bytes) cs
 unfolding fedAll usedIn writtenIn streamAfter
 calls-replied [] s line bytes h f = record { text = refl; begun = h }
 calls-replied (c ∷ cs) s line bytes h f =
     replied-more c cs s line bytes (f .0) h
     (calls-replied cs (c .result .stream) (next c cs s line bytes (f .0) h .begun) (c .lent) (f .0 .does line h .begun) (f .1))
 
--- The calls have used the input, in whatever chunks: what they have written, and the reply to the unended rest, is the rule book's session.
-pub record Whole (room : ℕ) (s : Stream) (cs : List Call) : Type 0 where
+-- The calls have used the input, in whatever chunks: what they have written, and the reply to the unended rest, is the specification's session.
+pub record WholeInput (room : ℕ) (s : Stream) (cs : List FeedCall) : Type 0 where
   pub rest : List ℕ
   pub begun : Begins (streamAfter s cs .begun) rest
   pub text : writtenIn cs ++ restReply rest ≡ sessionIn room (joined (usedIn cs))
 
-pub calls-whole : (cs : List Call) (s : Stream) (bytes : Lent) → StartsStream s bytes → FedBy s bytes cs → Whole (length (bytes .log)) s cs
+pub calls-whole : (cs : List FeedCall) (s : Stream) (bytes : Lent) → StartsStream s bytes → FedBy s bytes cs → WholeInput (length (bytes .log)) s cs
 calls-whole cs s bytes starts f =
     record {
       rest = fedAll (length (bytes .log)) (usedIn cs) atStart .begun;
@@ -125,13 +125,13 @@ calls-whole cs s bytes starts f =
           ∙ sym (whole-input (length (bytes .log)) (usedIn cs));
     }
   where
-    r : Replied (length (bytes .log)) s atStart cs
-    r = subst (λ (g : Progress). Replied (length (bytes .log)) s g cs) (starts .is) (calls-replied cs s [] bytes (starts .begun) f)
+    r : RepliedSoFar (length (bytes .log)) s atStart cs
+    r = subst (λ (g : Progress). RepliedSoFar (length (bytes .log)) s g cs) (starts .is) (calls-replied cs s [] bytes (starts .begun) f)
 
 -- ### Each call moves on
 
 -- With 2,730 bytes for replies, a call uses something of a chunk that is not empty.
-pub moves : (s : Stream) (old : Lent) (chunk : List ℕ) (r : Fed) (new : Lent) (out page : List ℕ) → ValidStream s old →
+pub moves : (s : Stream) (old : Lent) (chunk : List ℕ) (r : FeedResult) (new : Lent) (out page : List ℕ) → ValidStream s old →
     Feeds s old chunk r new out page →
     2730 ≤ length out → 0 < length chunk → 0 < r .used
 moves s old chunk r new out page v f long some = by-used (r .used) refl
@@ -153,7 +153,7 @@ pub record Moves (chunk : List ℕ) (at used : ℕ) : Type 0 where
   pub some : 0 < used
   pub within : at + used ≤ length chunk
 
-pub moves-on : (s : Stream) (old : Lent) (chunk : List ℕ) (at : ℕ) (r : Fed) (new : Lent) (out page : List ℕ) → ValidStream s old →
+pub moves-on : (s : Stream) (old : Lent) (chunk : List ℕ) (at : ℕ) (r : FeedResult) (new : Lent) (out page : List ℕ) → ValidStream s old →
     Feeds s old (take (length chunk - at) (drop at chunk)) r new out page → 2730 ≤ length out → at < length chunk → Moves chunk at (r .used)
 moves-on s old chunk at r new out page v f long lt =
     record {

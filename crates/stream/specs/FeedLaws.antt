@@ -10,22 +10,22 @@ use Rattle.forms.specs.Held.{replied, outcomeOf}
 use Rattle.rules.specs.Log.{ended, linesFrom, restFrom}
 use Rattle.rules.specs.LineSplitLaws.{NoEnd, lines-append, lines-from-open, rest-from-open}
 use Rattle.rules.specs.Session.{Turn, turn}
-use Rattle.journal.specs.Model.{EndAt}
-use Rattle.journal.specs.LineLaws.{take-line}
+use Rattle.log_reader.specs.Model.{EndAt}
+use Rattle.log_reader.specs.LineLaws.{take-line}
 use Rattle.site.specs.Model.{Lent, Printable}
 use Rattle.forms.specs.Write.{Wrote}
-use Rattle.session.specs.declared.Begun.{Begun}
-use Rattle.session.specs.declared.Turned.{Turned}
+use Rattle.session.specs.declared.PartialLine.{PartialLine}
+use Rattle.session.specs.declared.LineResult.{LineResult}
 use Rattle.session.specs.Model.{sessionView, Turns}
-use Rattle.session.specs.Feeding.{Progress, fed, UsableBegun, Begins}
+use Rattle.session.specs.Feeding.{Progress, fed, UsablePartial, Begins}
 use Rattle.session.specs.FeedingLaws.{fed-append, fed-none}
 use Rattle.stream.specs.declared.Stream.{Stream}
-use Rattle.stream.specs.declared.Fed.{Fed}
-use Rattle.stream.specs.Model.{ValidStream, standing, Comes, Feeds}
+use Rattle.stream.specs.declared.FeedResult.{FeedResult}
+use Rattle.stream.specs.Model.{ValidStream, standing, Progressed, Feeds}
 use Rattle.stream.specs.Logging.{overlaid, logged}
 use Rattle.stream.specs.LoggingLaws.{turn-logs, logged-append}
 use Rattle.stream.specs.LineLaws.{some-line, usable}
-use Rattle.stream.specs.ProgressLaws.{opened, fed-open, answered, fed-line, fronts-none, fronts-fits, fronts-more}
+use Rattle.stream.specs.ProgressLaws.{keptOpen, fed-open, answered, fed-line, fronts-none, fronts-fits, fronts-more}
 
 -- A begun line that ends.
 line-ended : (line part : List ℕ) → NoEnd part → linesFrom line (ended part) ≡ (line ++ part) ∷ []
@@ -35,7 +35,7 @@ line-ended line part h =
     ∙ ap₂ (λ (ls : List (List ℕ)) (l : List ℕ). ls ++ linesFrom l (10 ∷ [])) (lines-from-open line part h) (rest-from-open line part h)
 
 -- The stream s has been fed the first bytes of the chunk.
-pub record Along (s : Stream) (old : Lent) (chunk : List ℕ) (r : Fed) (new : Lent) (out page : List ℕ) : Type 0 where
+pub record Along (s : Stream) (old : Lent) (chunk : List ℕ) (r : FeedResult) (new : Lent) (out page : List ℕ) : Type 0 where
   pub within : r .used ≤ length chunk
   pub room : length (new .log) ≡ length (old .log)
   pub long : length page ≡ length out
@@ -44,7 +44,7 @@ pub record Along (s : Stream) (old : Lent) (chunk : List ℕ) (r : Fed) (new : L
   pub log : (line : List ℕ) → Begins (s .begun) line →
       new .log ≡ logged (length (old .log)) (linesFrom line (take (r .used) chunk)) (sessionView (s .session) old) (old .log)
   pub does : (line : List ℕ) → Begins (s .begun) line →
-      Comes (fed (length (old .log)) (take (r .used) chunk) (standing s line old)) (r .stream) new out page (r .written)
+      Progressed (fed (length (old .log)) (take (r .used) chunk) (standing s line old)) (r .stream) new out page (r .written)
 
 pub along-start : (s : Stream) (old : Lent) (chunk out : List ℕ) → ValidStream s old →
     Along s old chunk (record { stream = s; used = 0; written = 0 }) old out out
@@ -58,11 +58,11 @@ along-start s old chunk out v =
       valid = v;
       log = λ line h. refl;
       does = λ line h.
-          subst (λ (g : Progress). Comes g s old out out 0) (sym (fed-none (length (old .log)) (standing s line old)))
+          subst (λ (g : Progress). Progressed g s old out out 0) (sym (fed-none (length (old .log)) (standing s line old)))
           (record { begun = h; session = refl; replies = fronts-none out });
     }
 
-module _ (s : Stream) (old : Lent) (chunk : List ℕ) (r : Fed) (new : Lent) (out page : List ℕ) (a : Along s old chunk r new out page) where
+module _ (s : Stream) (old : Lent) (chunk : List ℕ) (r : FeedResult) (new : Lent) (out page : List ℕ) (a : Along s old chunk r new out page) where
   -- what is written lies within the buffer
   pub along-fits : r .written ≤ length out
   along-fits =
@@ -83,7 +83,7 @@ module _ (s : Stream) (old : Lent) (chunk : List ℕ) (r : Fed) (new : Lent) (ou
       }
 
   -- No line ends any more: the rest is kept.
-  pub along-rest : (b : Begun) → NoEnd (drop (r .used) chunk) →
+  pub along-rest : (b : PartialLine) → NoEnd (drop (r .used) chunk) →
       ((line : List ℕ) → Begins (r .stream .begun) line → Begins b (line ++ take (length chunk - r .used) (drop (r .used) chunk))) →
       Along s old chunk
       (record { stream = record { session = r .stream .session; begun = b }; used = length chunk; written = r .written }) new out page
@@ -98,7 +98,7 @@ module _ (s : Stream) (old : Lent) (chunk : List ℕ) (r : Fed) (new : Lent) (ou
             ∙ ap (λ (ls : List (List ℕ)). logged (length (old .log)) ls (sessionView (s .session) old) (old .log)) (sym (same-lines line));
         does = λ line begins.
             let x = a .does line begins in
-            subst (λ (g : Progress). Comes g (record { session = r .stream .session; begun = b }) new out page (r .written)) (sym (is line))
+            subst (λ (g : Progress). Progressed g (record { session = r .stream .session; begun = b }) new out page (r .written)) (sym (is line))
             (record {
               begun = keeps (fed (length (old .log)) (take (r .used) chunk) (standing s line old) .begun) (x .begun);
               session = x .session;
@@ -119,21 +119,21 @@ module _ (s : Stream) (old : Lent) (chunk : List ℕ) (r : Fed) (new : Lent) (ou
           (lines-from-open (restFrom line (take (r .used) chunk)) (drop (r .used) chunk) h)
           ∙ append-nil (linesFrom line (take (r .used) chunk))
 
-      held : UsableBegun b
+      held : UsablePartial b
       held =
           let l = some-line (r .stream .begun) (a .valid .begun) in
           usable b (l .line ++ drop (r .used) chunk) (keeps (l .line) (l .begins))
 
       is : (line : List ℕ) →
           fed (length (old .log)) (take (length chunk) chunk) (standing s line old)
-          ≡ opened (drop (r .used) chunk) (fed (length (old .log)) (take (r .used) chunk) (standing s line old))
+          ≡ keptOpen (drop (r .used) chunk) (fed (length (old .log)) (take (r .used) chunk) (standing s line old))
       is line =
           ap (λ (l : List ℕ). fed (length (old .log)) l (standing s line old)) (take-length chunk ∙ sym (take-append-drop (r .used) chunk))
           ∙ sym (fed-append (length (old .log)) (take (r .used) chunk) (drop (r .used) chunk) (standing s line old))
           ∙ fed-open (length (old .log)) (drop (r .used) chunk) (fed (length (old .log)) (take (r .used) chunk) (standing s line old)) h
 
   -- One line more.
-  module _ (e : ℕ) (ends : EndAt chunk (r .used) e) (t : Turned) (after : Lent)
+  module _ (e : ℕ) (ends : EndAt chunk (r .used) e) (t : LineResult) (after : Lent)
       (turns : (line : List ℕ) → Begins (r .stream .begun) line →
       Turns (r .stream .session) new
       (turn (length (new .log)) (line ++ take (e - r .used) (drop (r .used) chunk)) (sessionView (r .stream .session) new)) t after) where
@@ -143,7 +143,7 @@ module _ (s : Stream) (old : Lent) (chunk : List ℕ) (r : Fed) (new : Lent) (ou
     pub line-printable : Printable (replied (t .reply) (after .first) (after .second))
     line-printable = let l = some-line (r .stream .begun) (a .valid .begun) in turns (l .line) (l .begins) .answer .printable
 
-    pub along-line : (b : Begun) (n : ℕ) (next : List ℕ) → length (after .log) ≡ length (new .log) → length next ≡ length page →
+    pub along-line : (b : PartialLine) (n : ℕ) (next : List ℕ) → length (after .log) ≡ length (new .log) → length next ≡ length page →
         Begins b [] →
         Wrote page (r .written) (ended (outcomeText (outcomeOf (replied (t .reply) (after .first) (after .second))))) n next →
         Along s old chunk (record { stream = record { session = t .session; begun = b }; used = e + 1; written = n }) after out next
@@ -159,7 +159,7 @@ module _ (s : Stream) (old : Lent) (chunk : List ℕ) (r : Fed) (new : Lent) (ou
             begun = usable b [] none;
           };
           log = λ line begins. logs line begins;
-          does = λ line begins. subst (λ (g : Progress). Comes g (record { session = t .session; begun = b }) after out next n)
+          does = λ line begins. subst (λ (g : Progress). Progressed g (record { session = t .session; begun = b }) after out next n)
               (sym (is line)) (comes line begins);
         }
       where
@@ -181,7 +181,7 @@ module _ (s : Stream) (old : Lent) (chunk : List ℕ) (r : Fed) (new : Lent) (ou
             ∙ ap (λ (ls : List (List ℕ)). linesFrom line (take (r .used) chunk) ++ ls)
             (line-ended (restFrom line (take (r .used) chunk)) part (ends .unended))
 
-        -- the line's turn, as the rule book has it
+        -- the line's turn, as the specification has it
         same-turn : (line : List ℕ) → Begins (s .begun) line →
             turn (length (new .log)) (soFar line .begun ++ part) (sessionView (r .stream .session) new)
             ≡ turn (length (old .log)) (soFar line .begun ++ part) (soFar line .session)
@@ -197,7 +197,7 @@ module _ (s : Stream) (old : Lent) (chunk : List ℕ) (r : Fed) (new : Lent) (ou
             ∙ ap (λ (ls : List (List ℕ)). logged (length (old .log)) ls (sessionView (s .session) old) (old .log)) (sym (more-lines line))
 
         comes : (line : List ℕ) → Begins (s .begun) line →
-            Comes (answered (length (old .log)) part (soFar line)) (record { session = t .session; begun = b }) after out next n
+            Progressed (answered (length (old .log)) part (soFar line)) (record { session = t .session; begun = b }) after out next n
         comes line begins =
             record {
               begun = none;

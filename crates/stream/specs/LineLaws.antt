@@ -10,22 +10,22 @@ use lib.ListN.{length, take, set, getD, replicate, length-append, length-set, le
 use lib.Seq.{take-suc, take-suc-set, take-all, length-take-le}
 use Rattle.forms.specs.declared.Refusal.the-variants.{Unreadable}
 use Rattle.rules.specs.Session.{turn}
-use Rattle.session.specs.declared.Begun.{Begun}
+use Rattle.session.specs.declared.PartialLine.{PartialLine}
 use Rattle.session.specs.declared.Session.{Session}
-use Rattle.session.specs.declared.Turned.{Turned}
+use Rattle.session.specs.declared.LineResult.{LineResult}
 use Rattle.site.specs.Model.{Lent}
 use Rattle.session.specs.Model.{sessionView, ValidSession, Refuses, Turns}
-use Rattle.session.specs.Feeding.{LineIs, UsableBegun, Begins}
+use Rattle.session.specs.Feeding.{LineIs, UsablePartial, Begins}
 use Rattle.session.specs.TurnLaws.{turn-over, turn-refused}
 
 -- ### What is held
 
 -- a line that is held so
-pub record SomeLine (b : Begun) : Type 0 where
+pub record SomeLine (b : PartialLine) : Type 0 where
   pub line : List ℕ
   pub begins : Begins b line
 
-pub some-line : (b : Begun) → UsableBegun b → SomeLine b
+pub some-line : (b : PartialLine) → UsablePartial b → SomeLine b
 some-line b u = by-over (b .over) refl
   where
     by-over : (o : Bool) → b .over ≡ o → SomeLine b
@@ -44,22 +44,22 @@ some-line b u = by-over (b .over) refl
           };
         }
 
-pub usable : (b : Begun) (line : List ℕ) → Begins b line → UsableBegun b
+pub usable : (b : PartialLine) (line : List ℕ) → Begins b line → UsablePartial b
 usable b line h = record { few = h .few; long = h .long }
 
 -- The array holds the first bytes of the part behind those of before.
-pub record Copied (old : List ℕ) (n : ℕ) (part : List ℕ) (i : ℕ) (new : List ℕ) : Type 0 where
+pub record CopiedPart (old : List ℕ) (n : ℕ) (part : List ℕ) (i : ℕ) (new : List ℕ) : Type 0 where
   pub some : i ≤ length part
   pub fits : n + length part ≤ 1024
   pub long : length new ≡ 1024
   pub bytes : take (n + i) new ≡ take n old ++ take i part
 
-pub copied-start : (old : List ℕ) (n : ℕ) (part : List ℕ) → n + length part ≤ 1024 → length old ≡ 1024 → Copied old n part 0 old
+pub copied-start : (old : List ℕ) (n : ℕ) (part : List ℕ) → n + length part ≤ 1024 → length old ≡ 1024 → CopiedPart old n part 0 old
 copied-start old n part h l =
     record { some = omega arith; fits = h; long = l; bytes = ap (λ (k : ℕ). take k old) (add-zero n) ∙ sym (append-nil (take n old)) }
 
-pub copied-more : (old : List ℕ) (n : ℕ) (part : List ℕ) (i : ℕ) (new : List ℕ) → Copied old n part i new → i < length part →
-    Copied old n part (i + 1) (set new (n + i) (getD part i 0))
+pub copied-more : (old : List ℕ) (n : ℕ) (part : List ℕ) (i : ℕ) (new : List ℕ) → CopiedPart old n part i new → i < length part →
+    CopiedPart old n part (i + 1) (set new (n + i) (getD part i 0))
 copied-more old n part i new h lt =
     record {
       some = omega arith;
@@ -76,9 +76,9 @@ copied-more old n part i new h lt =
     next : n + (i + 1) ≡ suc (n + i)
     next = omega arith
 
-module _ (b : Begun) (line part : List ℕ) (h : Begins b line) where
+module _ (b : PartialLine) (line part : List ℕ) (h : Begins b line) where
   -- All bytes of the part are held behind those of before.
-  pub begins-bytes : (i : ℕ) (new : List ℕ) → Copied (b .bytes) (b .len) part i new → length part ≤ i →
+  pub begins-bytes : (i : ℕ) (new : List ℕ) → CopiedPart (b .bytes) (b .len) part i new → length part ≤ i →
       Begins (record { bytes = new; len = b .len + i; over = b .over }) (line ++ part)
   begins-bytes i new c all =
       record {
@@ -109,7 +109,7 @@ module _ (b : Begun) (line part : List ℕ) (h : Begins b line) where
 -- ### Its turn
 
 -- 1: "above 1,024 bytes without its end"
-pub turns-over : (s : Session) (old : Lent) (line : List ℕ) (r : Turned) → ValidSession s old → 1024 < length line →
+pub turns-over : (s : Session) (old : Lent) (line : List ℕ) (r : LineResult) → ValidSession s old → 1024 < length line →
     Refuses s Unreadable r →
     Turns s old (turn (length (old .log)) line (sessionView s old)) r old
 turns-over s old line r v h q =
@@ -117,21 +117,21 @@ turns-over s old line r v h q =
     (turn-over (length (old .log)) line (sessionView s old) h) q
 
 -- a line is above the limit where its beginning is
-pub over-is : (b : Begun) (line : List ℕ) → Begins b line → b .over ≡ true → 1024 < length line
+pub over-is : (b : PartialLine) (line : List ℕ) → Begins b line → b .over ≡ true → 1024 < length line
 over-is b line h e = subst (λ (o : Bool). LineIs o (take (b .len) (b .bytes)) line) e (h .is)
 
 pub over-more : (line part : List ℕ) → 1024 < length line → 1024 < length (line ++ part)
 over-more line part h = omega (arith, length-append line part)
 
 -- what is held is the line
-pub held-is : (b : Begun) (line : List ℕ) → Begins b line → b .over ≡ false → take (b .len) (b .bytes) ≡ line
+pub held-is : (b : PartialLine) (line : List ℕ) → Begins b line → b .over ≡ false → take (b .len) (b .bytes) ≡ line
 held-is b line h e = subst (λ (o : Bool). LineIs o (take (b .len) (b .bytes)) line) e (h .is)
 
 -- nothing has begun
-pub none-held : (b : Begun) (line : List ℕ) → Begins b line → b .over ≡ false → b .len ≡ 0 → line ≡ []
+pub none-held : (b : PartialLine) (line : List ℕ) → Begins b line → b .over ≡ false → b .len ≡ 0 → line ≡ []
 none-held b line h e z = sym (held-is b line h e) ∙ ap (λ (k : ℕ). take k (b .bytes)) z
 
-pub turns-as : (s : Session) (old : Lent) (r : Turned) (new : Lent) (line other : List ℕ) → other ≡ line →
+pub turns-as : (s : Session) (old : Lent) (r : LineResult) (new : Lent) (line other : List ℕ) → other ≡ line →
     Turns s old (turn (length (old .log)) other (sessionView s old)) r new →
     Turns s old (turn (length (old .log)) line (sessionView s old)) r new
 turns-as s old r new line other e h = subst (λ (l : List ℕ). Turns s old (turn (length (old .log)) l (sessionView s old)) r new) e h

@@ -10,10 +10,10 @@ use Rattle.forms.specs.Forms.{Outcome, Refused, Accepted}
 use Rattle.rules.specs.State.{State, logBytes}
 use Rattle.rules.specs.Session.{Turn, turn, afterLines}
 use Rattle.site.specs.declared.Site.{Site}
-use Rattle.site.specs.Whole.{Sound}
+use Rattle.site.specs.Representation.{Sound}
 use Rattle.site.specs.Model.{Lent, view, Valid}
 use Rattle.session.specs.declared.Session.{Session}
-use Rattle.session.specs.declared.Turned.{Turned}
+use Rattle.session.specs.declared.LineResult.{LineResult}
 use Rattle.session.specs.Model.{viewIf, sessionView, ValidSession, usedIf, Keeps, Turns}
 use Rattle.stream.specs.Logging.{overlaid, logged}
 
@@ -36,7 +36,7 @@ over-view true s m other v e = over-site s m other (v refl) e
 over-view false s m other v e = e
 
 -- The buffer after a turn.
-pub turn-logs : (s : Session) (old : Lent) (t : Turn) (r : Turned) (new : Lent) → ValidSession s old → Turns s old t r new →
+pub turn-logs : (s : Session) (old : Lent) (t : Turn) (r : LineResult) (new : Lent) → ValidSession s old → Turns s old t r new →
     new .log ≡ overlaid (t .after) (old .log)
 turn-logs s old t r new v h = by-reply (t .reply) (h .keeps) ∙ ap (λ (x : Option State). overlaid x (old .log)) (h .after)
   where

@@ -1,4 +1,4 @@
--- A stream as the rule book's progress, and what feeding it a chunk promises.
+-- A stream as the specification's progress, and what feeding it a chunk promises.
 use Prim.Native.Nat.{ℕ, _+_, _≤_, _<_}
 use mathlib.Core.Path.{_≡_}
 use mathlib.Core.Bool.{Bool, true, false}
@@ -7,27 +7,27 @@ use mathlib.Core.Option.{none}
 use lib.ListN.{length, take, drop}
 use Rattle.rules.specs.Log.{linesFrom, linesOf}
 use Rattle.rules.specs.Session.{sessionIn}
-use Rattle.site.specs.Whole.{Whole}
-use Rattle.site.specs.Model.{Lent, whole}
-use Rattle.session.specs.declared.Begun.{Begun}
+use Rattle.site.specs.Representation.{Representation}
+use Rattle.site.specs.Model.{Lent, represented}
+use Rattle.session.specs.declared.PartialLine.{PartialLine}
 use Rattle.session.specs.Model.{sessionView, ValidOpened}
-use Rattle.session.specs.Feeding.{Progress, atStart, fed, UsableBegun, Begins}
+use Rattle.session.specs.Feeding.{Progress, atStart, fed, UsablePartial, Begins}
 use Rattle.stream.specs.Logging.{logged}
 use Rattle.stream.specs.declared.Stream.{Stream}
-use Rattle.stream.specs.declared.Fed.{Fed}
-use Rattle.stream.specs.declared.Ran.{Ran}
+use Rattle.stream.specs.declared.FeedResult.{FeedResult}
+use Rattle.stream.specs.declared.RunResult.{RunResult}
 
 -- ### The stream
 
 -- The invariant of a stream and what is lent to it.
-pub record ValidParts (opened : Bool) (w : Whole) (log : List ℕ) (b : Begun) : Type 0 where
+pub record ValidParts (opened : Bool) (w : Representation) (log : List ℕ) (b : PartialLine) : Type 0 where
   pub session : ValidOpened opened w log
-  pub begun : UsableBegun b
+  pub begun : UsablePartial b
 
 abbrev pub ValidStream : Stream → Lent → Type 0
-ValidStream s m = ValidParts (s .session .opened) (whole (s .session .site) m) (m .log) (s .begun)
+ValidStream s m = ValidParts (s .session .opened) (represented (s .session .site) m) (m .log) (s .begun)
 
--- The rule book's progress that a stream is, whose unended line is `line`, with nothing replied yet.
+-- The specification's progress that a stream is, whose unended line is `line`, with nothing replied yet.
 abbrev pub standing : Stream → List ℕ → Lent → Progress
 standing s line bytes = record { begun = line; session = sessionView (s .session) bytes; replied = [] }
 
@@ -45,14 +45,14 @@ pub record Fronts (text out page : List ℕ) (n : ℕ) : Type 0 where
   pub bytes : page ≡ text ++ drop n out
 
 -- The stream has come to the progress g, and its replies, of n bytes, are written.
-pub record Comes (g : Progress) (s : Stream) (bytes : Lent) (out page : List ℕ) (n : ℕ) : Type 0 where
+pub record Progressed (g : Progress) (s : Stream) (bytes : Lent) (out page : List ℕ) (n : ℕ) : Type 0 where
   pub begun : Begins (s .begun) (g .begun)
   pub session : sessionView (s .session) bytes ≡ g .session
   pub replies : Fronts (g .replied) out page n
 
 -- The stream s, to which `old` was lent and is `new`, is fed the first bytes of the chunk: all of them, or a line is left for whose
 -- reply `out` may have no room.
-pub record Feeds (s : Stream) (old : Lent) (chunk : List ℕ) (r : Fed) (new : Lent) (out page : List ℕ) : Type 0 where
+pub record Feeds (s : Stream) (old : Lent) (chunk : List ℕ) (r : FeedResult) (new : Lent) (out page : List ℕ) : Type 0 where
   pub within : r .used ≤ length chunk
   pub stops : r .used < length chunk → length out < r .written + 2730
   pub fits : r .written ≤ length out
@@ -62,27 +62,27 @@ pub record Feeds (s : Stream) (old : Lent) (chunk : List ℕ) (r : Fed) (new : L
   pub log : (line : List ℕ) → Begins (s .begun) line →
       new .log ≡ logged (length (old .log)) (linesFrom line (take (r .used) chunk)) (sessionView (s .session) old) (old .log)
   pub does : (line : List ℕ) → Begins (s .begun) line →
-      Comes (fed (length (old .log)) (take (r .used) chunk) (standing s line old)) (r .stream) new out page (r .written)
+      Progressed (fed (length (old .log)) (take (r .used) chunk) (standing s line old)) (r .stream) new out page (r .written)
 
 -- ### A whole input
 
 -- All replies of the session are written.
-pub record RunsWhole (input old : List ℕ) (r : Ran) (out page : List ℕ) : Type 0 where
+pub record RunsWhole (input old : List ℕ) (r : RunResult) (out page : List ℕ) : Type 0 where
   pub used : r .used ≡ length input
   pub replies : Fronts (sessionIn (length old) input) out page (r .written)
 
 -- `out` is too short, or nearly: the replies to the lines that were taken are written.
-pub record RunsPart (input old : List ℕ) (r : Ran) (out page : List ℕ) : Type 0 where
+pub record RunsPart (input old : List ℕ) (r : RunResult) (out page : List ℕ) : Type 0 where
   pub within : r .used ≤ length input
   pub short : length out < length (sessionIn (length old) input) + 2730
   pub replies : Fronts (fed (length old) (take (r .used) input) atStart .replied) out page (r .written)
 
-abbrev pub RunsIf : Bool → List ℕ → List ℕ → Ran → List ℕ → List ℕ → Type 0
+abbrev pub RunsIf : Bool → List ℕ → List ℕ → RunResult → List ℕ → List ℕ → Type 0
 RunsIf true input old r out page = RunsWhole input old r out page
 RunsIf false input old r out page = RunsPart input old r out page
 
 -- The input's session over the log buffer that was `old` and is `new`.
-pub record Runs (input old : List ℕ) (r : Ran) (new out page : List ℕ) : Type 0 where
+pub record Runs (input old : List ℕ) (r : RunResult) (new out page : List ℕ) : Type 0 where
   pub room : length new ≡ length old
   -- the log buffer, to its last byte
   pub log : new ≡ logged (length old) (linesOf (take (r .used) input)) none old

@@ -1,4 +1,4 @@
--- The rule book's progress over an open part and over a line, and the buffer of replies.
+-- The specification's progress over an open part and over a line, and the buffer of replies.
 use Prim.Native.Nat.{ℕ, _+_, _≤_}
 use native.Mathlib.Omega.{arith}
 use mathlib.Core.Path.{_≡_, refl, sym, ap, ap₂, subst, _∙_}
@@ -17,10 +17,10 @@ use Rattle.stream.specs.Model.{Fronts}
 -- ### Progress
 
 -- Bytes that end no line are kept.
-abbrev pub opened : List ℕ → Progress → Progress
-opened part g = record { begun = g .begun ++ part; session = g .session; replied = g .replied }
+abbrev pub keptOpen : List ℕ → Progress → Progress
+keptOpen part g = record { begun = g .begun ++ part; session = g .session; replied = g .replied }
 
-pub fed-open : (room : ℕ) (part : List ℕ) (g : Progress) → NoEnd part → fed room part g ≡ opened part g
+pub fed-open : (room : ℕ) (part : List ℕ) (g : Progress) → NoEnd part → fed room part g ≡ keptOpen part g
 unfolding fed replies afterLines
 fed-open room part g h = λ i. record { begun = rest-from-open (g .begun) part h i; session = session i; replied = replied i }
   where
@@ -45,7 +45,7 @@ answered room part g =
 pub fed-line : (room : ℕ) (part : List ℕ) (g : Progress) → NoEnd part → fed room (ended part) g ≡ answered room part g
 unfolding ended
 fed-line room part g h = sym (fed-append room part (10 ∷ []) g) ∙ ap (λ (x : Progress). fed room (10 ∷ []) x) (fed-open room part g h)
-    ∙ fed-end room (opened part g)
+    ∙ fed-end room (keptOpen part g)
 
 -- What was replied stands before what is replied later.
 pub replied-grows : (room : ℕ) (a b : List ℕ) (g : Progress) → length (fed room a g .replied) ≤ length (fed room (a ++ b) g .replied)

@@ -17,17 +17,17 @@ use Rattle.forms.specs.declared.ReplyForm.{ReplyForm}
 use Rattle.rules.specs.Log.{ended, linesOf}
 use Rattle.rules.specs.Session.{restReply, sessionIn}
 use Rattle.site.specs.Model.{Lent}
-use Rattle.session.specs.declared.Begun.{Begun}
+use Rattle.session.specs.declared.PartialLine.{PartialLine}
 use Rattle.session.specs.declared.Session.{Session}
 use Rattle.session.specs.Model.{Starts}
-use Rattle.session.specs.Feeding.{Progress, atStart, fed, UsableBegun, Begins}
+use Rattle.session.specs.Feeding.{Progress, atStart, fed, UsablePartial, Begins}
 use Rattle.forms.specs.Write.{Wrote, Writes, WritesIf, withEnd}
 use Rattle.forms.specs.WriteLaws.{placed-none, writes-there, writes-not}
 use Rattle.forms.specs.declared.writer.Written.{Written}
 use Rattle.forms.specs.declared.writer.Written.the-variants.{At, NoRoom}
 use Rattle.stream.specs.declared.Stream.{Stream}
-use Rattle.stream.specs.declared.Fed.{Fed}
-use Rattle.stream.specs.Model.{StartsStream, Fronts, Comes, Feeds, Runs}
+use Rattle.stream.specs.declared.FeedResult.{FeedResult}
+use Rattle.stream.specs.Model.{StartsStream, Fronts, Progressed, Feeds, Runs}
 use Rattle.stream.specs.Logging.{logged}
 use Rattle.stream.specs.LineLaws.{some-line, usable, over-is, held-is}
 use Rattle.stream.specs.ProgressLaws.{replied-grows, session-is, fronts-more, fronts-as}
@@ -89,7 +89,7 @@ rest-written : (out : List ℕ) (at : ℕ) (line : List ℕ) (r : Written) (page
 unfolding ended outcomeWith
 rest-written out at line r page h w = subst (λ (l : List ℕ). Writes out at l r page) (sym (refuses-some line h)) w
 
-module _ (b : Begun) (line : List ℕ) (h : Begins b line) (out : List ℕ) (at : ℕ) where
+module _ (b : PartialLine) (line : List ℕ) (h : Begins b line) (out : List ℕ) (at : ℕ) where
   -- "Unended rest of input: 1."
   pub rest-over : (r : Written) (page : List ℕ) → b .over ≡ true → Writes out at refusesRest r page → Writes out at (restReply line) r page
   rest-over r page e w = rest-written out at line r page (let k = over-is b line h e in omega (arith, k)) w
@@ -117,14 +117,14 @@ module _ (b : Begun) (line : List ℕ) (h : Begins b line) (out : List ℕ) (at 
       subst (λ (l : List ℕ). Writes out at (restReply l) NoRoom out) (sym (nothing e z)) (writes-not out at [] (omega arith))
 
 -- The reply to the rest lies within the buffer.
-pub rest-within : (b : Begun) (out : List ℕ) (at : ℕ) (r : Written) (page : List ℕ) (n : ℕ) → UsableBegun b →
+pub rest-within : (b : PartialLine) (out : List ℕ) (at : ℕ) (r : Written) (page : List ℕ) (n : ℕ) → UsablePartial b →
     ((line : List ℕ) → Begins b line → Writes out at (restReply line) r page) → r ≡ At n → n ≤ length out
 rest-within b out at r page n u w e = let l = some-line b u in
     wrote-within out at (restReply (l .line)) r page n (w (l .line) (l .begins)) e
 
 -- ### The start
 
-pub starts-stream : (x : Session) (b : Begun) (bytes : Lent) → Starts x bytes → Begins b [] →
+pub starts-stream : (x : Session) (b : PartialLine) (bytes : Lent) → Starts x bytes → Begins b [] →
     StartsStream (record { session = x; begun = b }) bytes
 unfolding atStart
 starts-stream x b bytes s h =
@@ -136,13 +136,13 @@ starts-stream x b bytes s h =
 
 -- ### A whole input
 
-module _ (input : List ℕ) (old : Lent) (s : Stream) (f : Fed) (new : Lent) (out page : List ℕ) (starts : StartsStream s old)
+module _ (input : List ℕ) (old : Lent) (s : Stream) (f : FeedResult) (new : Lent) (out page : List ℕ) (starts : StartsStream s old)
     (feeds : Feeds s old input f new out page) where
   abbrev done : Progress
   done = fed (length (old .log)) (take (f .used) input) atStart
 
-  comes : Comes done (f .stream) new out page (f .written)
-  comes = subst (λ (g : Progress). Comes (fed (length (old .log)) (take (f .used) input) g) (f .stream) new out page (f .written))
+  comes : Progressed done (f .stream) new out page (f .written)
+  comes = subst (λ (g : Progress). Progressed (fed (length (old .log)) (take (f .used) input) g) (f .stream) new out page (f .written))
       (starts .is) (feeds .does [] (starts .begun))
 
   logs : new .log ≡ logged (length (old .log)) (linesOf (take (f .used) input)) none (old .log)

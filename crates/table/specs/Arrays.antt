@@ -7,7 +7,7 @@ use lib.Dec.{ltb}
 use lib.ListN.{length, getD}
 
 -- The array has f h for each history h; d stands past its end.
-pub record Says {A : Type 0} (d : A) (r : List A) (f : ℕ → A) : Type 0 where
+pub record Tabulates {A : Type 0} (d : A) (r : List A) (f : ℕ → A) : Type 0 where
   pub long : length r ≡ 16
   pub each : (h : ℕ) → h < 16 → getD r h d ≡ f h
 

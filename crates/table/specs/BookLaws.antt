@@ -24,7 +24,7 @@ use Rattle.rules.specs.LogLaws.{ran-front, mem-front}
 use Rattle.history.specs.declared.DoneEntry.{DoneEntry}
 use Rattle.history.specs.Entries.{doneEntryOf}
 use Rattle.history.specs.Tests.{any-map, any-agree, four-held}
-use Rattle.table.specs.Arrays.{Says, rises, ceases}
+use Rattle.table.specs.Arrays.{Tabulates, rises, ceases}
 use Rattle.table.specs.Dones.{UsableDone, doneHasId, doneTouches, stampedTo, versionFrom}
 use Rattle.table.specs.ArrayLaws.{says-like}
 
@@ -81,7 +81,7 @@ touched-is h ds from few =
     ∙ any-agree (λ (d : Did). doneTouches h (doneEntryOf d)) (touches h) (drop from ds)
     (λ d m. touches-is h d (few d (mem-along (take-append-drop from ds) (Memᴰ·append-right (take from ds) m))))
 
--- 8 of the rule book: "id is live and done"
+-- 8 of the specification: "id is live and done"
 pub done-ids : (i : ℕ) (ds : List Did) → any (doneHasId i) (map doneEntryOf ds) ≡ any (λ (d : Did). eqb (d .id) i) ds
 unfolding doneEntryOf
 done-ids i ds = any-map doneEntryOf (doneHasId i) ds
@@ -192,7 +192,7 @@ keep-below p q (suc n) e =
 
 -- the histories whose persistent (stable) version rose
 pub rose-is : (before after : List ℕ) (m k : ℕ) (st : State) → st .histories ≤ 16
-    → Says 0 before (λ (h : ℕ). versionAt m h st) → Says 0 after (λ (h : ℕ). versionAt k h st)
+    → Tabulates 0 before (λ (h : ℕ). versionAt m h st) → Tabulates 0 after (λ (h : ℕ). versionAt k h st)
     → keep (rises before after) (below (st .histories)) ≡ rose m k st
 unfolding rose
 rose-is before after m k st le a b =
@@ -201,7 +201,7 @@ rose-is before after m k st le a b =
 
 -- marks of what keeps a history from being dry
 pub wet-is : (r : List Bool) (st : State)
-    → Says false r (λ (h : ℕ). any (asks h) (st .pending) || any (touches h) (drop (st .persistentTo) (st .log))) → Says false r (λ (h : ℕ). not (dry st h))
+    → Tabulates false r (λ (h : ℕ). any (asks h) (st .pending) || any (touches h) (drop (st .persistentTo) (st .log))) → Tabulates false r (λ (h : ℕ). not (dry st h))
 unfolding dry
 wet-is r st a = says-like false r _ _ a (λ h l. either (any (asks h) (st .pending)) (any (touches h) (drop (st .persistentTo) (st .log))))
   where
@@ -212,7 +212,7 @@ wet-is r st a = says-like false r _ _ a (λ h l. either (any (asks h) (st .pendi
 
 -- the histories that became dry
 pub became-dry-is : (before after : List Bool) (st next : State) → st .histories ≤ 16
-    → Says false before (λ (h : ℕ). not (dry st h)) → Says false after (λ (h : ℕ). not (dry next h))
+    → Tabulates false before (λ (h : ℕ). not (dry st h)) → Tabulates false after (λ (h : ℕ). not (dry next h))
     → keep (ceases before after) (below (st .histories)) ≡ becameDry st next
 unfolding becameDry
 became-dry-is before after st next le a b =

@@ -14,7 +14,7 @@ use Rattle.history.specs.declared.DoneEntry.{DoneEntry}
 use Rattle.history.specs.Tests.{four-eq}
 use Rattle.history.specs.Words.{within}
 use Rattle.history.specs.WordLaws.{within-of}
-use Rattle.table.specs.Arrays.{Says}
+use Rattle.table.specs.Arrays.{Tabulates}
 use Rattle.table.specs.Dones.{Finished, doneOf, UsableDone, UsableDones, IsDone, pastDone, doneTouches, stampedTo, versionFrom}
 use Rattle.table.specs.Slots.{doneFrom, donesIn}
 use Rattle.table.specs.SlotLaws.{done-in, dones-put, puts, stores-first, stores-at, stores-kept, four-whole}
@@ -116,13 +116,13 @@ done-dropped l k n es u h q g e = record {
 
 -- ### Histories touched
 
-pub touched-start : (t : List Bool) (l : List DoneEntry) (from : ℕ) → Says false t (λ (h : ℕ). false) → Says false t (λ (h : ℕ). any (doneTouches h) (drop from (take from l)))
+pub touched-start : (t : List Bool) (l : List DoneEntry) (from : ℕ) → Tabulates false t (λ (h : ℕ). false) → Tabulates false t (λ (h : ℕ). any (doneTouches h) (drop from (take from l)))
 touched-start t l from s = says-like false t _ _ s (λ h k. ap (any (doneTouches h)) (sym (drop-past from l)))
 
 pub touched-next : (r t : List Bool) (l : List DoneEntry) (from i : ℕ) → from ≤ i → i < length l
-    → Says false t (λ (h : ℕ). any (doneTouches h) (drop from (take i l)))
-    → Says false r (λ (h : ℕ). getD t h false || doneTouches h (getD l i pastDone))
-    → Says false r (λ (h : ℕ). any (doneTouches h) (drop from (take (i + 1) l)))
+    → Tabulates false t (λ (h : ℕ). any (doneTouches h) (drop from (take i l)))
+    → Tabulates false r (λ (h : ℕ). getD t h false || doneTouches h (getD l i pastDone))
+    → Tabulates false r (λ (h : ℕ). any (doneTouches h) (drop from (take (i + 1) l)))
 touched-next r t l from i h n a b =
     says-like false r _ _ b
     (λ k lt. ap (λ (x : Bool). x || doneTouches k (getD l i pastDone)) (a .each k lt)
@@ -132,8 +132,8 @@ touched-next r t l from i h n a b =
 -- ### Versions
 
 pub stamp-next : (r r₀ : List ℕ) (e : DoneEntry) (j : ℕ) → getD (e .histories) j 0 < 16
-    → Says 0 r (λ (h : ℕ). stampedTo h (getD r₀ h 0) e j)
-    → Says 0 (set r (getD (e .histories) j 0) (getD (e .versions) j 0)) (λ (h : ℕ). stampedTo h (getD r₀ h 0) e (j + 1))
+    → Tabulates 0 r (λ (h : ℕ). stampedTo h (getD r₀ h 0) e j)
+    → Tabulates 0 (set r (getD (e .histories) j 0) (getD (e .versions) j 0)) (λ (h : ℕ). stampedTo h (getD r₀ h 0) e (j + 1))
 unfolding stampedTo
 stamp-next r r₀ e j lt s =
     says-like 0 _ _ _ (says-store 0 r _ (getD (e .histories) j 0) (getD (e .versions) j 0) s lt)
@@ -144,19 +144,19 @@ unfolding versionFrom
 version-snoc h v [] e = refl
 version-snoc h v (x ∷ l) e = version-snoc h (stampedTo h v x (x .count)) l e
 
-pub advance-start : (t : List ℕ) (l : List DoneEntry) (from : ℕ) → length t ≡ 16 → Says 0 t (λ (h : ℕ). versionFrom h (getD t h 0) (drop from (take from l)))
+pub advance-start : (t : List ℕ) (l : List DoneEntry) (from : ℕ) → length t ≡ 16 → Tabulates 0 t (λ (h : ℕ). versionFrom h (getD t h 0) (drop from (take from l)))
 unfolding versionFrom
 advance-start t l from n = record { long = n; each = λ h k. ap (versionFrom h (getD t h 0)) (sym (drop-past from l)) }
 
 pub advance-end : (r : List ℕ) (f : ℕ → ℕ) (l : List DoneEntry) (from to i n : ℕ) → i ≡ to → to ≤ n
-    → Says 0 r (λ (h : ℕ). versionFrom h (f h) (drop from (take i l))) → Says 0 r (λ (h : ℕ). versionFrom h (f h) (drop from (take to (take n l))))
+    → Tabulates 0 r (λ (h : ℕ). versionFrom h (f h) (drop from (take i l))) → Tabulates 0 r (λ (h : ℕ). versionFrom h (f h) (drop from (take to (take n l))))
 advance-end r f l from to i n e q s =
     says-like 0 r _ _ s (λ h k. ap (λ (x : List DoneEntry). versionFrom h (f h) (drop from x)) (ap (λ (m : ℕ). take m l) e ∙ sym (take-take to n l q)))
 
 pub advance-next : (r t : List ℕ) (f : ℕ → ℕ) (l : List DoneEntry) (from i : ℕ) → from ≤ i → i < length l
-    → Says 0 t (λ (h : ℕ). versionFrom h (f h) (drop from (take i l)))
-    → Says 0 r (λ (h : ℕ). stampedTo h (getD t h 0) (getD l i pastDone) (getD l i pastDone .count))
-    → Says 0 r (λ (h : ℕ). versionFrom h (f h) (drop from (take (i + 1) l)))
+    → Tabulates 0 t (λ (h : ℕ). versionFrom h (f h) (drop from (take i l)))
+    → Tabulates 0 r (λ (h : ℕ). stampedTo h (getD t h 0) (getD l i pastDone) (getD l i pastDone .count))
+    → Tabulates 0 r (λ (h : ℕ). versionFrom h (f h) (drop from (take (i + 1) l)))
 advance-next r t f l from i h n a b =
     let e = getD l i pastDone in
     says-like 0 r _ _ b

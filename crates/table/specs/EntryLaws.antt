@@ -1,4 +1,4 @@
--- Laws of entries against the rule book's operations and did lines: their histories, and whether a line can run.
+-- Laws of entries against the specification's operations and did lines: their histories, and whether a line can run.
 use Prim.Native.Nat.{ℕ, zero, suc, _≤_, _<_}
 use native.Mathlib.Omega.{arith}
 use mathlib.Core.Path.{_≡_, refl, sym, ap, _∙_}
@@ -16,7 +16,7 @@ use Rattle.history.specs.declared.Entry.{Entry}
 use Rattle.history.specs.Entries.{noHistory, cellOf, cellsOf, noItem, itemUpdate, itemChange, operationOf, didOfEntry, canRunIn, mayRunIn, UsableEntry}
 use Rattle.history.specs.Tests.{all-agree}
 use Rattle.table.specs.Queues.{canRunEntry}
-use Rattle.table.specs.Tries.{updatesOf}
+use Rattle.table.specs.Tries.{entryUpdates}
 
 -- what is made of the items of a usable entry keeps their histories
 item-low : {B : Type 0} (f : Item → B) (history : B → ℕ) → ((x : Item) → history (f x) ≡ x .history) → (e : Entry) → UsableEntry e
@@ -33,7 +33,7 @@ item-low {B} f history same e w b m = go (e .count) (e .items) (omega (arith, w 
         cases (inl e) below = let z : history b ≡ x .history = ap history e ∙ same x in omega (arith, h 0 (omega arith))
         cases (inr r) below = below r
 
-pub usable-history : (e : Entry) → UsableEntry e → (u : Update) → Mem u (updatesOf e) → u .history < 16
+pub usable-history : (e : Entry) → UsableEntry e → (u : Update) → Mem u (entryUpdates e) → u .history < 16
 unfolding operationOf
 usable-history e w u m = item-low itemUpdate (λ (v : Update). v .history) (λ x. refl) e w u m
 

@@ -1,4 +1,4 @@
--- What a search of the queue says in the rule book's words: the operation found, the operations without it, the line picked.
+-- What a search of the queue says in the specification's words: the operation found, the operations without it, the line picked.
 use Prim.Native.Nat.{ℕ, suc, _+_, _<_}
 use native.Mathlib.Omega.{arith}
 use mathlib.Core.Path.{_≡_, refl, sym, ap, ap₂, subst, _∙_}
@@ -25,7 +25,7 @@ use Rattle.history.specs.Entries.{cellsOf, operationOf, didOfEntry, UsableEntry
 use Rattle.history.specs.Tests.{any-map, any-agree, map-map}
 use Rattle.table.specs.declared.Found.{Found}
 use Rattle.table.specs.declared.Found.the-variants.{At, Nothing}
-use Rattle.table.specs.Lists.{later, firstAt}
+use Rattle.table.specs.Lists.{oneLater, firstAt}
 use Rattle.table.specs.Queues.{hasId, isEntry, idOf, canRunEntry, pastEntry}
 use Rattle.table.specs.Tries.{operationsOf}
 use Rattle.table.specs.EntryLaws.{can-run-is}
@@ -44,7 +44,7 @@ module _ {A : Type 0} (p : A → Bool) (d : A) where
   first-found [] k e = absurd (let z : _≡_ {A = ℕ} 0 1 = cc in omega arith)
   first-found (x ∷ l) k e = go (p x) refl (firstAt p l) (λ j q. first-found l j q) e
     where
-      go : (b : Bool) → p x ≡ b → (r : Found) → ((j : ℕ) → r ≡ At j → First l j) → cond b (At 0) (later r) ≡ At k → First (x ∷ l) k
+      go : (b : Bool) → p x ≡ b → (r : Found) → ((j : ℕ) → r ≡ At j → First l j) → cond b (At 0) (oneLater r) ≡ At k → First (x ∷ l) k
       go true h r f q = let z : 0 ≡ k = cc in subst (First (x ∷ l)) z (record { lt = omega arith; hit = h; miss = refl })
       go false h (At j) f q =
           let z : suc j ≡ k = cc in
@@ -56,7 +56,7 @@ module _ {A : Type 0} (p : A → Bool) (d : A) where
   first-missed [] e = refl
   first-missed (x ∷ l) e = go (p x) (firstAt p l) (λ q. first-missed l q) e
     where
-      go : (b : Bool) (r : Found) → (r ≡ Nothing → any p l ≡ false) → cond b (At 0) (later r) ≡ Nothing → (b || any p l) ≡ false
+      go : (b : Bool) (r : Found) → (r ≡ Nothing → any p l ≡ false) → cond b (At 0) (oneLater r) ≡ Nothing → (b || any p l) ≡ false
       go true r f q = absurd (let z : _≡_ {A = ℕ} 0 1 = cc in omega arith)
       go false (At j) f q = absurd (let z : _≡_ {A = ℕ} 0 1 = cc in omega arith)
       go false Nothing f q = f refl
@@ -85,7 +85,7 @@ module _ {A : Type 0} (q : A → Bool) where
 
 -- ### Ids
 
--- 7 of the rule book: an id among the pending operations, or the waiting lines
+-- 7 of the specification: an id among the pending operations, or the waiting lines
 pub has-operation : (i : ℕ) (l : List Entry) → any (hasId i) l ≡ any (λ (x : Operation). eqb (x .id) i) (operationsOf l)
 unfolding operationOf
 has-operation i l = sym (any-map operationOf (λ (x : Operation). eqb (x .id) i) l)
@@ -202,7 +202,7 @@ module _ (log : List Did) (hs : List History) (l : List Entry) (same : (h : ℕ)
       any-map didOfEntry (canRun log) a
       ∙ sym (any-agree (canRunEntry (cellsOf hs)) (λ (e : Entry). canRun log (didOfEntry e)) a (λ e m. can-run-is log hs e same (usable e (into e m))))
 
-  -- The first line that can run is the one that the rule book picks, and the queue without it holds the others.
+  -- The first line that can run is the one that the specification picks, and the queue without it holds the others.
   pub pick-is : (k : ℕ) → firstAt (canRunEntry (cellsOf hs)) l ≡ At k
       → pick log (map didOfEntry l) ≡ this (didOfEntry (getD l k pastEntry)) (map didOfEntry (take k l ++ drop (k + 1) l))
   pick-is k e =

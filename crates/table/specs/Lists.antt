@@ -9,14 +9,14 @@ use Rattle.table.specs.declared.Found.{Found}
 use Rattle.table.specs.declared.Found.the-variants.{At, Nothing}
 
 -- one place further on
-abbrev pub later : Found → Found
-later (At k) = At (suc k)
-later Nothing = Nothing
+abbrev pub oneLater : Found → Found
+oneLater (At k) = At (suc k)
+oneLater Nothing = Nothing
 
 -- Where the first element stands that passes the test.
 unfoldable pub firstAt : {A : Type 0} → (A → Bool) → List A → Found
 firstAt p [] = Nothing
-firstAt p (x ∷ xs) = cond (p x) (At 0) (later (firstAt p xs))
+firstAt p (x ∷ xs) = cond (p x) (At 0) (oneLater (firstAt p xs))
 
 -- The list without its element at k: what a shift of the elements behind it leaves.
 unfoldable pub omit : {A : Type 0} → ℕ → List A → List A

@@ -14,7 +14,7 @@ use Rattle.forms.specs.ListLaws.{mem-at, mem-along, mem-snoc, keep-append}
 use Rattle.history.specs.Tests.{take-split}
 use Rattle.table.specs.declared.Found.{Found}
 use Rattle.table.specs.declared.Found.the-variants.{At, Nothing}
-use Rattle.table.specs.Lists.{later, firstAt, omit}
+use Rattle.table.specs.Lists.{oneLater, firstAt, omit}
 
 -- ### The part of an array that counts
 
@@ -94,7 +94,7 @@ module _ {A : Type 0} (p : A → Bool) where
   all-append [] b = refl
   all-append (x ∷ a) b = ap (λ (t : Bool). p x && t) (all-append a b) ∙ sym (and-assoc (p x) (all p a) (all p b))
 
-  none-parts : (b : Bool) (f : Found) → cond b (At 0) (later f) ≡ Nothing → (b ≡ false) × (f ≡ Nothing)
+  none-parts : (b : Bool) (f : Found) → cond b (At 0) (oneLater f) ≡ Nothing → (b ≡ false) × (f ≡ Nothing)
   none-parts true f e = ((cc), (cc))
   none-parts false (At k) e = ((cc), (cc))
   none-parts false Nothing e = (refl, refl)

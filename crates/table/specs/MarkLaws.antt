@@ -1,4 +1,4 @@
--- Laws of the marks: what they say of the updates counted, and that they answer the rule book's "blocked".
+-- Laws of the marks: what they say of the updates counted, and that they answer the specification's "blocked".
 use Prim.Native.Nat.{ℕ, _+_, _<_}
 use native.Mathlib.Omega.{arith}
 use mathlib.Core.Path.{_≡_, refl, sym, ap, subst, fun-ext, _∙_}
@@ -18,9 +18,9 @@ use Rattle.history.specs.declared.Entry.{Entry}
 use Rattle.history.specs.Entries.{noItem, itemUpdate, operationOf, UsableEntry}
 use Rattle.history.specs.Tests.{any-map}
 use Rattle.table.specs.declared.Marks.{Marks}
-use Rattle.table.specs.Arrays.{Says}
+use Rattle.table.specs.Arrays.{Tabulates}
 use Rattle.table.specs.Queues.{pastEntry}
-use Rattle.table.specs.Tries.{gather, inHistory, strongIn, updatesOf, held, Marked, More, freeBy, operationsOf}
+use Rattle.table.specs.Tries.{gather, inHistory, strongIn, entryUpdates, held, MarksOf, More, freeBy, operationsOf}
 use Rattle.table.specs.LoopLaws.{take-next, any-append}
 use Rattle.table.specs.ArrayLaws.{says-like, says-start, says-next, says-nothing}
 
@@ -50,8 +50,8 @@ gather-map f g (x ∷ l) = ap (λ (k : List _). g (f x) ++ k) (gather-map f g l)
 
 -- The marks that a loop over the items of an entry has set.
 pub record Marking (i : ℕ) (e : Entry) (m₀ m : Marks) : Type 0 where
-  pub each : Says false (m .any) (λ (h : ℕ). getD (m₀ .any) h false || any (λ (x : Item). inHistory h (itemUpdate x)) (take i (e .items)))
-  pub strongs : Says false (m .strong) (λ (h : ℕ). getD (m₀ .strong) h false || any (λ (x : Item). strongIn h (itemUpdate x)) (take i (e .items)))
+  pub each : Tabulates false (m .any) (λ (h : ℕ). getD (m₀ .any) h false || any (λ (x : Item). inHistory h (itemUpdate x)) (take i (e .items)))
+  pub strongs : Tabulates false (m .strong) (λ (h : ℕ). getD (m₀ .strong) h false || any (λ (x : Item). strongIn h (itemUpdate x)) (take i (e .items)))
 
 pub marking-start : (e : Entry) (m : Marks) → length (m .any) ≡ 16 → length (m .strong) ≡ 16 → Marking 0 e m m
 marking-start e m p q = record {
@@ -73,7 +73,7 @@ marking-next i e m₀ m b u lt a q = record {
     at : ℕ
     at = getD (e .items) i noItem .history
 
-pub marking-end : (i : ℕ) (e : Entry) (m₀ m : Marks) → i ≡ e .count → Marking i e m₀ m → More m m₀ (updatesOf e)
+pub marking-end : (i : ℕ) (e : Entry) (m₀ m : Marks) → i ≡ e .count → Marking i e m₀ m → More m m₀ (entryUpdates e)
 unfolding operationOf
 marking-end i e m₀ m q a = record {
   each = says-like false (m .any) _ _ (a .each) (λ h l. ap (λ (b : Bool). getD (m₀ .any) h false || b) (whole (inHistory h)));
@@ -94,17 +94,17 @@ more-none m p q = record {
 
 -- ### The marks of many
 
-pub marked-none : Marked (record { any = replicate 16 false; strong = replicate 16 false }) []
+pub marked-none : MarksOf (record { any = replicate 16 false; strong = replicate 16 false }) []
 marked-none = record { each = says-nothing; strongs = says-nothing }
 
 -- marks of the same updates in another order
-pub marked-like : (m : Marks) (us ws : List Update) → ((p : Update → Bool) → any p us ≡ any p ws) → Marked m us → Marked m ws
+pub marked-like : (m : Marks) (us ws : List Update) → ((p : Update → Bool) → any p us ≡ any p ws) → MarksOf m us → MarksOf m ws
 marked-like m us ws e a = record {
   each = says-like false (m .any) _ _ (a .each) (λ h l. e (inHistory h));
   strongs = says-like false (m .strong) _ _ (a .strongs) (λ h l. e (strongIn h));
 }
 
-pub marked-more : (m r : Marks) (us ws : List Update) → Marked m us → More r m ws → Marked r (us ++ ws)
+pub marked-more : (m r : Marks) (us ws : List Update) → MarksOf m us → More r m ws → MarksOf r (us ++ ws)
 marked-more m r us ws a b = record {
   each = says-like false (r .any) _ _ (b .each)
       (λ h l. ap (λ (x : Bool). x || any (inHistory h) ws) (a .each .each h l) ∙ sym (any-append (inHistory h) us ws));
@@ -114,22 +114,22 @@ marked-more m r us ws a b = record {
 
 -- one entry more of those that the loop passes
 pub marked-next : (f : Entry → List Update) (l : List Entry) (m r : Marks) (i : ℕ) → i < length l
-    → Marked m (gather f (take i l)) → More r m (f (getD l i pastEntry)) → Marked r (gather f (take (i + 1) l))
+    → MarksOf m (gather f (take i l)) → More r m (f (getD l i pastEntry)) → MarksOf r (gather f (take (i + 1) l))
 marked-next f l m r i h a b =
-    subst (Marked r) (sym (ap (gather f) (take-next l pastEntry i h) ∙ gather-snoc f (take i l) (getD l i pastEntry)))
+    subst (MarksOf r) (sym (ap (gather f) (take-next l pastEntry i h) ∙ gather-snoc f (take i l) (getD l i pastEntry)))
     (marked-more m r (gather f (take i l)) (f (getD l i pastEntry)) a b)
 
-pub marked-start : (f : Entry → List Update) (l : List Entry) → Marked (record { any = replicate 16 false; strong = replicate 16 false }) (gather f (take 0 l))
+pub marked-start : (f : Entry → List Update) (l : List Entry) → MarksOf (record { any = replicate 16 false; strong = replicate 16 false }) (gather f (take 0 l))
 unfolding gather
 marked-start f [] = marked-none
 marked-start f (x ∷ l) = marked-none
 
 -- the histories that some operation asks for
-pub touched-by : (m : Marks) (l : List Entry) → Marked m (gather updatesOf l) → Says false (m .any) (λ (h : ℕ). any (asks h) (operationsOf l))
+pub touched-by : (m : Marks) (l : List Entry) → MarksOf m (gather entryUpdates l) → Tabulates false (m .any) (λ (h : ℕ). any (asks h) (operationsOf l))
 unfolding asks
 touched-by m l a =
     says-like false (m .any) _ _ (a .each)
-    (λ h k. any-gather updatesOf (inHistory h) l ∙ sym (any-map operationOf (λ (x : Operation). any (inHistory h) (x .updates)) l))
+    (λ h k. any-gather entryUpdates (inHistory h) l ∙ sym (any-map operationOf (λ (x : Operation). any (inHistory h) (x .updates)) l))
 
 -- ### Blocked
 
@@ -157,7 +157,7 @@ conflict-rule Not h us = refl
 conflict-rule Unk h us = ap (λ (p : Update → Bool). any p us) (fun-ext (λ w. and-true (eqb (w .history) h)))
 
 -- One look at the marks answers whether an update is blocked.
-pub free-is : (m : Marks) (xs : List Operation) (u : Update) → Marked m (gather held xs) → u .history < 16 → freeBy m u ≡ not (blocked xs u)
+pub free-is : (m : Marks) (xs : List Operation) (u : Update) → MarksOf m (gather held xs) → u .history < 16 → freeBy m u ≡ not (blocked xs u)
 unfolding freeBy
 free-is m xs u a l = ap not (go (strong (u .rule)) ∙ sym (blocked-all u xs ∙ conflict-rule (u .rule) (u .history) (gather held xs)))
   where

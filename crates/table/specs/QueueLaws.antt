@@ -36,19 +36,19 @@ unfolding numbersOf
 no-numbers ws l = record { few = omega arith; long = l; list = take-none 0 ws refl }
 
 -- the numbers below h that pass a test
-pub record Kept (p : ℕ → Bool) (h : ℕ) (ns : Numbers) : Type 0 where
+pub record KeptBelow (p : ℕ → Bool) (h : ℕ) (ns : Numbers) : Type 0 where
   pub few : ns .count ≤ h
   pub is : IsNumbers ns (keep p (below h))
 
-pub kept-yes : (p : ℕ → Bool) (ns r next : Numbers) (h : ℕ) → Kept p h ns → IsNumbers r (numbersOf ns ++ (h ∷ [])) × (r .count ≡ ns .count + 1) → next ≡ r
-    → p h ≡ true → Kept p (h + 1) next
+pub kept-yes : (p : ℕ → Bool) (ns r next : Numbers) (h : ℕ) → KeptBelow p h ns → IsNumbers r (numbersOf ns ++ (h ∷ [])) × (r .count ≡ ns .count + 1) → next ≡ r
+    → p h ≡ true → KeptBelow p (h + 1) next
 kept-yes p ns r next h a b f e =
-    subst (Kept p (h + 1)) (sym f)
+    subst (KeptBelow p (h + 1)) (sym f)
     (record { few = omega (arith, a .few, b .1); is = numbers-next ns r h (keep p (below h)) (keep p (below (h + 1))) (a .is) (b .0) (below-next p h true e) })
 
-pub kept-no : (p : ℕ → Bool) (ns next : Numbers) (h : ℕ) → Kept p h ns → next ≡ ns → p h ≡ false → Kept p (h + 1) next
+pub kept-no : (p : ℕ → Bool) (ns next : Numbers) (h : ℕ) → KeptBelow p h ns → next ≡ ns → p h ≡ false → KeptBelow p (h + 1) next
 kept-no p ns next h a f e =
-    subst (Kept p (h + 1)) (sym f)
+    subst (KeptBelow p (h + 1)) (sym f)
     (record {
       few = omega (arith, a .few);
       is = record { few = a .is .few; long = a .is .long; list = a .is .list ∙ sym (append-nil (keep p (below h))) ∙ sym (below-next p h false e) };
@@ -58,7 +58,7 @@ kept-no p ns next h a f e =
 pub and-no : (a b : Bool) → a ≡ false → (a && b) ≡ false
 and-no a b e = ap (λ (t : Bool). t && b) e
 
-pub kept-none : (p : ℕ → Bool) (ws : List ℕ) → length ws ≡ 64 → Kept p 0 (listed 0 ws)
+pub kept-none : (p : ℕ → Bool) (ws : List ℕ) → length ws ≡ 64 → KeptBelow p 0 (listed 0 ws)
 unfolding below
 kept-none p ws l = record { few = omega arith; is = no-numbers ws l }
 

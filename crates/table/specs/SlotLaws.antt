@@ -20,7 +20,7 @@ use Rattle.history.specs.declared.Entry.{Entry}
 use Rattle.history.specs.declared.DoneEntry.{DoneEntry}
 use Rattle.history.specs.Entries.{noItem}
 use Rattle.history.specs.Tests.{four-eq, four-at}
-use Rattle.history.specs.Words.{within, Kept}
+use Rattle.history.specs.Words.{within, UnchangedOutside}
 use Rattle.history.specs.WordLaws.{within-of, made-long, made-at, made-set, Same, kept-same, kept-wide, kept-then, kept-set}
 use Rattle.table.specs.Queues.{pastEntry}
 use Rattle.table.specs.Dones.{pastDone}
@@ -129,7 +129,7 @@ module _ (old new : List ℕ) where
 
 -- A store in words of which each w make an element: the others are as they were.
 made-put : {A : Type 0} (from : List ℕ → ℕ → A) (n w i : ℕ) (a d : A) (old new : List ℕ)
-    → ((at : ℕ) → Same at w old new → from new at ≡ from old at) → i < n → Kept (i * w) w old new → from new (i * w) ≡ a
+    → ((at : ℕ) → Same at w old new → from new at ≡ from old at) → i < n → UnchangedOutside (i * w) w old new → from new (i * w) ≡ a
     → map (λ (j : ℕ). from new (j * w)) (below n) ≡ set (map (λ (j : ℕ). from old (j * w)) (below n)) i a
 made-put from n w i a d old new same h q e =
     made-set (λ (j : ℕ). from new (j * w)) (λ (j : ℕ). from old (j * w)) n i a d h e (λ j l ne. same (j * w) (kept-same (j * w) w q (apart j ne)))
@@ -144,12 +144,12 @@ made-put from n w i a d old new same h q e =
             inr (let m = mul-le-mul-right {m = suc i} {n = j} w l in omega (arith, suc-mul i w))
 
 -- The entries after the words of one of them are written anew.
-pub entries-put : (i : ℕ) (e : Entry) (old new : List ℕ) → i < 64 → Kept (i * 23) 23 old new → entryFrom new (i * 23) ≡ e
+pub entries-put : (i : ℕ) (e : Entry) (old new : List ℕ) → i < 64 → UnchangedOutside (i * 23) 23 old new → entryFrom new (i * 23) ≡ e
     → entriesIn new ≡ set (entriesIn old) i e
 unfolding entriesIn
 entries-put i e old new h q s = made-put entryFrom 64 23 i e pastEntry old new (entry-same old new) h q s
 
-pub dones-put : (i : ℕ) (e : DoneEntry) (old new : List ℕ) → i < 64 → Kept (i * 10) 10 old new → doneFrom new (i * 10) ≡ e
+pub dones-put : (i : ℕ) (e : DoneEntry) (old new : List ℕ) → i < 64 → UnchangedOutside (i * 10) 10 old new → doneFrom new (i * 10) ≡ e
     → donesIn new ≡ set (donesIn old) i e
 unfolding donesIn
 dones-put i e old new h q s = made-put doneFrom 64 10 i e pastDone old new (done-same old new) h q s
@@ -161,7 +161,7 @@ abbrev pub puts : List ℕ → ℕ → ℕ → List ℕ → List ℕ
 puts ws at k [] = ws
 puts ws at k (v ∷ vs) = puts (set ws (at + k) v) at (suc k) vs
 
-pub puts-kept : (ws : List ℕ) (at k : ℕ) (vs : List ℕ) → Kept (at + k) (length vs) ws (puts ws at k vs)
+pub puts-kept : (ws : List ℕ) (at k : ℕ) (vs : List ℕ) → UnchangedOutside (at + k) (length vs) ws (puts ws at k vs)
 puts-kept ws at k [] = record { before = λ j l. refl; behind = λ j l. refl }
 puts-kept ws at k (v ∷ vs) =
     kept-then (kept-wide (at + k) (suc (length vs)) (kept-set ws (at + k) v) (omega arith) (omega arith))
@@ -189,7 +189,7 @@ module _ (ws : List ℕ) (at v : ℕ) (vs : List ℕ) (room : at + suc (length v
   pub stores-at : (j : ℕ) → j < length vs → getD (puts (set ws at v) at 1 vs) (at + (1 + j)) 0 ≡ getD vs j 0
   stores-at j l = puts-at (set ws at v) at 1 vs j (omega (arith, length-set ws at v)) l
 
-  pub stores-kept : Kept at (suc (length vs)) ws (puts (set ws at v) at 1 vs)
+  pub stores-kept : UnchangedOutside at (suc (length vs)) ws (puts (set ws at v) at 1 vs)
   stores-kept =
       kept-then (kept-wide at (suc (length vs)) (kept-set ws at v) (omega arith) (omega arith))
       (kept-wide at (suc (length vs)) (puts-kept (set ws at v) at 1 vs) (omega arith) (omega arith))
@@ -259,17 +259,17 @@ module _ (ws : List ℕ) (at : ℕ) (e : Entry) (b : ℕ) (room : at + 23 ≤ le
     (two : PutItem (at + 8) (getD (e .items) 1 noItem) w x) (three : PutItem (at + 13) (getD (e .items) 2 noItem) x y)
     (four : PutItem (at + 18) (getD (e .items) 3 noItem) y z) where
   -- the words that change behind each part
-  behind-two : Kept (at + 13) 10 x z
+  behind-two : UnchangedOutside (at + 13) 10 x z
   behind-two =
       kept-then (kept-wide (at + 13) 10 (three .rest) (omega arith) (omega arith)) (kept-wide (at + 13) 10 (four .rest) (omega arith) (omega arith))
 
-  behind-one : Kept (at + 8) 15 w z
+  behind-one : UnchangedOutside (at + 8) 15 w z
   behind-one = kept-then (kept-wide (at + 8) 15 (two .rest) (omega arith) (omega arith)) (kept-wide (at + 8) 15 behind-two (omega arith) (omega arith))
 
-  behind-start : Kept (at + 3) 20 (puts (set ws at (e .id)) at 1 (b ∷ e .count ∷ [])) z
+  behind-start : UnchangedOutside (at + 3) 20 (puts (set ws at (e .id)) at 1 (b ∷ e .count ∷ [])) z
   behind-start = kept-then (kept-wide (at + 3) 20 (one .rest) (omega arith) (omega arith)) (kept-wide (at + 3) 20 behind-one (omega arith) (omega arith))
 
-  entry-rest : Kept at 23 ws z
+  entry-rest : UnchangedOutside at 23 ws z
   entry-rest =
       kept-then (kept-wide at 23 (stores-kept ws at (e .id) (b ∷ e .count ∷ []) (omega arith)) (omega arith) (omega arith))
       (kept-wide at 23 behind-start (omega arith) (omega arith))

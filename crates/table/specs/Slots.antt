@@ -11,7 +11,7 @@ use Rattle.forms.specs.declared.Rule.the-variants.{Inc, Set, Not, Unk}
 use Rattle.history.specs.declared.Item.{Item}
 use Rattle.history.specs.declared.Entry.{Entry}
 use Rattle.history.specs.declared.DoneEntry.{DoneEntry}
-use Rattle.history.specs.Words.{within, Kept}
+use Rattle.history.specs.Words.{within, UnchangedOutside}
 use Rattle.table.specs.declared.Queue.{Queue}
 use Rattle.table.specs.declared.DoneList.{DoneList}
 use Rattle.table.specs.Queues.{Queued}
@@ -41,7 +41,7 @@ itemAt ws at =
 -- The item's five words begin at `at` now; the other words are as they were.
 pub record PutItem (at : ℕ) (x : Item) (old new : List ℕ) : Type 0 where
   pub item : itemAt new at ≡ x
-  pub rest : Kept at 5 old new
+  pub rest : UnchangedOutside at 5 old new
 
 -- the entry whose 23 words begin at `at`
 unfoldable pub entryFrom : List ℕ → ℕ → Entry

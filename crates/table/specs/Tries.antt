@@ -1,4 +1,4 @@
--- Trying the future operations once, oldest first: the rule book's tries against cells, and the marks that answer "blocked".
+-- Trying the future operations once, oldest first: the specification's tries against cells, and the marks that answer "blocked".
 use Prim.Native.Nat.{ℕ}
 use mathlib.Core.Path.{_≡_}
 use mathlib.Core.Bool.{Bool, false, cond, not, _&&_, _||_}
@@ -17,9 +17,9 @@ use Rattle.history.specs.Entries.{operationOf, mayRunIn}
 use Rattle.table.specs.declared.Marks.{Marks}
 use Rattle.table.specs.Lists.{IsNumbers}
 use Rattle.table.specs.Queues.{Queued, queueOf, UsableQueue}
-use Rattle.table.specs.Arrays.{Says}
+use Rattle.table.specs.Arrays.{Tabulates}
 
--- ### The rule book's tries, against cells
+-- ### The specification's tries, against cells
 
 -- "when each update may run and is not blocked"
 unfoldable pub readyIn : (ℕ → Cell) → List Operation → Operation → Bool
@@ -51,8 +51,8 @@ abbrev pub strongIn : ℕ → Update → Bool
 strongIn h u = eqb (u .history) h && strong (u .rule)
 
 -- the updates of an entry, and those of them that are in progress
-abbrev pub updatesOf : Entry → List Update
-updatesOf e = operationOf e .updates
+abbrev pub entryUpdates : Entry → List Update
+entryUpdates e = operationOf e .updates
 
 abbrev pub held : Operation → List Update
 held x = cond (x .running) (x .updates) []
@@ -61,14 +61,14 @@ abbrev pub heldOf : Entry → List Update
 heldOf e = held (operationOf e)
 
 -- The marks say of each history whether one of these updates is in it, and whether a strong one is.
-pub record Marked (m : Marks) (us : List Update) : Type 0 where
-  pub each : Says false (m .any) (λ (h : ℕ). any (inHistory h) us)
-  pub strongs : Says false (m .strong) (λ (h : ℕ). any (strongIn h) us)
+pub record MarksOf (m : Marks) (us : List Update) : Type 0 where
+  pub each : Tabulates false (m .any) (λ (h : ℕ). any (inHistory h) us)
+  pub strongs : Tabulates false (m .strong) (λ (h : ℕ). any (strongIn h) us)
 
 -- The marks m with those of more updates.
 pub record More (r m : Marks) (us : List Update) : Type 0 where
-  pub each : Says false (r .any) (λ (h : ℕ). getD (m .any) h false || any (inHistory h) us)
-  pub strongs : Says false (r .strong) (λ (h : ℕ). getD (m .strong) h false || any (strongIn h) us)
+  pub each : Tabulates false (r .any) (λ (h : ℕ). getD (m .any) h false || any (inHistory h) us)
+  pub strongs : Tabulates false (r .strong) (λ (h : ℕ). getD (m .strong) h false || any (strongIn h) us)
 
 -- "A strong update is blocked by any in-progress update in its history, a weak one by a strong one there": not so, by the marks.
 unfoldable pub freeBy : Marks → Update → Bool

@@ -1,4 +1,4 @@
--- Laws of one pass over the future operations: the code's pass is the rule book's, whichever way its cells are had.
+-- Laws of one pass over the future operations: the code's pass is the specification's, whichever way its cells are had.
 use Prim.Native.Nat.{ℕ, suc, _+_, _≤_, _<_}
 use native.Mathlib.Numerals.{add-one}
 use native.Mathlib.Omega.{arith}
@@ -26,7 +26,7 @@ use Rattle.table.specs.declared.Marks.{Marks}
 use Rattle.table.specs.Lists.{IsNumbers}
 use Rattle.table.specs.Queues.{Queued, queueOf, pastEntry}
 use Rattle.table.specs.Slots.{begun}
-use Rattle.table.specs.Tries.{readyIn, attemptIn, tryFromIn, tryAllIn, gather, held, heldOf, updatesOf, Marked, More, readyBy, startsBy, operationsOf, Tries}
+use Rattle.table.specs.Tries.{readyIn, attemptIn, tryFromIn, tryAllIn, gather, held, heldOf, entryUpdates, MarksOf, More, readyBy, startsBy, operationsOf, Tries}
 use Rattle.table.specs.LoopLaws.{take-push, take-next, mem-set, any-append}
 use Rattle.table.specs.EntryLaws.{usable-history}
 use Rattle.table.specs.MarkLaws.{gather-append, gather-map, marked-like, marked-more, free-is}
@@ -54,7 +54,7 @@ module _ (a b : ℕ → Cell) (same : (h : ℕ) → h < 16 → a h ≡ b h) wher
       ap (λ (y : Operation). tryFromIn a (tried ++ (y ∷ [])) xs) (attempt-agree (tried ++ xs) x (low x (here refl)))
       ∙ try-agree (tried ++ (attemptIn b (tried ++ xs) x ∷ [])) xs (λ y m. low y (there m))
 
--- The pass against the cells of the histories is the rule book's against the log that they stand for.
+-- The pass against the cells of the histories is the specification's against the log that they stand for.
 pub try-all-is : (log : List Did) (hs : List History) (l : List Entry) → ((h : ℕ) → h < 16 → cellsOf hs h ≡ cell h log)
     → ((e : Entry) → Mem e l → UsableEntry e) → tryAllIn (cellsOf hs) (operationsOf l) ≡ tryAll log (operationsOf l)
 try-all-is log hs l same usable = try-agree (cellsOf hs) (logCells log) same [] (operationsOf l) (low l usable) ∙ try-log log [] (operationsOf l)
@@ -70,7 +70,7 @@ try-all-is log hs l same usable = try-agree (cellsOf hs) (logCells log) same [] 
 -- ### One try, by the marks
 
 module _ (cells : ℕ → Cell) (m : Marks) (tried : List Operation) (x : Operation) (xs : List Operation)
-    (marks : Marked m (gather held (tried ++ x ∷ xs))) (low : (u : Update) → Mem u (x .updates) → u .history < 16) where
+    (marks : MarksOf m (gather held (tried ++ x ∷ xs))) (low : (u : Update) → Mem u (x .updates) → u .history < 16) where
   -- an operation that is not in progress blocks nothing
   idle : x .running ≡ false → gather held (tried ++ x ∷ xs) ≡ gather held (tried ++ xs)
   unfolding gather
@@ -84,7 +84,7 @@ module _ (cells : ℕ → Cell) (m : Marks) (tried : List Operation) (x : Operat
   starts-is e =
       ap (λ (b : Bool). not b && all (readyBy cells m) (x .updates)) e
       ∙ all-agree _ _ (x .updates)
-      (λ u k. ap (λ (b : Bool). mayRunIn cells u && b) (free-is m (tried ++ xs) u (subst (Marked m) (idle e) marks) (low u k)))
+      (λ u k. ap (λ (b : Bool). mayRunIn cells u && b) (free-is m (tried ++ xs) u (subst (MarksOf m) (idle e) marks) (low u k)))
 
   -- what is in progress does not start
   future : startsBy cells m x ≡ true → x .running ≡ true → false ≡ true
@@ -124,24 +124,24 @@ made-snoc (z ∷ a) (w ∷ b) x y e = go (w .running && not (z .running)) (made-
     go false q = q
 
 -- After the first i entries of `before` have been tried: the entries now, the marks of those in progress, and the ids made ready.
-pub record Passed (cells : ℕ → Cell) (before now : List Entry) (m : Marks) (ns : Numbers) (i : ℕ) : Type 0 where
+pub record TriedTo (cells : ℕ → Cell) (before now : List Entry) (m : Marks) (ns : Numbers) (i : ℕ) : Type 0 where
   pub each : (e : Entry) → Mem e now → UsableEntry e
   pub same : length now ≡ length before
   pub behind : drop i now ≡ drop i before
   pub tries : tryFromIn cells (operationsOf (take i now)) (operationsOf (drop i now)) ≡ tryAllIn cells (operationsOf before)
   pub few : ns .count ≤ i
   pub ready : IsNumbers ns (madeReady (operationsOf (take i before)) (operationsOf (take i now)))
-  pub marks : Marked m (gather heldOf now)
+  pub marks : MarksOf m (gather heldOf now)
 
-pub passed-none : (cells : ℕ → Cell) (l : List Entry) (m : Marks) (ns : Numbers) → ((e : Entry) → Mem e l → UsableEntry e) → Marked m (gather heldOf l)
-    → ns .count ≡ 0 → IsNumbers ns [] → Passed cells l l m ns 0
+pub passed-none : (cells : ℕ → Cell) (l : List Entry) (m : Marks) (ns : Numbers) → ((e : Entry) → Mem e l → UsableEntry e) → MarksOf m (gather heldOf l)
+    → ns .count ≡ 0 → IsNumbers ns [] → TriedTo cells l l m ns 0
 unfolding madeReady
 passed-none cells [] m ns each marks z is =
     record { each = each; same = refl; behind = refl; tries = refl; few = omega arith; ready = is; marks = marks }
 passed-none cells (x ∷ l) m ns each marks z is =
     record { each = each; same = refl; behind = refl; tries = refl; few = omega arith; ready = is; marks = marks }
 
-module _ (cells : ℕ → Cell) (before now : List Entry) (m : Marks) (ns : Numbers) (i : ℕ) (p : Passed cells before now m ns i) (lt : i < length now) where
+module _ (cells : ℕ → Cell) (before now : List Entry) (m : Marks) (ns : Numbers) (i : ℕ) (p : TriedTo cells before now m ns i) (lt : i < length now) where
   -- the entry that is tried, and those around it
   abbrev this : Entry
   this = getD now i pastEntry
@@ -161,15 +161,15 @@ module _ (cells : ℕ → Cell) (before now : List Entry) (m : Marks) (ns : Numb
       ∙ getD-drop i now 0 pastEntry
       ∙ ap (λ (k : ℕ). getD now k pastEntry) z
 
-  marked-here : Marked m (gather held (operationsOf (take i now) ++ operationOf this ∷ operationsOf (drop (suc i) now)))
-  marked-here = subst (Marked m) (sym (gather-map operationOf held now) ∙ ap (gather held) split) (p .marks)
+  marked-here : MarksOf m (gather held (operationsOf (take i now) ++ operationOf this ∷ operationsOf (drop (suc i) now)))
+  marked-here = subst (MarksOf m) (sym (gather-map operationOf held now) ∙ ap (gather held) split) (p .marks)
 
   -- One try: the entry becomes e.
   step : (e : Entry) (r : Marks) (ks : Numbers) → UsableEntry e
       → operationOf e ≡ attemptIn cells (operationsOf (take i now) ++ operationsOf (drop (suc i) now)) (operationOf this)
-      → Marked r (gather heldOf (set now i e)) → ks .count ≤ i + 1
+      → MarksOf r (gather heldOf (set now i e)) → ks .count ≤ i + 1
       → IsNumbers ks (numbersOf ns ++ cond (e .running && not (this .running)) (e .id ∷ []) [])
-      → Passed cells before (set now i e) r ks (i + 1)
+      → TriedTo cells before (set now i e) r ks (i + 1)
   unfolding operationOf tryFromIn
   step e r ks w att marks few is = record {
     each = λ x k. cases x (mem-set now i e k);
@@ -210,11 +210,11 @@ module _ (cells : ℕ → Cell) (before now : List Entry) (m : Marks) (ns : Numb
       made = ap₂ madeReady old front ∙ made-snoc (operationsOf (take i before)) (operationsOf (take i now)) (operationOf this) (operationOf e) long
 
   -- the marks with those of the entry in progress
-  begun-marks : (r : Marks) → this .running ≡ false → More r m (updatesOf this) → Marked r (gather heldOf (set now i (begun this)))
+  begun-marks : (r : Marks) → this .running ≡ false → More r m (entryUpdates this) → MarksOf r (gather heldOf (set now i (begun this)))
   unfolding gather operationOf
   begun-marks r e more =
-      marked-like r (gather heldOf now ++ updatesOf this) (gather heldOf (set now i (begun this))) same
-      (marked-more m r (gather heldOf now) (updatesOf this) (p .marks) more)
+      marked-like r (gather heldOf now ++ entryUpdates this) (gather heldOf (set now i (begun this))) same
+      (marked-more m r (gather heldOf now) (entryUpdates this) (p .marks) more)
     where
       a : List Update
       a = gather heldOf (take i now)
@@ -226,24 +226,24 @@ module _ (cells : ℕ → Cell) (before now : List Entry) (m : Marks) (ns : Numb
       was =
           ap (gather heldOf) (split-at now i pastEntry lt)
           ∙ gather-append heldOf (take i now) (this ∷ drop (suc i) now)
-          ∙ ap (λ (t : Bool). a ++ (cond t (updatesOf this) [] ++ b)) e
+          ∙ ap (λ (t : Bool). a ++ (cond t (entryUpdates this) [] ++ b)) e
 
-      is : gather heldOf (set now i (begun this)) ≡ a ++ (updatesOf this ++ b)
+      is : gather heldOf (set now i (begun this)) ≡ a ++ (entryUpdates this ++ b)
       is = ap (gather heldOf) (set-split now i (begun this) lt) ∙ gather-append heldOf (take i now) (begun this ∷ drop (suc i) now)
 
       turn : (x y z : Bool) → (x || y || z) ≡ (x || (z || y))
       turn x y z = or-assoc x y z ∙ ap (λ (t : Bool). x || t) (or-comm y z)
 
-      same : (q : Update → Bool) → any q (gather heldOf now ++ updatesOf this) ≡ any q (gather heldOf (set now i (begun this)))
+      same : (q : Update → Bool) → any q (gather heldOf now ++ entryUpdates this) ≡ any q (gather heldOf (set now i (begun this)))
       same q =
-          any-append q (gather heldOf now) (updatesOf this)
-          ∙ ap (λ (l : List Update). any q l || any q (updatesOf this)) was
-          ∙ ap (λ (t : Bool). t || any q (updatesOf this)) (any-append q a b)
-          ∙ turn (any q a) (any q b) (any q (updatesOf this))
-          ∙ sym (ap (any q) is ∙ any-append q a (updatesOf this ++ b) ∙ ap (λ (t : Bool). any q a || t) (any-append q (updatesOf this) b))
+          any-append q (gather heldOf now) (entryUpdates this)
+          ∙ ap (λ (l : List Update). any q l || any q (entryUpdates this)) was
+          ∙ ap (λ (t : Bool). t || any q (entryUpdates this)) (any-append q a b)
+          ∙ turn (any q a) (any q b) (any q (entryUpdates this))
+          ∙ sym (ap (any q) is ∙ any-append q a (entryUpdates this ++ b) ∙ ap (λ (t : Bool). any q a || t) (any-append q (entryUpdates this) b))
 
-  step-yes : (r : Marks) (ks : Numbers) → startsBy cells m (operationOf this) ≡ true → More r m (updatesOf this)
-      → IsNumbers ks (numbersOf ns ++ (this .id ∷ [])) → ks .count ≡ ns .count + 1 → Passed cells before (set now i (begun this)) r ks (i + 1)
+  step-yes : (r : Marks) (ks : Numbers) → startsBy cells m (operationOf this) ≡ true → More r m (entryUpdates this)
+      → IsNumbers ks (numbersOf ns ++ (this .id ∷ [])) → ks .count ≡ ns .count + 1 → TriedTo cells before (set now i (begun this)) r ks (i + 1)
   unfolding operationOf
   step-yes r ks s more is n =
       let y = attempt-yes cells m (operationsOf (take i now)) (operationOf this) (operationsOf (drop (suc i) now)) marked-here (usable-history this here-usable) s in
@@ -252,13 +252,13 @@ module _ (cells : ℕ → Cell) (before now : List Entry) (m : Marks) (ns : Numb
       (omega (arith, p .few))
       (subst (λ (t : Bool). IsNumbers ks (numbersOf ns ++ cond (not t) (this .id ∷ []) [])) (sym f) is)
 
-  step-no : startsBy cells m (operationOf this) ≡ false → Passed cells before now m ns (i + 1)
+  step-no : startsBy cells m (operationOf this) ≡ false → TriedTo cells before now m ns (i + 1)
   unfolding operationOf
   step-no s =
-      subst (λ (l : List Entry). Passed cells before l m ns (i + 1)) (set-getD now i pastEntry)
+      subst (λ (l : List Entry). TriedTo cells before l m ns (i + 1)) (set-getD now i pastEntry)
       (step this m ns here-usable
       (sym (attempt-no cells m (operationsOf (take i now)) (operationOf this) (operationsOf (drop (suc i) now)) marked-here (usable-history this here-usable) s))
-      (subst (λ (l : List Entry). Marked m (gather heldOf l)) (sym (set-getD now i pastEntry)) (p .marks))
+      (subst (λ (l : List Entry). MarksOf m (gather heldOf l)) (sym (set-getD now i pastEntry)) (p .marks))
       (omega (arith, p .few))
       (record {
         few = p .ready .few;
@@ -269,7 +269,7 @@ module _ (cells : ℕ → Cell) (before now : List Entry) (m : Marks) (ns : Numb
 -- ### The pass over an array of entries: x is the one that is tried
 
 module _ (cells : ℕ → Cell) (es₀ es : List Entry) (n : ℕ) (m : Marks) (ns : Numbers) (i : ℕ) (x : Entry) (read : x ≡ getD es i pastEntry)
-    (p : Passed cells (take n es₀) (take n es) m ns i) (lt : i < n) (fit : n ≤ length es) where
+    (p : TriedTo cells (take n es₀) (take n es) m ns i) (lt : i < n) (fit : n ≤ length es) where
   inside : i < length (take n es)
   inside = omega (arith, length-take n es)
 
@@ -279,23 +279,23 @@ module _ (cells : ℕ → Cell) (es₀ es : List Entry) (n : ℕ) (m : Marks) (n
   pub tried-usable : UsableEntry x
   tried-usable = subst UsableEntry at (here-usable cells (take n es₀) (take n es) m ns i p inside)
 
-  pub passed-yes : (r : Marks) (ks : Numbers) → startsBy cells m (operationOf x) ≡ true → More r m (updatesOf x)
+  pub passed-yes : (r : Marks) (ks : Numbers) → startsBy cells m (operationOf x) ≡ true → More r m (entryUpdates x)
       → IsNumbers ks (numbersOf ns ++ (x .id ∷ [])) → ks .count ≡ ns .count + 1
-      → Passed cells (take n es₀) (take n (set es i (begun (getD es i pastEntry)))) r ks (i + 1)
+      → TriedTo cells (take n es₀) (take n (set es i (begun (getD es i pastEntry)))) r ks (i + 1)
   passed-yes r ks s more is c =
-      subst (λ (l : List Entry). Passed cells (take n es₀) l r ks (i + 1))
+      subst (λ (l : List Entry). TriedTo cells (take n es₀) l r ks (i + 1))
       (ap (λ (y : Entry). set (take n es) i (begun y)) (at ∙ read) ∙ sym (take-set-lt n es i (begun (getD es i pastEntry)) lt))
       (step-yes cells (take n es₀) (take n es) m ns i p inside r ks
       (ap (λ (y : Entry). startsBy cells m (operationOf y)) at ∙ s)
-      (subst (λ (y : Entry). More r m (updatesOf y)) (sym at) more)
+      (subst (λ (y : Entry). More r m (entryUpdates y)) (sym at) more)
       (subst (λ (y : Entry). IsNumbers ks (numbersOf ns ++ (y .id ∷ []))) (sym at) is) c)
 
-  pub passed-no : startsBy cells m (operationOf x) ≡ false → Passed cells (take n es₀) (take n es) m ns (i + 1)
+  pub passed-no : startsBy cells m (operationOf x) ≡ false → TriedTo cells (take n es₀) (take n es) m ns (i + 1)
   passed-no s = step-no cells (take n es₀) (take n es) m ns i p inside (ap (λ (y : Entry). startsBy cells m (operationOf y)) at ∙ s)
 
 -- the end of the pass
 pub passed-all : (cells : ℕ → Cell) (l : List Entry) (m : Marks) (q : Queued) (ready : Numbers) (i : ℕ) → q .count ≤ 64 → length (q .entries) ≡ 64 → i ≡ q .count
-    → q .count ≡ length l → Passed cells l (queueOf q) m ready i → Tries cells l q ready
+    → q .count ≡ length l → TriedTo cells l (queueOf q) m ready i → Tries cells l q ready
 unfolding tryFromIn
 passed-all cells l m q ready i few long e n p = record {
   usable = record { few = few; long = long; each = p .each };
@@ -324,7 +324,7 @@ passed-all cells l m q ready i few long e n p = record {
 
 -- the same pass under other names
 pub passed-at : (cells : ℕ → Cell) (l es rs : List Entry) (n i : ℕ) (m r : Marks) (ns ks : Numbers) → r ≡ m → rs ≡ es → ks ≡ ns
-    → Passed cells l (take n es) m ns i → Passed cells l (take n rs) r ks i
+    → TriedTo cells l (take n es) m ns i → TriedTo cells l (take n rs) r ks i
 passed-at cells l es rs n i m r ns ks e f g p =
-    subst (λ (x : List Entry). Passed cells l (take n x) r ks i) (sym f)
-    (subst (λ (x : Marks). Passed cells l (take n es) x ks i) (sym e) (subst (λ (x : Numbers). Passed cells l (take n es) m x i) (sym g) p))
+    subst (λ (x : List Entry). TriedTo cells l (take n x) r ks i) (sym f)
+    (subst (λ (x : Marks). TriedTo cells l (take n es) x ks i) (sym e) (subst (λ (x : Numbers). TriedTo cells l (take n es) m x i) (sym g) p))

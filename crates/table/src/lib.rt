@@ -11,9 +11,9 @@ ghost use Rattle.rules.specs.State.{asks};
 ghost use Rattle.history.specs.Entries.{UsableEntry, cellsOf, operationOf, itemUpdate};
 ghost use Rattle.history.specs.Words.{historiesIn};
 ghost use Rattle.table.specs.Lists.{firstAt, IsNumbers};
-ghost use Rattle.table.specs.Arrays.{Says, rises, ceases};
+ghost use Rattle.table.specs.Arrays.{Tabulates, rises, ceases};
 ghost use Rattle.table.specs.Dones.{doneOf, UsableDone, UsableDones, IsDone, doneHasId, doneTouches, stampedTo, versionFrom};
-ghost use Rattle.table.specs.Tries.{updatesOf, heldOf, gather, Marked, More, freeBy, readyBy, startsBy, operationsOf, Tries};
+ghost use Rattle.table.specs.Tries.{entryUpdates, heldOf, gather, MarksOf, More, freeBy, readyBy, startsBy, operationsOf, Tries};
 ghost use Rattle.table.specs.Slots.{stored, storedDone, entriesIn};
 ghost use Rattle.table.specs.Queues.{queueOf, UsableQueue, IsQueue, hasId, isEntry, idOf, pastEntry, canRunEntry};
 use forms::ListWords;
@@ -21,8 +21,8 @@ use history::DoneEntry;
 use history::Entry;
 use history::Item;
 use history::book::BookWords;
-use history::book::counted;
 use history::book::history_at;
+use history::book::known_length;
 use history::is_next;
 use history::is_strong;
 use history::may_run;
@@ -68,7 +68,7 @@ pub fn push_number(list: &mut ListWords, n: usize, x: u64) -> usize
     ensures { λ r. ⌜ IsNumbers (listed r (now (list .exit))) (numbersOf (listed n (now (list .entry))) ++ (x ∷ [])) ⌝ }
     ensures { λ r. ⌜ r ≡ n + 1 ⌝ }
 {
-    counted(list);
+    known_length(list);
     list[n] = x;
     n + 1
 }
@@ -116,7 +116,7 @@ pub fn either(a: bool, b: bool) -> bool
 pub fn marked(m: Marks, e: Entry) -> Marks
     requires { ⌜ UsableEntry e ⌝ }
     requires { ⌜ (length (m .any) ≡ 16) × (length (m .strong) ≡ 16) ⌝ }
-    ensures { λ r. ⌜ More r m (updatesOf e) ⌝ }
+    ensures { λ r. ⌜ More r m (entryUpdates e) ⌝ }
 {
     let mut any = m.any;
     let mut strong = m.strong;
@@ -162,7 +162,7 @@ pub fn is_free(m: Marks, x: Item) -> bool
 // Whether each update of an operation may run and is not blocked.
 pub fn all_ready(book: &BookWords, m: Marks, e: Entry) -> bool
     requires { ⌜ UsableEntry e ⌝ }
-    ensures { λ r. ⌜ r ≡ all (readyBy (cellsOf (historiesIn (now (book .entry)))) m) (updatesOf e) ⌝ }
+    ensures { λ r. ⌜ r ≡ all (readyBy (cellsOf (historiesIn (now (book .entry)))) m) (entryUpdates e) ⌝ }
 {
     let n = e.count;
     let mut i = 0;
@@ -270,7 +270,7 @@ impl Queue {
         requires { ⌜ UsableQueue (stored self (now words)) ⌝ }
         ensures { λ r. ⌜ IsNumbers (listed r (now (list .exit))) (map idOf (queueOf (stored self (now (words .entry))))) ⌝ }
     {
-        counted(list);
+        known_length(list);
         let n = self.count;
         let mut count: usize = 0;
         let mut i = 0;
@@ -284,7 +284,7 @@ impl Queue {
     // Which histories the entries' updates are in.
     pub fn touched(self, words: &QueueWords) -> [bool; 16]
         requires { ⌜ UsableQueue (stored self (now words)) ⌝ }
-        ensures { λ r. ⌜ Says false r (λ (h : ℕ). any (asks h) (operationsOf (queueOf (stored self (now (words .entry)))))) ⌝ }
+        ensures { λ r. ⌜ Tabulates false r (λ (h : ℕ). any (asks h) (operationsOf (queueOf (stored self (now (words .entry)))))) ⌝ }
     {
         let n = self.count;
         let mut m = Marks {
@@ -303,7 +303,7 @@ impl Queue {
     // The marks of what is in progress.
     pub fn marks(self, words: &QueueWords) -> Marks
         requires { ⌜ UsableQueue (stored self (now words)) ⌝ }
-        ensures { λ r. ⌜ Marked r (gather heldOf (queueOf (stored self (now (words .entry))))) ⌝ }
+        ensures { λ r. ⌜ MarksOf r (gather heldOf (queueOf (stored self (now (words .entry))))) ⌝ }
     {
         let n = self.count;
         let mut m = Marks {
@@ -340,7 +340,7 @@ impl Queue {
         requires { ⌜ UsableQueue (stored self (now words)) ⌝ }
         ensures { λ r. ⌜ Tries (cellsOf (historiesIn (now (book .entry)))) (queueOf (stored self (now (words .entry)))) (stored self (now (words .exit))) (listed r (now (list .exit))) ⌝ }
     {
-        counted(list);
+        known_length(list);
         let n = self.count;
         let mut m = self.marks(words);
         let mut ready: usize = 0;
@@ -361,7 +361,7 @@ impl Queue {
 // The marks with those of the histories of a done operation.
 pub fn touch(t: [bool; 16], e: DoneEntry) -> [bool; 16]
     requires { ⌜ UsableDone e ⌝ }
-    ensures { λ r. ⌜ Says false r (λ (h : ℕ). getD t h false || doneTouches h e) ⌝ }
+    ensures { λ r. ⌜ Tabulates false r (λ (h : ℕ). getD t h false || doneTouches h e) ⌝ }
 {
     let mut r = t;
     let n = e.count;
@@ -377,7 +377,7 @@ pub fn touch(t: [bool; 16], e: DoneEntry) -> [bool; 16]
 // The histories' versions after a done operation.
 pub fn stamp(versions: [u64; 16], e: DoneEntry) -> [u64; 16]
     requires { ⌜ UsableDone e ⌝ }
-    ensures { λ r. ⌜ Says 0 r (λ (h : ℕ). stampedTo h (getD versions h 0) e (e .count)) ⌝ }
+    ensures { λ r. ⌜ Tabulates 0 r (λ (h : ℕ). stampedTo h (getD versions h 0) e (e .count)) ⌝ }
 {
     let mut r = versions;
     let n = e.count;
@@ -395,7 +395,7 @@ pub fn rose(before: [u64; 16], after: [u64; 16], n: usize, list: &mut ListWords)
     requires { ⌜ n ≤ 16 ⌝ }
     ensures { λ r. ⌜ IsNumbers (listed r (now (list .exit))) (keep (rises before after) (below n)) ⌝ }
 {
-    counted(list);
+    known_length(list);
     let mut count: usize = 0;
     let mut h = 0;
     while h < n {
@@ -412,7 +412,7 @@ pub fn became_dry(before: [bool; 16], after: [bool; 16], n: usize, list: &mut Li
     requires { ⌜ n ≤ 16 ⌝ }
     ensures { λ r. ⌜ IsNumbers (listed r (now (list .exit))) (keep (ceases before after) (below n)) ⌝ }
 {
-    counted(list);
+    known_length(list);
     let mut count: usize = 0;
     let mut h = 0;
     while h < n {
@@ -480,7 +480,7 @@ impl DoneList {
     pub fn touched(self, words: &DoneWords, from: usize) -> [bool; 16]
         requires { ⌜ UsableDones (storedDone self (now words)) ⌝ }
         requires { ⌜ from ≤ self .count ⌝ }
-        ensures { λ r. ⌜ Says false r (λ (h : ℕ). any (doneTouches h) (drop from (doneOf (storedDone self (now (words .entry)))))) ⌝ }
+        ensures { λ r. ⌜ Tabulates false r (λ (h : ℕ). any (doneTouches h) (drop from (doneOf (storedDone self (now (words .entry)))))) ⌝ }
     {
         let n = self.count;
         let mut t = [false; 16];
@@ -505,7 +505,7 @@ impl DoneList {
         requires { ⌜ UsableDones (storedDone self (now words)) ⌝ }
         requires { ⌜ from ≤ to ⌝ }
         requires { ⌜ to ≤ self .count ⌝ }
-        ensures { λ r. ⌜ Says 0 r (λ (h : ℕ). versionFrom h (getD versions h 0) (drop from (take to (doneOf (storedDone self (now (words .entry))))))) ⌝ }
+        ensures { λ r. ⌜ Tabulates 0 r (λ (h : ℕ). versionFrom h (getD versions h 0) (drop from (take to (doneOf (storedDone self (now (words .entry))))))) ⌝ }
     {
         let mut vs = versions;
         let mut i = from;

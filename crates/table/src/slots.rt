@@ -13,7 +13,7 @@ use forms::Version;
 use history::DoneEntry;
 use history::Entry;
 use history::Item;
-use history::book::counted;
+use history::book::known_length;
 use history::book::small_half;
 
 // 64 entries that are not done, of 23 words: id, whether it is in progress, count, and for each of four updates rule, history, version, place and operand.
@@ -124,7 +124,7 @@ fn put_item(words: &mut QueueWords, at: usize, x: Item)
     requires { ⌜ at + 5 ≤ 1472 ⌝ }
     ensures { λ r. ⌜ PutItem at x (now (words .entry)) (now (words .exit)) ⌝ }
 {
-    counted(words);
+    known_length(words);
     let rule = x.rule;
     words[at] = rule_number(rule);
     words[at + 1] = x.history as u64;
@@ -138,7 +138,7 @@ pub fn put_entry(words: &mut QueueWords, i: usize, e: Entry)
     requires { ⌜ i < 64 ⌝ }
     ensures { λ r. ⌜ entriesIn (now (words .exit)) ≡ set (entriesIn (now (words .entry))) i e ⌝ }
 {
-    counted(words);
+    known_length(words);
     let at = i * 23;
     let items = e.items;
     words[at] = e.id;
@@ -155,7 +155,7 @@ pub fn start_entry(words: &mut QueueWords, i: usize)
     requires { ⌜ i < 64 ⌝ }
     ensures { λ r. ⌜ entriesIn (now (words .exit)) ≡ set (entriesIn (now (words .entry))) i (begun (getD (entriesIn (now (words .entry))) i pastEntry)) ⌝ }
 {
-    counted(words);
+    known_length(words);
     words[i * 23 + 1] = 1;
 }
 
@@ -182,7 +182,7 @@ pub fn put_done(words: &mut DoneWords, i: usize, e: DoneEntry)
     requires { ⌜ i < 64 ⌝ }
     ensures { λ r. ⌜ donesIn (now (words .exit)) ≡ set (donesIn (now (words .entry))) i e ⌝ }
 {
-    counted(words);
+    known_length(words);
     let at = i * 10;
     words[at] = e.id;
     words[at + 1] = e.count as u64;

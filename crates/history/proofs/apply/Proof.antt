@@ -9,13 +9,13 @@ use Rattle.rules.specs.Book.{entered, enterAll}
 use Rattle.history.specs.declared.History.{History}
 use Rattle.history.specs.Entries.{cellOf, noItem, didOfEntry}
 use Rattle.history.specs.CellLaws.{Entered, low-place, entered-next}
-use Rattle.history.specs.Words.{historiesIn, Kept}
+use Rattle.history.specs.Words.{historiesIn, UnchangedOutside}
 use Rattle.history.specs.WordLaws.{histories-long, kept-then}
 use Rattle.history.proofs.apply.Statement.{statement}
 use Rattle.history.proofs.apply.Tie as tie
 
 abbrev Inv-loop : tie.InvT-loop
-Inv-loop book₀ n items i₀ book i = (i ≤ n) × Entered (historiesIn book₀) (historiesIn book) items i × Kept 0 48 book₀ book
+Inv-loop book₀ n items i₀ book i = (i ≤ n) × Entered (historiesIn book₀) (historiesIn book) items i × UnchangedOutside 0 48 book₀ book
 
 abbrev μ-loop : tie.MeasureT-loop
 μ-loop book₀ n items i₀ book i = n - i

@@ -1,6 +1,6 @@
 use lib.ListN.{take}
 use Rattle.forms.specs.Lists.{any}
-use Rattle.history.specs.Asking.{asked}
+use Rattle.history.specs.Asking.{askedPasses}
 use Rattle.history.specs.declared.AskedTest.the-variants.{Orders}
 use mathlib.Core.Path.{sym, ap, ap₂, _∙_}
 use mathlib.Core.Bool.{Bool, _&&_, not}
@@ -23,7 +23,7 @@ returns c =
 returns-2 : tie.Need-returns-2
 returns-2 c =
     let h = c .before .before .args .held in
-    sym (orders-by h ∙ ap (λ (a : Bool). a && not (any (asked Orders) (take (h .count) (h .first)))) (sym (c .before .some-asked .ensures) ∙ c .if1 .left))
+    sym (orders-by h ∙ ap (λ (a : Bool). a && not (any (askedPasses Orders) (take (h .count) (h .first)))) (sym (c .before .some-asked .ensures) ∙ c .if1 .left))
 
 pub nothing-orders-spec : {M : Type 1} → statement M
 nothing-orders-spec =

@@ -4,13 +4,13 @@ use mathlib.Core.Path.{_≡_, refl, sym, ap, _∙_}
 use mathlib.Core.Bool.{false}
 use lib.ListN.{take}
 use Rattle.forms.specs.Lists.{any}
-use Rattle.history.specs.Asking.{asked, noAsked}
+use Rattle.history.specs.Asking.{askedPasses, noAsked}
 use Rattle.history.specs.Tests.{any-next, any-hit}
 use Rattle.history.proofs.some_asked.Statement.{statement}
 use Rattle.history.proofs.some_asked.Tie as tie
 
 abbrev Inv-loop : tie.InvT-loop
-Inv-loop t k first i₀ i = (i ≤ k) × (any (asked t) (take i first) ≡ false)
+Inv-loop t k first i₀ i = (i ≤ k) × (any (askedPasses t) (take i first) ≡ false)
 
 abbrev μ-loop : tie.MeasureT-loop
 μ-loop t k first i₀ i = k - i
@@ -30,7 +30,7 @@ asked-test-requires c κs = tt
 returns : tie.Need-returns Inv-loop μ-loop
 returns c =
     let a = c .before .before .before .before .before .before .args in
-    sym (any-hit (asked (a .t)) (a .held .first) noAsked (c .before .before .before .before .loop .i) (a .k) (c .before .before .before .loop-test .taken)
+    sym (any-hit (askedPasses (a .t)) (a .held .first) noAsked (c .before .before .before .before .loop .i) (a .k) (c .before .before .before .loop-test .taken)
     (omega (arith, c .before .before .before .before .before .before .pre .0, c .before .before .before .before .before .before .pre .1))
     (sym (c .before .asked-test .ensures) ∙ c .if1 .taken))
 
@@ -44,7 +44,7 @@ loop-again : tie.Need-loop-again Inv-loop μ-loop
 loop-again c =
     let a = c .before .before .before .before .before .before .args in (
       omega arith,
-      any-next (asked (a .t)) (a .held .first) noAsked (c .before .before .before .before .loop .i)
+      any-next (askedPasses (a .t)) (a .held .first) noAsked (c .before .before .before .before .loop .i)
           (omega (arith, c .before .before .before .before .before .before .pre .0, c .before .before .before .before .before .before .pre .1))
           (c .before .before .before .before .loop .inv .1) (sym (c .before .asked-test .ensures) ∙ c .if1 .left),
     )
@@ -52,7 +52,7 @@ loop-again c =
 returns-2 : tie.Need-returns-2 Inv-loop μ-loop
 returns-2 c =
     let q : c .before .loop .i ≡ c .before .before .before .args .k = omega arith in
-    sym (ap (λ (n : ℕ). any (asked (c .before .before .before .args .t)) (take n (c .before .before .before .args .held .first))) (sym q)
+    sym (ap (λ (n : ℕ). any (askedPasses (c .before .before .before .args .t)) (take n (c .before .before .before .args .held .first))) (sym q)
     ∙ c .before .loop .inv .1)
 
 pub some-asked-spec : {M : Type 1} → statement M

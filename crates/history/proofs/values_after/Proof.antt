@@ -22,11 +22,11 @@ Inv-loop book e list₀ n i₀ list i = (i ≤ e .count) × (length list ≡ 64)
 abbrev μ-loop : tie.MeasureT-loop
 μ-loop book e list₀ n i₀ list i = n - i
 
-counted-requires : tie.Need-counted-requires Inv-loop μ-loop
-counted-requires c κs = tt
+known-length-requires : tie.Need-known-length-requires Inv-loop μ-loop
+known-length-requires c κs = tt
 
 loop-holds : tie.Need-loop-holds Inv-loop μ-loop
-loop-holds c = (omega arith, c .before .counted-arg2 .given .0, λ k h. absurd (let z : k < 0 = h in omega arith))
+loop-holds c = (omega arith, c .before .known-length-arg2 .given .0, λ k h. absurd (let z : k < 0 = h in omega arith))
 
 profile-at-requires : tie.Need-profile-at-requires Inv-loop μ-loop
 profile-at-requires c κs =
@@ -72,7 +72,7 @@ values-after-spec =
     (tie.spec
     Inv-loop
     μ-loop
-    counted-requires
+    known-length-requires
     loop-holds
     profile-at-requires
     mul-list

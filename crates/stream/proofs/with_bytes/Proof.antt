@@ -3,12 +3,12 @@ use Prim.Native.Nat.{_-_}
 use native.Mathlib.Omega.{arith}
 use lib.ListN.{length}
 use denote.Ref.{now}
-use Rattle.stream.specs.LineLaws.{Copied, copied-start, copied-more, begins-bytes, begins-above}
+use Rattle.stream.specs.LineLaws.{CopiedPart, copied-start, copied-more, begins-bytes, begins-above}
 use Rattle.stream.proofs.with_bytes.Statement.{statement}
 use Rattle.stream.proofs.with_bytes.Tie as tie
 
 abbrev Inv-loop : tie.InvT-loop
-Inv-loop b part n bytes₀ i₀ bytes i = Copied bytes₀ n part i bytes
+Inv-loop b part n bytes₀ i₀ bytes i = CopiedPart bytes₀ n part i bytes
 
 abbrev μ-loop : tie.MeasureT-loop
 μ-loop b part n bytes₀ i₀ bytes i = length part - i

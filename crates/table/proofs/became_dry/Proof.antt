@@ -8,18 +8,18 @@ use mathlib.Core.Bool.{_&&_}
 use lib.ListN.{length}
 use Rattle.forms.specs.Held.{listed}
 use Rattle.table.specs.Arrays.{ceases}
-use Rattle.table.specs.QueueLaws.{Kept, kept-none, kept-yes, kept-no, and-no}
+use Rattle.table.specs.QueueLaws.{KeptBelow, kept-none, kept-yes, kept-no, and-no}
 use Rattle.table.proofs.became_dry.Statement.{statement}
 use Rattle.table.proofs.became_dry.Tie as tie
 
 abbrev Inv-loop : tie.InvT-loop
-Inv-loop n list₀ before after count₀ h₀ list count h = (h ≤ n) × (n ≤ 16) × Kept (ceases before after) h (listed count list)
+Inv-loop n list₀ before after count₀ h₀ list count h = (h ≤ n) × (n ≤ 16) × KeptBelow (ceases before after) h (listed count list)
 
 abbrev μ-loop : tie.MeasureT-loop
 μ-loop n list₀ before after count₀ h₀ list count h = n - h
 
-counted-requires : tie.Need-counted-requires Inv-loop μ-loop
-counted-requires c κs = search needs
+known-length-requires : tie.Need-known-length-requires Inv-loop μ-loop
+known-length-requires c κs = search needs
 
 loop-holds : tie.Need-loop-holds Inv-loop μ-loop
 loop-holds c =
@@ -69,7 +69,7 @@ became-dry-spec =
     (tie.spec
     Inv-loop
     μ-loop
-    counted-requires
+    known-length-requires
     loop-holds
     array-read-if1
     array-read-if2

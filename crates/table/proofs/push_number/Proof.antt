@@ -7,8 +7,8 @@ use Rattle.table.specs.QueueLaws.{number-pushed}
 use Rattle.table.proofs.push_number.Statement.{statement}
 use Rattle.table.proofs.push_number.Tie as tie
 
-counted-requires : tie.Need-counted-requires
-counted-requires c κs = search needs
+known-length-requires : tie.Need-known-length-requires
+known-length-requires c κs = search needs
 
 mul-list : tie.Need-mul-list
 mul-list c = search needs
@@ -26,4 +26,4 @@ returns c =
     (number-pushed (listed (e .args .n) (now (e .args .list))) (e .args .x) long (e .pre), refl)
 
 pub push-number-spec : {M : Type 1} → statement M
-push-number-spec = tie.close (tie.spec counted-requires mul-list element-write-list add-result returns)
+push-number-spec = tie.close (tie.spec known-length-requires mul-list element-write-list add-result returns)

@@ -8,18 +8,18 @@ use lib.ListN.{length}
 use borrow.Author.Tests.{lt-ltb, le-ltb}
 use Rattle.forms.specs.Held.{listed}
 use Rattle.table.specs.Arrays.{rises}
-use Rattle.table.specs.QueueLaws.{Kept, kept-none, kept-yes, kept-no}
+use Rattle.table.specs.QueueLaws.{KeptBelow, kept-none, kept-yes, kept-no}
 use Rattle.table.proofs.rose.Statement.{statement}
 use Rattle.table.proofs.rose.Tie as tie
 
 abbrev Inv-loop : tie.InvT-loop
-Inv-loop n list₀ before after count₀ h₀ list count h = (h ≤ n) × (n ≤ 16) × Kept (rises before after) h (listed count list)
+Inv-loop n list₀ before after count₀ h₀ list count h = (h ≤ n) × (n ≤ 16) × KeptBelow (rises before after) h (listed count list)
 
 abbrev μ-loop : tie.MeasureT-loop
 μ-loop n list₀ before after count₀ h₀ list count h = n - h
 
-counted-requires : tie.Need-counted-requires Inv-loop μ-loop
-counted-requires c κs = search needs
+known-length-requires : tie.Need-known-length-requires Inv-loop μ-loop
+known-length-requires c κs = search needs
 
 loop-holds : tie.Need-loop-holds Inv-loop μ-loop
 loop-holds c =
@@ -72,7 +72,7 @@ rose-spec =
     (tie.spec
     Inv-loop
     μ-loop
-    counted-requires
+    known-length-requires
     loop-holds
     mul-if1
     array-read-if1

@@ -3,7 +3,7 @@ use native.Mathlib.Omega.{arith}
 use borrow.Author.Needs.{needs}
 use mathlib.Core.Path.{_≡_, refl}
 use lib.ListN.{getD}
-use Rattle.table.specs.Arrays.{Says}
+use Rattle.table.specs.Arrays.{Tabulates}
 use Rattle.table.specs.Dones.{stampedTo}
 use Rattle.table.specs.ArrayLaws.{says-itself}
 use Rattle.table.specs.DoneLaws.{stamp-next}
@@ -11,7 +11,7 @@ use Rattle.table.proofs.stamp.Statement.{statement}
 use Rattle.table.proofs.stamp.Tie as tie
 
 abbrev Inv-loop : tie.InvT-loop
-Inv-loop e r₀ n j₀ r j = (j ≤ n) × (n ≡ e .count) × Says 0 r (λ (h : ℕ). stampedTo h (getD r₀ h 0) e j)
+Inv-loop e r₀ n j₀ r j = (j ≤ n) × (n ≡ e .count) × Tabulates 0 r (λ (h : ℕ). stampedTo h (getD r₀ h 0) e j)
 
 abbrev μ-loop : tie.MeasureT-loop
 μ-loop e r₀ n j₀ r j = n - j

@@ -6,14 +6,14 @@ use mathlib.Core.Bool.{true, false, _||_, or-true, and-true}
 use lib.Dec.{eqb}
 use lib.ListN.{getD, take}
 use Rattle.forms.specs.Lists.{any}
-use Rattle.table.specs.Arrays.{Says}
+use Rattle.table.specs.Arrays.{Tabulates}
 use Rattle.table.specs.Dones.{doneTouches}
 use Rattle.table.specs.ArrayLaws.{says-start, says-next}
 use Rattle.table.proofs.touch.Statement.{statement}
 use Rattle.table.proofs.touch.Tie as tie
 
 abbrev Inv-loop : tie.InvT-loop
-Inv-loop e r₀ n j₀ r j = (j ≤ n) × (n ≡ e .count) × Says false r (λ (h : ℕ). getD r₀ h false || any (λ (k : ℕ). eqb k h) (take j (e .histories)))
+Inv-loop e r₀ n j₀ r j = (j ≤ n) × (n ≡ e .count) × Tabulates false r (λ (h : ℕ). getD r₀ h false || any (λ (k : ℕ). eqb k h) (take j (e .histories)))
 
 abbrev μ-loop : tie.MeasureT-loop
 μ-loop e r₀ n j₀ r j = n - j

@@ -12,11 +12,11 @@ Inv-loop words₀ i₀ words i = (i ≤ 80) × (length words ≡ 80) × Filled (
 abbrev μ-loop : tie.MeasureT-loop
 μ-loop words₀ i₀ words i = 80 - i
 
-counted-requires : tie.Need-counted-requires Inv-loop μ-loop
-counted-requires c κs = tt
+known-length-requires : tie.Need-known-length-requires Inv-loop μ-loop
+known-length-requires c κs = tt
 
 loop-holds : tie.Need-loop-holds Inv-loop μ-loop
-loop-holds c = (omega arith, c .before .counted-arg2 .given .0, λ k h. absurd (let z : k < 0 = h in omega arith))
+loop-holds c = (omega arith, c .before .known-length-arg2 .given .0, λ k h. absurd (let z : k < 0 = h in omega arith))
 
 mul-words : tie.Need-mul-words Inv-loop μ-loop
 mul-words c = omega arith
@@ -47,7 +47,7 @@ clear-spec =
     (tie.spec
     Inv-loop
     μ-loop
-    counted-requires
+    known-length-requires
     loop-holds
     mul-words
     element-write-words

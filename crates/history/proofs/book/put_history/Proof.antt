@@ -7,8 +7,8 @@ use borrow.Author.Needs.{needs}
 use Rattle.history.proofs.book.put_history.Statement.{statement}
 use Rattle.history.proofs.book.put_history.Tie as tie
 
-counted-requires : tie.Need-counted-requires
-counted-requires c κs = search needs
+known-length-requires : tie.Need-known-length-requires
+known-length-requires c κs = search needs
 
 cast-words : tie.Need-cast-words
 cast-words c = search needs
@@ -48,7 +48,7 @@ pub put-history-spec : {M : Type 1} → statement M
 put-history-spec =
     tie.close
     (tie.spec
-    counted-requires
+    known-length-requires
     cast-words
     mul-words
     element-write-words

@@ -2,23 +2,23 @@ use Prim.Native.Nat.{ℕ, _+_, _-_, _≤_, _<_}
 use native.Mathlib.Omega.{arith}
 use mathlib.Core.Path.{_≡_, refl, _∙_}
 use lib.ListN.{length, getD, length-set}
-use Rattle.history.specs.Words.{Kept}
+use Rattle.history.specs.Words.{UnchangedOutside}
 use Rattle.history.specs.WordLaws.{Filled, filled-next, kept-set, kept-wide, kept-then, row-is}
 use Rattle.history.proofs.book.put_row.Statement.{statement}
 use Rattle.history.proofs.book.put_row.Tie as tie
 
 abbrev Inv-loop : tie.InvT-loop
-Inv-loop words₀ at row i₀ words i = (i ≤ 16) × (length words ≡ 80) × Filled (λ (k : ℕ). at + k) (λ (k : ℕ). getD row k 0) i words × Kept at 16 words₀ words
+Inv-loop words₀ at row i₀ words i = (i ≤ 16) × (length words ≡ 80) × Filled (λ (k : ℕ). at + k) (λ (k : ℕ). getD row k 0) i words × UnchangedOutside at 16 words₀ words
 
 abbrev μ-loop : tie.MeasureT-loop
 μ-loop words₀ at row i₀ words i = 16 - i
 
-counted-requires : tie.Need-counted-requires Inv-loop μ-loop
-counted-requires c κs = tt
+known-length-requires : tie.Need-known-length-requires Inv-loop μ-loop
+known-length-requires c κs = tt
 
 loop-holds : tie.Need-loop-holds Inv-loop μ-loop
 loop-holds c =
-    let n = c .before .counted-arg2 .given .0 in
+    let n = c .before .known-length-arg2 .given .0 in
     (omega arith, n, (λ k h. absurd (let z : k < 0 = h in omega arith)), record { before = λ k h. refl; behind = λ k h. refl })
 
 mul-words : tie.Need-mul-words Inv-loop μ-loop
@@ -69,7 +69,7 @@ put-row-spec =
     (tie.spec
     Inv-loop
     μ-loop
-    counted-requires
+    known-length-requires
     loop-holds
     mul-words
     array-read-words

@@ -9,8 +9,8 @@ use Rattle.forms.specs.declared.Refusal.{Refusal}
 use Rattle.rules.specs.Calls.{addRefusal}
 use Rattle.history.specs.Asking.{verdictOf}
 use Rattle.table.specs.Slots.{stored}
-use Rattle.site.specs.Whole.{Sound}
-use Rattle.site.specs.Model.{lent, whole, view}
+use Rattle.site.specs.Representation.{Sound}
+use Rattle.site.specs.Model.{lent, represented, view}
 use Rattle.site.specs.ModelLaws.{refuses, does}
 use Rattle.site.specs.ShowLaws.{count-most}
 use Rattle.site.specs.Trim.{updatesHeld}
@@ -21,18 +21,18 @@ use borrow.Author.Needs.{needs}
 use Rattle.site.proofs.Site.add.Statement.{statement}
 use Rattle.site.proofs.Site.add.Tie as tie
 
--- what the rule book says of the operation
+-- what the specification says of the operation
 abbrev ruled : tie.After-add-refusal → Option Refusal
 ruled r =
     let a = r .before .before .before .before .before .before .before .before .before .before .args in
     addRefusal (a .id) (updatesHeld (a .asked)) (view (a .self) (lent (now (a .log)) (now (a .queued)) (now (a .done)) (now (a .book)) [] []))
 
--- what the checks said is what the rule book says
+-- what the checks said is what the specification says
 said : (r : tie.After-add-refusal) → r .add-refusal .result ≡ verdictOf (ruled r)
 said r =
     let e = r .before .before .before .before .before .before .before .before .before .before in
     let a = e .args in
-    let s = whole (a .self) (lent (now (a .log)) (now (a .queued)) (now (a .done)) (now (a .book)) [] []) in
+    let s = represented (a .self) (lent (now (a .log)) (now (a .queued)) (now (a .done)) (now (a .book)) [] []) in
     let waits = r .before .before .has-id .ensures in
     let stands = r .before .has-id2 .ensures in
     r .add-refusal .ensures _ (r .before .before .before .before .before .before .before .before .trimmed-asked .ensures .is)
@@ -79,7 +79,7 @@ entry-of-asked-requires : tie.Need-entry-of-asked-requires
 entry-of-asked-requires c κs =
     let e = c .before .before .before .before .before .before .before .before .before .before .before .before .before in
     let a = e .args in
-    let s = whole (a .self) (lent (now (a .log)) (now (a .queued)) (now (a .done)) (now (a .book)) [] []) in
+    let s = represented (a .self) (lent (now (a .log)) (now (a .queued)) (now (a .done)) (now (a .book)) [] []) in
     let t = c .before .before .before .before .before .before .before .before .before .before .before .trimmed-asked .ensures in
     passed-usable s (now (a .log)) (e .pre) (a .id) _ (free (c .before)) _ (t .is)
 
@@ -88,7 +88,7 @@ unfolding Sound
 push-requires c κs =
     let e = c .before .before .before .before .before .before .before .before .before .before .before .before .before .before in
     let a = e .args in
-    let s = whole (a .self) (lent (now (a .log)) (now (a .queued)) (now (a .done)) (now (a .book)) [] []) in
+    let s = represented (a .self) (lent (now (a .log)) (now (a .queued)) (now (a .done)) (now (a .book)) [] []) in
     let room = add-room s (now (a .log)) (e .pre) (a .id) _ (free (c .before .before)) in
     (e .pre .carries .usable, (room, (c .entry-of-asked .ensures .usable)))
 
@@ -115,7 +115,7 @@ returns-2 c =
     let e = r .before .before .before .before .before .before .before .before .before .before in
     let a = e .args in
     let m = lent (now (a .log)) (now (a .queued)) (now (a .done)) (now (a .book)) (now (a .first)) ys in
-    let s = whole (a .self) m in
+    let s = represented (a .self) m in
     let t = r .before .before .before .before .before .before .before .before .trimmed-asked .ensures in
     let le : a .id ≤ top = omega (arith, e .fits .id) in
     let f = free (c .before .before .before .before .before .before) in

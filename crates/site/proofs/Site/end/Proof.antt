@@ -1,8 +1,8 @@
 use denote.Ref.{now}
 use mathlib.Core.Path.{refl}
 use Rattle.forms.specs.declared.Refusal.the-variants.{OutOfTurn}
-use Rattle.site.specs.Whole.{Sound}
-use Rattle.site.specs.Model.{lent, whole}
+use Rattle.site.specs.Representation.{Sound}
+use Rattle.site.specs.Model.{lent, represented}
 use Rattle.site.specs.ModelLaws.{refuses, does}
 use Rattle.site.specs.EndLaws.{end-refused, end-does}
 use borrow.Author.Needs.{needs}
@@ -29,7 +29,7 @@ returns c =
     let ids = c .before .ids in
     let list = ids .last .1 .1 .0 in
     does (a .self) m _ _ (lent (m .log) (m .queue) (m .done) (m .book) list ys)
-    (end-does (whole (a .self) m) (now (a .log)) (e .pre) (c .before .before .before .before .if1 .taken)
+    (end-does (represented (a .self) m) (now (a .log)) (e .pre) (c .before .before .before .before .if1 .taken)
     _ (c .empty .ensures (now (a .queued))) _ ys (ids .ensures))
 
 returns-2 : tie.Need-returns-2
@@ -38,7 +38,7 @@ returns-2 c =
     let e = c .before .before .before in
     let a = e .args in
     let m = lent (now (a .log)) (now (a .queued)) (now (a .done)) (now (a .book)) (now (a .first)) ys in
-    refuses (a .self) m _ OutOfTurn _ (end-refused (whole (a .self) m) (now (a .log)) (c .before .if1 .left))
+    refuses (a .self) m _ OutOfTurn _ (end-refused (represented (a .self) m) (now (a .log)) (c .before .if1 .left))
     (c .refusal .ensures (now (a .first)) ys) refl
 
 pub end-spec : {M : Type 1} → statement M

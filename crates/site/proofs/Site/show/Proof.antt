@@ -5,7 +5,7 @@ use native.Mathlib.Omega.{arith}
 use Rattle.forms.specs.Decimal.{top}
 use Rattle.forms.specs.declared.Refusal.the-variants.{NoSuchHistory}
 use Rattle.history.specs.WordLaws.{row-in}
-use Rattle.site.specs.Model.{lent, whole}
+use Rattle.site.specs.Model.{lent, represented}
 use Rattle.site.specs.ModelLaws.{refuses, does}
 use Rattle.site.specs.ShowLaws.{count-most, show-refused, show-does}
 use borrow.Author.Needs.{needs}
@@ -22,7 +22,7 @@ returns c =
     let a = e .args in
     let m = lent (now (a .log)) (now (a .queued)) (now (a .done)) (now (a .book)) xs ys in
     let le : a .h ≤ top = omega (arith, e .fits .h) in
-    refuses (a .self) m _ NoSuchHistory _ (show-refused (whole (a .self) m) (now (a .log)) (a .h) le (c .before .if1 .taken))
+    refuses (a .self) m _ NoSuchHistory _ (show-refused (represented (a .self) m) (now (a .log)) (a .h) le (c .before .if1 .taken))
     (c .refusal .ensures xs ys) refl
 
 -- A history that there is, is one of sixteen.
@@ -64,7 +64,7 @@ returns-2 c =
     let m = lent (now (a .log)) (now (a .queued)) (now (a .done)) book xs ys in
     let few-h = few i in
     does (a .self) m _ _ m
-    (show-does (whole (a .self) m) (now (a .log)) (a .h) (e .pre) (omega (arith, e .fits .h)) (i .if1 .left)
+    (show-does (represented (a .self) m) (now (a .log)) (a .h) (e .pre) (omega (arith, e .fits .h)) (i .if1 .left)
     _ (c .before .before .before .before .before .history-at .ensures) _ (sym (row-in 48 book (a .h) few-h))
     _ (sym (row-in 64 book (a .h) few-h)) xs ys)
 

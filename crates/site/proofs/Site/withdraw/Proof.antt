@@ -5,10 +5,10 @@ use mathlib.Core.Bool.{false}
 use mathlib.Core.List.{[]}
 use Rattle.forms.specs.declared.Refusal.the-variants.{WrongState, OutOfTurn}
 use Rattle.table.specs.Slots.{stored}
-use Rattle.site.specs.Whole.{Sound}
-use Rattle.site.specs.Model.{lent, whole}
+use Rattle.site.specs.Representation.{Sound}
+use Rattle.site.specs.Model.{lent, represented}
 use Rattle.site.specs.ModelLaws.{refuses, does}
-use Rattle.site.specs.MarkLaws.{marked}
+use Rattle.site.specs.MarkLaws.{marks-ordered}
 use Rattle.site.specs.WithdrawLaws.{withdraw-refused-turn, withdraw-refused-state, found-below, volatile-few, withdraw-does}
 use borrow.Author.Needs.{needs}
 use Rattle.site.proofs.Site.withdraw.Statement.{statement}
@@ -24,7 +24,7 @@ returns c =
     let a = e .args in
     let m = lent (now (a .log)) (now (a .queued)) (now (a .done)) (now (a .book)) (now (a .first)) ys in
     refuses (a .self) m _ OutOfTurn _
-    (withdraw-refused-turn (whole (a .self) m) (now (a .log)) (a .id) (omega (arith, e .fits .id)) (c .before .if1 .taken))
+    (withdraw-refused-turn (represented (a .self) m) (now (a .log)) (a .id) (omega (arith, e .fits .id)) (c .before .if1 .taken))
     (c .refusal .ensures (now (a .first)) ys) refl
 
 find-requires : tie.Need-find-requires
@@ -41,14 +41,14 @@ enum-known-at : tie.Need-enum-known-at
 enum-known-at c = search needs
 
 sub-from : tie.Need-sub-from
-sub-from c = marked _ _ (c .before .before .before .before .before .before .before .before .before .before .pre) .stable
+sub-from c = marks-ordered _ _ (c .before .before .before .before .before .before .before .before .before .before .pre) .stable
 
 busy-requires : tie.Need-busy-requires
 unfolding Sound
 busy-requires c κs =
     let e = c .before .before .before .before .before .before .before .before .before .before .before in
     let a = e .args in
-    let s = whole (a .self) (lent (now (a .log)) (now (a .queued)) (now (a .done)) (now (a .book)) [] []) in
+    let s = represented (a .self) (lent (now (a .log)) (now (a .queued)) (now (a .done)) (now (a .book)) [] []) in
     (e .pre .carries .usable, (e .pre .carries .finished .usable, volatile-few s (now (a .log)) (e .pre)))
 
 remove-requires : tie.Need-remove-requires
@@ -66,12 +66,12 @@ unfolding Sound
 busy-requires-2 c κs =
     let e = c .before .before .before .before .before .before .before .before .before .before .before .before .before .before .before in
     let a = e .args in
-    let s = whole (a .self) (lent (now (a .log)) (now (a .queued)) (now (a .done)) (now (a .book)) [] []) in
+    let s = represented (a .self) (lent (now (a .log)) (now (a .queued)) (now (a .done)) (now (a .book)) [] []) in
     (c .before .remove .ensures .usable, (e .pre .carries .finished .usable, volatile-few s (now (a .log)) (e .pre)))
 
 became-dry-requires : tie.Need-became-dry-requires
 became-dry-requires c κs =
-    marked _ _ (c .before .before .before .before .before .before .before .before .before .before .before .before .before .before .before .before .before .pre) .few
+    marks-ordered _ _ (c .before .before .before .before .before .before .before .before .before .before .before .before .before .before .before .before .before .pre) .few
 
 returns-2 : tie.Need-returns-2
 returns-2 c =
@@ -81,7 +81,7 @@ returns-2 c =
     let a = e .args in
     let m = lent (now (a .log)) (now (a .queued)) (now (a .done)) (now (a .book)) (now (a .first)) ys in
     refuses (a .self) m _ WrongState _
-    (withdraw-refused-state (whole (a .self) m) (now (a .log)) (a .id) (omega (arith, e .fits .id))
+    (withdraw-refused-state (represented (a .self) m) (now (a .log)) (a .id) (omega (arith, e .fits .id))
     (f .before .before .before .if1 .left) (sym (f .find .ensures) ∙ c .before .enum-told .given .1))
     (c .refusal2 .ensures (now (a .first)) ys) refl
 
@@ -98,7 +98,7 @@ returns-3 c =
     let dry = c .became-dry in
     let list = dry .last .1 .1 .1 .0 in
     does (a .self) m _ _ (lent (m .log) words (m .done) (m .book) list ys)
-    (withdraw-does (whole (a .self) m) (now (a .log)) (a .id) (f .at .given .0 .0) (e .pre) (omega (arith, e .fits .id))
+    (withdraw-does (represented (a .self) m) (now (a .log)) (a .id) (f .at .given .0 .0) (e .pre) (omega (arith, e .fits .id))
     (f .before .before .before .before .before .if1 .left) (sym (f .before .before .find .ensures) ∙ f .at .given .1)
     (stored (left .result) words) _ _ _ ys (left .ensures) (b .busy .ensures) (c .before .before .busy2 .ensures)
     (dry .ensures))

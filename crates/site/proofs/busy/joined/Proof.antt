@@ -2,13 +2,13 @@ use Prim.Native.Nat.{_-_, _≤_}
 use native.Mathlib.Omega.{arith}
 use mathlib.Core.Path.{refl}
 use mathlib.Core.Bool.{false}
-use Rattle.table.specs.Arrays.{Says}
+use Rattle.table.specs.Arrays.{Tabulates}
 use Rattle.site.specs.BusyLaws.{joinedTo, joined-none, joined-next, joined-all}
 use Rattle.site.proofs.busy.joined.Statement.{statement}
 use Rattle.site.proofs.busy.joined.Tie as tie
 
 abbrev Inv-loop : tie.InvT-loop
-Inv-loop a b r₀ h₀ r h = Says false r (joinedTo h a b) × (h ≤ 16)
+Inv-loop a b r₀ h₀ r h = Tabulates false r (joinedTo h a b) × (h ≤ 16)
 
 abbrev μ-loop : tie.MeasureT-loop
 μ-loop a b r₀ h₀ r h = 16 - h

@@ -1,28 +1,28 @@
 use mathlib.Core.Path.{refl}
 use Rattle.rules.specs.Checks.{check}
 use Rattle.history.specs.Asking.{verdictOf}
-use Rattle.site.specs.Seen.{conflicts}
+use Rattle.site.specs.CheckInputs.{conflictRefusal}
 use Rattle.site.proofs.seen.conflict.Statement.{statement}
 use Rattle.site.proofs.seen.conflict.Tie as tie
 
 returns : tie.Need-returns
-unfolding conflicts check verdictOf
+unfolding conflictRefusal check verdictOf
 returns c = rw (c .if1 .taken) refl
 
 returns-2 : tie.Need-returns-2
-unfolding conflicts check verdictOf
+unfolding conflictRefusal check verdictOf
 returns-2 c = rw (c .before .if1 .left, c .if2 .taken) refl
 
 returns-3 : tie.Need-returns-3
-unfolding conflicts check verdictOf
+unfolding conflictRefusal check verdictOf
 returns-3 c = rw (c .before .before .if1 .left, c .before .if2 .left, c .if3 .taken) refl
 
 returns-4 : tie.Need-returns-4
-unfolding conflicts check verdictOf
+unfolding conflictRefusal check verdictOf
 returns-4 c = rw (c .before .before .before .if1 .left, c .before .before .if2 .left, c .before .if3 .left, c .if4 .taken) refl
 
 returns-5 : tie.Need-returns-5
-unfolding conflicts check verdictOf
+unfolding conflictRefusal check verdictOf
 returns-5 c =
     rw (
       c .before .before .before .before .if1 .left,
@@ -34,7 +34,7 @@ returns-5 c =
     ) refl
 
 returns-6 : tie.Need-returns-6
-unfolding conflicts check verdictOf
+unfolding conflictRefusal check verdictOf
 returns-6 c =
     rw (
       c .before .before .before .before .if1 .left,

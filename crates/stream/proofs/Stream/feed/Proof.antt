@@ -5,7 +5,7 @@ use Prim.Native.Nat.{_-_, _<_}
 use native.Mathlib.Omega.{arith}
 use mathlib.Core.Path.{_≡_}
 use lib.ListN.{length}
-use Rattle.journal.specs.Model.{EndAt}
+use Rattle.log_reader.specs.Model.{EndAt}
 use Rattle.site.specs.Model.{lent}
 use Rattle.stream.specs.FeedLaws.{Along, along-start, along-fits, along-feeds, along-rest, line-printable, along-line}
 use borrow.Author.Needs.{needs}

@@ -5,7 +5,7 @@ use borrow.Author.Needs.{needs}
 use mathlib.Core.Path.{_≡_, sym, subst}
 use lib.ListN.{take, drop, getD}
 use Rattle.history.specs.declared.DoneEntry.{DoneEntry}
-use Rattle.table.specs.Arrays.{Says}
+use Rattle.table.specs.Arrays.{Tabulates}
 use Rattle.table.specs.Dones.{UsableDone, versionFrom, stampedTo}
 use Rattle.table.specs.Slots.{donesIn, storedDone}
 use Rattle.table.specs.DoneLaws.{done-at, advance-start, advance-end, advance-next}
@@ -14,7 +14,7 @@ use Rattle.table.proofs.DoneList.advance.Tie as tie
 
 abbrev Inv-loop : tie.InvT-loop
 Inv-loop words from to vs₀ i₀ vs i =
-    (from ≤ i) × (i ≤ to) × (to ≤ 64) × Says 0 vs (λ h. versionFrom h (getD vs₀ h 0) (drop from (take i (donesIn words))))
+    (from ≤ i) × (i ≤ to) × (to ≤ 64) × Tabulates 0 vs (λ h. versionFrom h (getD vs₀ h 0) (drop from (take i (donesIn words))))
 
 abbrev μ-loop : tie.MeasureT-loop
 μ-loop words from to vs₀ i₀ vs i = to - i
@@ -47,7 +47,7 @@ loop-again c =
     let l = c .before .before .before .loop in
     let b = c .before .before .before .before in
     let p = b .pre .0 in
-    let s = subst (λ (e : DoneEntry). Says 0 (c .stamp .result) (λ (h : ℕ). stampedTo h (getD (l .vs) h 0) e (e .count)))
+    let s = subst (λ (e : DoneEntry). Tabulates 0 (c .stamp .result) (λ (h : ℕ). stampedTo h (getD (l .vs) h 0) e (e .count)))
     (c .before .done-at .ensures) (c .stamp .ensures) in (
       omega arith,
       omega arith,

@@ -6,7 +6,7 @@ use mathlib.Core.Bool.{false, _||_}
 use lib.ListN.{take, drop, getD}
 use Rattle.forms.specs.Lists.{any}
 use Rattle.history.specs.declared.DoneEntry.{DoneEntry}
-use Rattle.table.specs.Arrays.{Says}
+use Rattle.table.specs.Arrays.{Tabulates}
 use Rattle.table.specs.Dones.{UsableDone, doneTouches}
 use Rattle.table.specs.Slots.{donesIn, storedDone}
 use Rattle.table.specs.ArrayLaws.{says-nothing}
@@ -16,7 +16,7 @@ use Rattle.table.proofs.DoneList.touched.Tie as tie
 
 abbrev Inv-loop : tie.InvT-loop
 Inv-loop words from n t₀ i₀ t i =
-    (from ≤ i) × (i ≤ n) × (n ≤ 64) × Says false t (λ h. any (doneTouches h) (drop from (take i (donesIn words))))
+    (from ≤ i) × (i ≤ n) × (n ≤ 64) × Tabulates false t (λ h. any (doneTouches h) (drop from (take i (donesIn words))))
 
 abbrev μ-loop : tie.MeasureT-loop
 μ-loop words from n t₀ i₀ t i = n - i
@@ -49,7 +49,7 @@ loop-again c =
     let l = c .before .before .before .loop in
     let b = c .before .before .before .before in
     let p = b .pre .0 in
-    let s = subst (λ (e : DoneEntry). Says false (c .touch .result) (λ (h : ℕ). getD (l .t) h false || doneTouches h e))
+    let s = subst (λ (e : DoneEntry). Tabulates false (c .touch .result) (λ (h : ℕ). getD (l .t) h false || doneTouches h e))
     (c .before .done-at .ensures) (c .touch .ensures) in (
       omega arith,
       omega arith,

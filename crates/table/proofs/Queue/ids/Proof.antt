@@ -20,8 +20,8 @@ Inv-loop words list₀ n count₀ i₀ list count i = (i ≤ n) × (n ≤ 64) ×
 abbrev μ-loop : tie.MeasureT-loop
 μ-loop words list₀ n count₀ i₀ list count i = n - i
 
-counted-requires : tie.Need-counted-requires Inv-loop μ-loop
-counted-requires c κs = search needs
+known-length-requires : tie.Need-known-length-requires Inv-loop μ-loop
+known-length-requires c κs = search needs
 
 loop-holds : tie.Need-loop-holds Inv-loop μ-loop
 loop-holds c =
@@ -62,4 +62,4 @@ returns c =
 pub ids-spec : {M : Type 1} → statement M
 ids-spec =
     tie.close
-    (tie.spec Inv-loop μ-loop counted-requires loop-holds id-at-requires push-number-requires add-i loop-less loop-again returns)
+    (tie.spec Inv-loop μ-loop known-length-requires loop-holds id-at-requires push-number-requires add-i loop-less loop-again returns)

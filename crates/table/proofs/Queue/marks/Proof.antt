@@ -4,7 +4,7 @@ use mathlib.Core.Path.{_≡_, sym, subst}
 use lib.ListN.{take}
 use Rattle.history.specs.declared.Entry.{Entry}
 use Rattle.history.specs.Entries.{UsableEntry}
-use Rattle.table.specs.Tries.{Marked, More, gather, heldOf}
+use Rattle.table.specs.Tries.{MarksOf, More, gather, heldOf}
 use Rattle.table.specs.Slots.{entriesIn, stored}
 use Rattle.table.specs.QueueLaws.{usable-at}
 use Rattle.table.specs.MarkLaws.{marked-start, marked-next}
@@ -12,7 +12,7 @@ use Rattle.table.proofs.Queue.marks.Statement.{statement}
 use Rattle.table.proofs.Queue.marks.Tie as tie
 
 abbrev Inv-loop : tie.InvT-loop
-Inv-loop words n m₀ i₀ m i = (i ≤ n) × (n ≤ 64) × Marked m (gather heldOf (take i (entriesIn words)))
+Inv-loop words n m₀ i₀ m i = (i ≤ n) × (n ≤ 64) × MarksOf m (gather heldOf (take i (entriesIn words)))
 
 abbrev μ-loop : tie.MeasureT-loop
 μ-loop words n m₀ i₀ m i = n - i

@@ -5,7 +5,7 @@ use lib.ListN.{take}
 use Rattle.history.specs.declared.Entry.{Entry}
 use Rattle.history.specs.Entries.{UsableEntry}
 use Rattle.table.specs.Queues.{queueOf}
-use Rattle.table.specs.Tries.{Marked, More, gather, updatesOf}
+use Rattle.table.specs.Tries.{MarksOf, More, gather, entryUpdates}
 use Rattle.table.specs.Slots.{entriesIn, stored}
 use Rattle.table.specs.QueueLaws.{usable-at}
 use Rattle.table.specs.MarkLaws.{marked-start, marked-next, touched-by}
@@ -13,13 +13,13 @@ use Rattle.table.proofs.Queue.touched.Statement.{statement}
 use Rattle.table.proofs.Queue.touched.Tie as tie
 
 abbrev Inv-loop : tie.InvT-loop
-Inv-loop words n m₀ i₀ m i = (i ≤ n) × (n ≤ 64) × Marked m (gather updatesOf (take i (entriesIn words)))
+Inv-loop words n m₀ i₀ m i = (i ≤ n) × (n ≤ 64) × MarksOf m (gather entryUpdates (take i (entriesIn words)))
 
 abbrev μ-loop : tie.MeasureT-loop
 μ-loop words n m₀ i₀ m i = n - i
 
 loop-holds : tie.Need-loop-holds Inv-loop μ-loop
-loop-holds c = (omega arith, c .pre .few, marked-start updatesOf (entriesIn (c .args .words .now)))
+loop-holds c = (omega arith, c .pre .few, marked-start entryUpdates (entriesIn (c .args .words .now)))
 
 entry-at-requires : tie.Need-entry-at-requires Inv-loop μ-loop
 entry-at-requires c κs = omega arith
@@ -45,8 +45,8 @@ loop-again c =
     let r = c .marked .result in (
       omega arith,
       l .inv .1,
-      marked-next updatesOf (entriesIn (c .before .before .before .before .args .words .now)) (l .m) r (l .i) (omega (arith, u .few, u .long)) (l .inv .2)
-          (subst (λ (e : Entry). More r (l .m) (updatesOf e)) (c .before .entry-at .ensures) (c .marked .ensures)),
+      marked-next entryUpdates (entriesIn (c .before .before .before .before .args .words .now)) (l .m) r (l .i) (omega (arith, u .few, u .long)) (l .inv .2)
+          (subst (λ (e : Entry). More r (l .m) (entryUpdates e)) (c .before .entry-at .ensures) (c .marked .ensures)),
     )
 
 returns : tie.Need-returns Inv-loop μ-loop

@@ -12,19 +12,19 @@ use Rattle.table.specs.Queues.{queueOf}
 use Rattle.table.specs.Slots.{entriesIn, stored}
 use Rattle.table.specs.SlotLaws.{entries-long}
 use Rattle.table.specs.QueueLaws.{no-numbers, queue-length}
-use Rattle.table.specs.TryLaws.{Passed, passed-none, tried-usable, passed-yes, passed-no, passed-all, passed-at}
+use Rattle.table.specs.TryLaws.{TriedTo, passed-none, tried-usable, passed-yes, passed-no, passed-all, passed-at}
 use Rattle.table.proofs.Queue.try_all.Statement.{statement}
 use Rattle.table.proofs.Queue.try_all.Tie as tie
 
 abbrev Inv-loop : tie.InvT-loop
 Inv-loop words₀ book list₀ n m₀ ready₀ i₀ words list m ready i =
-    (i ≤ n) × (n ≤ 64) × Passed (cellsOf (historiesIn book)) (take n (entriesIn words₀)) (take n (entriesIn words)) m (listed ready list) i
+    (i ≤ n) × (n ≤ 64) × TriedTo (cellsOf (historiesIn book)) (take n (entriesIn words₀)) (take n (entriesIn words)) m (listed ready list) i
 
 abbrev μ-loop : tie.MeasureT-loop
 μ-loop words₀ book list₀ n m₀ ready₀ i₀ words list m ready i = n - i
 
-counted-requires : tie.Need-counted-requires Inv-loop μ-loop
-counted-requires c κs = search needs
+known-length-requires : tie.Need-known-length-requires Inv-loop μ-loop
+known-length-requires c κs = search needs
 
 marks-requires : tie.Need-marks-requires Inv-loop μ-loop
 marks-requires c κs = c .before .before .before .before .pre
@@ -111,7 +111,7 @@ try-all-spec =
     (tie.spec
     Inv-loop
     μ-loop
-    counted-requires
+    known-length-requires
     marks-requires
     loop-holds
     entry-at-requires

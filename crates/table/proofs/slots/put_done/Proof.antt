@@ -11,14 +11,14 @@ use Rattle.table.proofs.slots.put_done.Statement.{statement}
 use Rattle.table.proofs.slots.put_done.Tie as tie
 use Rattle.table.proofs.slots.put_done.Reads as reads
 use Rattle.table.proofs.slots.put_done.Lts as lts
-use Rattle.history.proofs.book.counted.Reads as counted-reads
+use Rattle.history.proofs.book.known_length.Reads as known-length-reads
 
 -- each history of the entry is a byte
-bytes : (c : lts.Start (counted-reads.Asked, counted-reads.Learnt) reads.Pre reads.Post) (j : ℕ) → Fits w8 (getD (c .args .t3 .histories) j 0)
+bytes : (c : lts.Start (known-length-reads.Asked, known-length-reads.Learnt) reads.Pre reads.Post) (j : ℕ) → Fits w8 (getD (c .args .t3 .histories) j 0)
 bytes c j = search needs
 
-counted-requires : tie.Need-counted-requires
-counted-requires c κs = search needs
+known-length-requires : tie.Need-known-length-requires
+known-length-requires c κs = search needs
 
 mul-at : tie.Need-mul-at
 mul-at c = search needs
@@ -150,7 +150,7 @@ returns : tie.Need-returns
 returns c =
     let b = c .before .before .before .before .before .before .before .before .before .before .before in
     let a = b .args in
-    let n : length (now (a .words)) ≡ 640 = c .before .before .before .before .before .before .before .before .before .counted-arg2 .given .0 in
+    let n : length (now (a .words)) ≡ 640 = c .before .before .before .before .before .before .before .before .before .known-length-arg2 .given .0 in
     let p : length (a .t3 .histories) ≡ 4 = search needs in
     let q : length (a .t3 .versions) ≡ 4 = search needs in
     done-put (now (a .words)) (a .i) (a .t3) (b .pre) n p q (λ j. bytes b j .fits)
@@ -159,7 +159,7 @@ pub put-done-spec : {M : Type 1} → statement M
 put-done-spec =
     tie.close
     (tie.spec
-    counted-requires
+    known-length-requires
     mul-at
     mul-words
     element-write-words

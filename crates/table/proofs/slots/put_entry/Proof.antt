@@ -11,8 +11,8 @@ use borrow.Author.Needs.{needs}
 use Rattle.table.proofs.slots.put_entry.Statement.{statement}
 use Rattle.table.proofs.slots.put_entry.Tie as tie
 
-counted-requires : tie.Need-counted-requires
-counted-requires c κs = search needs
+known-length-requires : tie.Need-known-length-requires
+known-length-requires c κs = search needs
 
 mul-at : tie.Need-mul-at
 mul-at c = search needs
@@ -99,7 +99,7 @@ pub put-entry-spec : {M : Type 1} → statement M
 put-entry-spec =
     tie.close
     (tie.spec
-    counted-requires
+    known-length-requires
     mul-at
     mul-words
     element-write-words

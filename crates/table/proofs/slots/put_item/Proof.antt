@@ -8,8 +8,8 @@ use borrow.Author.Needs.{needs}
 use Rattle.table.proofs.slots.put_item.Statement.{statement}
 use Rattle.table.proofs.slots.put_item.Tie as tie
 
-counted-requires : tie.Need-counted-requires
-counted-requires c κs = search needs
+known-length-requires : tie.Need-known-length-requires
+known-length-requires c κs = search needs
 
 rule-number-requires : tie.Need-rule-number-requires
 rule-number-requires c κs = search needs
@@ -75,7 +75,7 @@ pub put-item-spec : {M : Type 1} → statement M
 put-item-spec =
     tie.close
     (tie.spec
-    counted-requires
+    known-length-requires
     rule-number-requires
     mul-words
     element-write-words

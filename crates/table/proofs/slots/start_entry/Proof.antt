@@ -8,8 +8,8 @@ use borrow.Author.Needs.{needs}
 use Rattle.table.proofs.slots.start_entry.Statement.{statement}
 use Rattle.table.proofs.slots.start_entry.Tie as tie
 
-counted-requires : tie.Need-counted-requires
-counted-requires c κs = search needs
+known-length-requires : tie.Need-known-length-requires
+known-length-requires c κs = search needs
 
 mul-words : tie.Need-mul-words
 mul-words c = search needs
@@ -33,4 +33,4 @@ returns c =
 pub start-entry-spec : {M : Type 1} → statement M
 start-entry-spec =
     tie.close
-    (tie.spec counted-requires mul-words add-words mul-words-2 element-write-words returns)
+    (tie.spec known-length-requires mul-words add-words mul-words-2 element-write-words returns)

@@ -1,0 +1,132 @@
+// Calls of a site without text, one round after the other: for measuring what a call costs.
+ghost use mathlib.Core.Path.{_≡_};
+ghost use mathlib.Core.List.{[], _∷_};
+ghost use Prim.Native.Nat.{_<_};
+ghost use lib.ListN.{length};
+ghost use Rattle.rules.specs.Calls.{openSite};
+ghost use Rattle.site.specs.Model.{lent, received, old, new, Valid};
+ghost use Rattle.site.specs.Trim.{updatesHeld};
+ghost use Rattle.c_api.specs.Rounds.{Reaches, incOf, workCalls, markCalls, roundCalls, Rounds};
+use forms::Asked;
+use forms::AskedHeld;
+use forms::ListWords;
+use forms::Rule;
+use forms::Version;
+use history::book::BookWords;
+use site::Site;
+use table::slots::DoneWords;
+use table::slots::QueueWords;
+
+// One update: part 0 of a history's profile becomes 7.
+fn asked_inc(history: u64, version: u64) -> AskedHeld
+    ensures { λ r. ⌜ updatesHeld r ≡ (incOf history version ∷ []) ⌝ }
+{
+    let a = Asked {
+        rule: Rule::Inc,
+        history,
+        version: Version(version),
+        operand: 7,
+    };
+    AskedHeld {
+        count: 1,
+        first: [a; 4],
+    }
+}
+
+// An operation is added and finished.
+fn one_operation(
+    site: Site,
+    log: &mut [u8],
+    queued: &mut QueueWords,
+    done: &mut DoneWords,
+    book: &mut BookWords,
+    first: &mut ListWords,
+    second: &mut ListWords,
+    id: u64,
+) -> Site
+    requires { ⌜ Valid site (received log queued done book) ⌝ }
+    ensures { λ r. ⌜ Reaches site (old log queued done book first second) (workCalls id) r
+        (new log queued done book first second) ⌝ }
+{
+    let asked = asked_inc(id % 4, id / 4 + 1);
+    let a = site.add(log, queued, done, book, first, id, asked);
+    let added = a.site;
+    let f = added.finish(log, queued, done, book, first, second, id);
+    f.site
+}
+
+// The first n operations become persistent and stable.
+fn mark(
+    site: Site,
+    log: &[u8],
+    queued: &QueueWords,
+    done: &mut DoneWords,
+    book: &mut BookWords,
+    first: &mut ListWords,
+    second: &mut ListWords,
+    n: u64,
+) -> Site
+    requires { ⌜ Valid site (received log queued done book) ⌝ }
+    ensures { λ r. ⌜ Reaches site (old log queued done book first second) (markCalls n) r
+        (lent (now (log .entry)) (now (queued .entry)) (now (done .exit)) (now (book .exit)) (now (first .exit)) (now (second .exit))) ⌝ }
+{
+    let p = site.persistent(log, queued, done, book, first, second, n);
+    let kept = p.site;
+    let s = kept.stable(log, queued, done, book, first, n);
+    s.site
+}
+
+// The operation with this id, and after every 32nd the marks.
+fn round(
+    site: Site,
+    log: &mut [u8],
+    queued: &mut QueueWords,
+    done: &mut DoneWords,
+    book: &mut BookWords,
+    first: &mut ListWords,
+    second: &mut ListWords,
+    id: u64,
+) -> Site
+    requires { ⌜ Valid site (received log queued done book) ⌝ }
+    requires { ⌜ id < 18446744073709551615 ⌝ }
+    ensures { λ r. ⌜ Reaches site (old log queued done book first second) (roundCalls id) r
+        (new log queued done book first second) ⌝ }
+{
+    let worked = one_operation(site, log, queued, done, book, first, second, id);
+    if id % 32 == 31 {
+        return mark(worked, log, queued, done, book, first, second, id + 1);
+    }
+    worked
+}
+
+// Opens a site of four histories, adds and finishes the operations with the ids below n, and gives the bytes of the log then in use.
+#[no_mangle]
+pub extern "C" fn site_add_and_finish(log: &mut [u8], n: u64) -> usize
+    ensures { λ r. ⌜ Rounds (openSite 4 (length (now (log .entry)))) n (now (log .entry)) r (now (log .exit)) ⌝ }
+{
+    let mut book = [0u64; 80];
+    let c = Site::open(log, &mut book, 4);
+    let mut site = c.site;
+    if site.count == 0 {
+        return 0;
+    }
+    let mut queued = [0u64; 1472];
+    let mut done = [0u64; 640];
+    let mut first = [0u64; 64];
+    let mut second = [0u64; 64];
+    let mut id: u64 = 0;
+    while id < n {
+        site = round(
+            site,
+            log,
+            &mut queued,
+            &mut done,
+            &mut book,
+            &mut first,
+            &mut second,
+            id,
+        );
+        id += 1;
+    }
+    site.used
+}

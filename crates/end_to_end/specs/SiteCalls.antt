@@ -1,0 +1,110 @@
+-- "The calls are the site's own, not the session's": the recovery claim of what the code's site does, by its contracts alone.
+-- Proved in SiteCallsLaws.
+use mathlib.Core.Path.{_≡_}
+use mathlib.Core.Bool.{Bool}
+use mathlib.Core.List.{List, [], _∷_, _++_}
+use mathlib.Core.List.{List·Memᴰ as Mem}
+use Prim.Native.Nat.{ℕ, _≤_, _<_}
+use lib.Dec.{T}
+use lib.ListN.{length, take}
+use Rattle.forms.specs.Forms.{Did, Answer, Ended, Shown}
+use Rattle.rules.specs.Book.{Cell, cell}
+use Rattle.rules.specs.Log.{didsText, logText}
+use Rattle.rules.specs.State.{State, Reply, refused, ok}
+use Rattle.rules.specs.Calls.{openSite, restart, Call, Show, Cut, End}
+use Rattle.rules.specs.Good.{didIds}
+use Rattle.recovery.specs.Claim.{counted, Fair, lostBy, came, Asked, Recovered}
+use Rattle.site.specs.declared.Site.{Site}
+use Rattle.site.specs.declared.CallResult.{CallResult}
+use Rattle.site.specs.OpenLaws.{blankSite}
+use Rattle.site.specs.Model.{Lent, view, Valid, AcceptedAs, Does, Steps}
+
+-- ### Calls of the code's site
+
+-- A site by value, and what the caller lends to it.
+pub record Memory : Type 0 where
+  pub site : Site
+  pub lent : Lent
+
+abbrev pub memory : Site → Lent → Memory
+memory s m = record { site = s; lent = m }
+
+-- the state that they are, and the invariant of the two
+abbrev pub stateIn : Memory → State
+stateIn x = view (x .site) (x .lent)
+
+abbrev pub ValidIn : Memory → Type 0
+ValidIn x = Valid (x .site) (x .lent)
+
+-- the bytes in use of the log buffer
+abbrev pub logIn : Memory → List ℕ
+logIn x = take (x .site .used) (x .lent .log)
+
+-- "Each call gets site and log as the last one left them, a refused one unchanged": where a restart into another buffer goes on.
+abbrev pub goesOnFrom : Reply → Memory → Memory → Memory
+goesOnFrom (refused q) old new = old
+goesOnFrom (ok st a) old new = new
+
+-- One call of the list, a transition: from the site and what is lent to it before the call, to those after it.
+pub data Transition (x : Memory) : Call → Memory → Type 0 where
+  -- a call that keeps its contract: add, finish, withdraw, persistent, stable, show, redo, end, and a cut that goes on in the same buffer
+  calls : (c : Call) (r : CallResult) (new : Lent) → Steps (x .site) (x .lent) c r new → Transition x c (memory (r .site) new)
+  -- "A cut in the list is a restart from them": the first k bytes of the log stand in another buffer; `Site::restart` keeps its contract
+  restarts : (k : ℕ) (buffer : Lent) (r : CallResult) (new : Lent) → k ≤ x .site .used → take k (buffer .log) ≡ take k (x .lent .log) →
+      Does blankSite buffer (restart (buffer .log) k) r new →
+      Transition x (Cut k (length (buffer .log))) (goesOnFrom (restart (buffer .log) k) x (memory (r .site) new))
+
+-- A list of calls, one after the other: an execution.
+pub data Execution : Memory → List Call → Memory → Type 0 where
+  none : (x : Memory) → Execution x [] x
+  next : {x y z : Memory} {c : Call} {cs : List Call} → Transition x c y → Execution y cs z → Execution x (c ∷ cs) z
+
+-- "The list starts at a site just opened, or restarted from any log that restart accepts": by the contracts of `Site::open` and
+-- `Site::restart`, with the number of did lines counted persistent there.
+pub data StartsSite : ℕ → Memory → Type 0 where
+  opens : (n : ℕ) (old : Lent) (r : CallResult) (new : Lent) (st : State) (a : Answer) →
+      Does blankSite old (openSite n (length (old .log))) r new → openSite n (length (old .log)) ≡ ok st a → StartsSite 0 (memory (r .site) new)
+  restarted : (k : ℕ) (old : Lent) (r : CallResult) (new : Lent) (st : State) (a : Answer) →
+      Does blankSite old (restart (old .log) k) r new → restart (old .log) k ≡ ok st a →
+      StartsSite (length (stateIn (memory (r .site) new) .log)) (memory (r .site) new)
+
+-- ### What the site shows
+
+-- The reply to a call c of the site, by its contract, whatever is handed back: this answer.
+abbrev pub AnswersCall : Memory → Call → Answer → Type 0
+AnswersCall x c a = (r : CallResult) (new : Lent) → Steps (x .site) (x .lent) c r new → (st : State) × AcceptedAs (x .lent) st a r new
+
+-- `show` replies version, place and profile of the cell.
+abbrev pub ShowsIn : Memory → ℕ → Cell → Type 0
+ShowsIn x h c = (persistent : ℕ) × (stable : ℕ) × AnswersCall x (Show h) (Shown h (c .version) persistent stable (c .place) (c .profile))
+
+-- What holds at the list's end: the claim, of the states that the site and what is lent to it are; and so of its bytes and replies.
+pub record RecoveredIn (before after : Memory) (lost : List Did) (chosen : Did → Bool) (lines : List (List ℕ)) (final : Memory)
+    : Type 0 where
+  pub claim : Recovered (stateIn before) (stateIn after) lost chosen lines (stateIn final)
+  -- the invariant, which every further call requires
+  pub valid : ValidIn final
+  -- the first log: the bytes in use just before the picked cut are the lines that it kept, and then the lost ones
+  pub firstBytes : logIn before ≡ logText (before .site .count) (stateIn after .log ++ lost)
+  -- (2) the bytes in use at the end are "the lines the picked cut kept, then each line that has run, once, byte for byte, and no more"
+  pub bytes : logIn final ≡ logText (before .site .count) (stateIn after .log) ++ didsText (claim .ran)
+  -- (3) "`end` would name the other chosen lines"
+  pub names : AnswersCall final End (Ended (didIds (claim .others)))
+  -- (4) "`show` of each history gives the book's profile, version and place"
+  pub shows : (h : ℕ) → h < before .site .count → ShowsIn final h (cell h (stateIn after .log ++ claim .fed))
+  -- (5) "if every lost line was chosen, also those just before the picked cut"
+  pub showsFirst : ((d : Did) → Mem d lost → T (chosen d)) → (h : ℕ) → h < before .site .count →
+      (c : Cell) × ShowsIn before h c × ShowsIn final h c
+
+-- Whatever calls are made of the code's site, each keeping its contract: if they are as 01's claim asks, then at the end the bytes of its
+-- log, what `show` replies and what `end` would reply are those that the claim says.
+abbrev pub SiteCallsClaim : Type 0
+SiteCallsClaim =
+    (m : ℕ) (start : Memory) → StartsSite m start →
+    (xs : List Call) (before : Memory) → Execution start xs before →
+    (k room : ℕ) (after : Memory) → Transition before (Cut k room) after →
+    (ys : List Call) (final : Memory) → Execution after ys final →
+    (chosen : Did → Bool) →
+    Fair (counted m xs (stateIn start)) k room (stateIn before) (stateIn after) →
+    Asked m (stateIn start) (λ a. xs ++ Cut k room ∷ a) ys (lostBy (stateIn before) (stateIn after)) chosen →
+    RecoveredIn before after (lostBy (stateIn before) (stateIn after)) chosen (came (xs ++ Cut k room ∷ ys) (stateIn start)) final

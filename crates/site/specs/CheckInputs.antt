@@ -1,0 +1,35 @@
+-- What the checks of an operation or of a did line read of a state, and the order of those that both have.
+use Prim.Native.Nat.{ℕ, _+_, _<_}
+use mathlib.Core.Path.{_≡_}
+use mathlib.Core.Bool.{Bool}
+use mathlib.Core.List.{List}
+use mathlib.Core.Option.{Option, none}
+use lib.ListN.{length}
+use Rattle.forms.specs.Lists.{sum}
+use Rattle.forms.specs.declared.Refusal.{Refusal}
+use Rattle.forms.specs.declared.Refusal.the-variants.{IdPending, AlreadyDone, ReadOvertaken, TableFull, NoRoom}
+use Rattle.rules.specs.Book.{cell}
+use Rattle.rules.specs.Checks.{check}
+use Rattle.rules.specs.State.{State, logBytes, lineBytes}
+use Rattle.rules.specs.Calls.{idPending, idDone, tableFull}
+use Rattle.history.specs.declared.History.{History}
+use Rattle.history.specs.Entries.{cellsOf}
+use Rattle.site.specs.declared.seen.CheckInputs.{CheckInputs}
+
+-- What was read is so in the state st, for the id i, and the histories hold its book.
+pub record Sees (x : CheckInputs) (hs : List History) (i : ℕ) (st : State) : Type 0 where
+  pub restoring : x .restoring ≡ st .restoring
+  pub count : x .count ≡ st .histories
+  pub pending : x .pending ≡ idPending i st
+  pub done : x .done ≡ idDone i st
+  pub full : x .full ≡ tableFull st
+  pub book : (h : ℕ) → h < 16 → cellsOf hs h ≡ cell h (st .log)
+
+-- So many bytes of the log buffer are neither in use nor reserved.
+abbrev pub LeavesLines : ℕ → State → Type 0
+LeavesLines n st = length (logBytes st) + sum lineBytes (st .waiting) + n ≡ st .room
+
+-- The refusals 7 to 12 in their order: an add has no 12, a redo no 9.
+unfoldable pub conflictRefusal : Bool → Bool → Bool → Bool → Bool → Option Refusal
+conflictRefusal pending done overtaken full short =
+    check pending IdPending (check done AlreadyDone (check overtaken ReadOvertaken (check full TableFull (check short NoRoom none))))

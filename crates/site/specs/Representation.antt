@@ -1,0 +1,95 @@
+-- The site with its tables, and the bytes of its log, as a state of the specification; and the invariant of the two.
+use Prim.Native.Nat.{ℕ, _≤_, _<_}
+use mathlib.Core.Path.{_≡_}
+use mathlib.Core.Bool.{Bool, true, false}
+use mathlib.Core.List.{List, [], map}
+use lib.ListN.{length, take, getD}
+use Rattle.forms.specs.Lists.{sum}
+use Rattle.forms.specs.Forms.{Did}
+use Rattle.forms.specs.declared.LogNumber.{LogNumber}
+use Rattle.rules.specs.Book.{cell}
+use Rattle.rules.specs.Log.{Journal, journal, noJournal, readLog}
+use Rattle.rules.specs.State.{Operation, State, logBytes, versionAt, liveDone, lineBytes}
+use Rattle.rules.specs.Good.{Good}
+use Rattle.history.specs.declared.History.{History}
+use Rattle.history.specs.Entries.{cellsOf, operationOf, didOfEntry, doneEntryOf}
+use Rattle.table.specs.Queues.{Queued, queueOf, UsableQueue}
+use Rattle.table.specs.Dones.{Finished, IsDone}
+
+-- A site, and the entries of its tables.
+pub record Representation : Type 0 where
+  pub count : ℕ
+  pub used : ℕ
+  pub done : LogNumber
+  pub persistent : LogNumber
+  pub stable : LogNumber
+  pub restoring : Bool
+  pub reserved : ℕ
+  pub histories : List History
+  pub persisted : List ℕ
+  pub stabilised : List ℕ
+  pub queue : Queued
+  pub finished : Finished
+
+-- ### The site as a state
+
+-- what stands in the queue: operations that are not done, or lines that wait
+abbrev pub pendingIn : Bool → Representation → List Operation
+pendingIn true s = []
+pendingIn false s = map operationOf (queueOf (s .queue))
+
+abbrev pub waitingIn : Bool → Representation → List Did
+waitingIn true s = map didOfEntry (queueOf (s .queue))
+waitingIn false s = []
+
+abbrev pub didsIn : Journal → List Did
+didsIn (journal n log) = log
+didsIn noJournal = []
+
+-- The state that a site and the bytes of its log buffer are: the log is read off the bytes in use.
+abbrev pub stateOf : Representation → List ℕ → State
+stateOf s bytes =
+    record {
+      histories = s .count;
+      room = length bytes;
+      log = didsIn (readLog (take (s .used) bytes));
+      pending = pendingIn (s .restoring) s;
+      waiting = waitingIn (s .restoring) s;
+      persistentTo = s .persistent .0;
+      stableTo = s .stable .0;
+      restoring = s .restoring;
+    }
+
+-- ### The invariant
+
+-- The site carries the parts of the state st, whose log stands in the first bytes of the buffer.
+pub record Carries (s : Representation) (bytes : List ℕ) (st : State) : Type 0 where
+  pub within : s .used ≤ length bytes
+  pub text : take (s .used) bytes ≡ logBytes st
+  pub count : s .count ≡ st .histories
+  pub room : length bytes ≡ st .room
+  pub done : s .done .0 ≡ length (st .log)
+  pub persistent : s .persistent .0 ≡ st .persistentTo
+  pub stable : s .stable .0 ≡ st .stableTo
+  pub restoring : s .restoring ≡ st .restoring
+  pub pending : pendingIn (s .restoring) s ≡ st .pending
+  pub waiting : waitingIn (s .restoring) s ≡ st .waiting
+  pub reserved : s .reserved ≡ sum lineBytes (st .waiting)
+  pub historiesLong : length (s .histories) ≡ 16
+  pub book : (h : ℕ) → h < 16 → cellsOf (s .histories) h ≡ cell h (st .log)
+  pub persistedLong : length (s .persisted) ≡ 16
+  pub persisted : (h : ℕ) → h < 16 → getD (s .persisted) h 0 ≡ versionAt (st .persistentTo) h st
+  pub stabilisedLong : length (s .stabilised) ≡ 16
+  pub stabilised : (h : ℕ) → h < 16 → getD (s .stabilised) h 0 ≡ versionAt (st .stableTo) h st
+  pub usable : UsableQueue (s .queue)
+  -- done operations that are not yet stable, in log order
+  pub finished : IsDone (s .finished) (map doneEntryOf (liveDone st))
+
+-- The site holds the state st: it carries its parts, and st is one that calls reach.
+pub record Represents (s : Representation) (bytes : List ℕ) (st : State) : Type 0 where
+  pub carries : Carries s bytes st
+  pub good : Good st
+
+-- The invariant of a site and its log buffer: opening and restart establish it, and every call keeps it.
+unfoldable pub Sound : Representation → List ℕ → Type 0
+Sound s bytes = Represents s bytes (stateOf s bytes)
