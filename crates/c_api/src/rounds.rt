@@ -4,12 +4,13 @@ ghost use mathlib.Core.List.{[], _∷_};
 ghost use Prim.Native.Nat.{_<_};
 ghost use lib.ListN.{length};
 ghost use Rattle.rules.specs.Calls.{openSite};
-ghost use Rattle.site.specs.Model.{lent, received, old, new, Valid};
+ghost use Rattle.site.specs.Model.{received, old, new, Valid};
 ghost use Rattle.site.specs.Trim.{updatesHeld};
 ghost use Rattle.c_api.specs.Rounds.{Reaches, incOf, workCalls, markCalls, roundCalls, Rounds};
 use forms::Asked;
 use forms::AskedHeld;
-use forms::ListWords;
+use forms::LogNumber;
+use forms::ReplyNumbers;
 use forms::Rule;
 use forms::Version;
 use history::book::BookWords;
@@ -40,18 +41,17 @@ fn one_operation(
     queued: &mut QueueWords,
     done: &mut DoneWords,
     book: &mut BookWords,
-    first: &mut ListWords,
-    second: &mut ListWords,
+    lists: &mut ReplyNumbers,
     id: u64,
 ) -> Site
     requires { ⌜ Valid site (received log queued done book) ⌝ }
-    ensures { λ r. ⌜ Reaches site (old log queued done book first second) (workCalls id) r
-        (new log queued done book first second) ⌝ }
+    ensures { λ r. ⌜ Reaches site (old log queued done book lists) (workCalls id) r
+        (new log queued done book lists) ⌝ }
 {
     let asked = asked_inc(id % 4, id / 4 + 1);
-    let a = site.add(log, queued, done, book, first, id, asked);
+    let a = site.add(log, queued, done, book, lists, id, asked);
     let added = a.site;
-    let f = added.finish(log, queued, done, book, first, second, id);
+    let f = added.finish(log, queued, done, book, lists, id);
     f.site
 }
 
@@ -62,17 +62,16 @@ fn mark(
     queued: &QueueWords,
     done: &mut DoneWords,
     book: &mut BookWords,
-    first: &mut ListWords,
-    second: &mut ListWords,
+    lists: &mut ReplyNumbers,
     n: u64,
 ) -> Site
     requires { ⌜ Valid site (received log queued done book) ⌝ }
-    ensures { λ r. ⌜ Reaches site (old log queued done book first second) (markCalls n) r
-        (lent (now (log .entry)) (now (queued .entry)) (now (done .exit)) (now (book .exit)) (now (first .exit)) (now (second .exit))) ⌝ }
+    ensures { λ r. ⌜ Reaches site (old log queued done book lists) (markCalls n) r
+        (new log queued done book lists) ⌝ }
 {
-    let p = site.persistent(log, queued, done, book, first, second, n);
+    let p = site.persistent(log, queued, done, book, lists, LogNumber(n));
     let kept = p.site;
-    let s = kept.stable(log, queued, done, book, first, n);
+    let s = kept.stable(log, queued, done, book, lists, LogNumber(n));
     s.site
 }
 
@@ -83,18 +82,17 @@ fn round(
     queued: &mut QueueWords,
     done: &mut DoneWords,
     book: &mut BookWords,
-    first: &mut ListWords,
-    second: &mut ListWords,
+    lists: &mut ReplyNumbers,
     id: u64,
 ) -> Site
     requires { ⌜ Valid site (received log queued done book) ⌝ }
     requires { ⌜ id < 18446744073709551615 ⌝ }
-    ensures { λ r. ⌜ Reaches site (old log queued done book first second) (roundCalls id) r
-        (new log queued done book first second) ⌝ }
+    ensures { λ r. ⌜ Reaches site (old log queued done book lists) (roundCalls id) r
+        (new log queued done book lists) ⌝ }
 {
-    let worked = one_operation(site, log, queued, done, book, first, second, id);
+    let worked = one_operation(site, log, queued, done, book, lists, id);
     if id % 32 == 31 {
-        return mark(worked, log, queued, done, book, first, second, id + 1);
+        return mark(worked, log, queued, done, book, lists, id + 1);
     }
     worked
 }
@@ -112,20 +110,10 @@ pub extern "C" fn site_add_and_finish(log: &mut [u8], n: u64) -> usize
     }
     let mut queued = [0u64; 1472];
     let mut done = [0u64; 640];
-    let mut first = [0u64; 64];
-    let mut second = [0u64; 64];
+    let mut lists = [0u64; 68];
     let mut id: u64 = 0;
     while id < n {
-        site = round(
-            site,
-            log,
-            &mut queued,
-            &mut done,
-            &mut book,
-            &mut first,
-            &mut second,
-            id,
-        );
+        site = round(site, log, &mut queued, &mut done, &mut book, &mut lists, id);
         id += 1;
     }
     site.used

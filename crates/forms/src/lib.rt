@@ -90,8 +90,8 @@ pub enum Refusal {
     Conflict,
 }
 
-// Room for a list of at most 64 numbers: ids, histories or profiles.
-pub type ListWords = [u64; LIVE];
+// Room for the lists of a reply, one behind the other: at most 4 profiles and 64 ids, or 16 histories and 16 histories.
+pub type ReplyNumbers = [u64; UPDATES + LIVE];
 
 // A history as `show` gives it.
 pub struct Shown {
@@ -118,8 +118,8 @@ pub enum ReplyForm {
     Ended,
 }
 
-// A reply: its form, and how many numbers the lists have that the form has, in their printed order. The numbers stand in arrays that are
-// lent. `outcomeOf` in specs/Held.antt says what it means.
+// A reply: its form, and how many numbers the lists have that the form has, in their printed order. The numbers stand in an array that
+// is lent, those of the second list behind those of the first. `outcomeOf` in specs/Held.antt says what it means.
 pub struct ReplyLine {
     pub form: ReplyForm,
     pub first: usize,

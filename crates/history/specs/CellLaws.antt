@@ -1,5 +1,5 @@
 -- Laws of tests and effects on cells: from arrays to the log, and from one book to another.
-use Prim.Native.Nat.{ℕ, _+_, _≤_, _<_}
+use Prim.Native.Nat.{ℕ, _+_, _≤_, _<_, _^_}
 use mathlib.Core.Path.{_≡_, refl, sym, ap, ap₂, _∙_}
 use mathlib.Core.Bool.{Bool, true, false, cond, _&&_, not}
 use mathlib.Core.List.{List, [], _∷_, _++_, map, map-append}
@@ -24,7 +24,7 @@ use Rattle.history.specs.declared.Item.{Item}
 use Rattle.history.specs.declared.Entry.{Entry}
 use Rattle.history.specs.declared.ItemTest.the-variants.{Waits, Stale, Ran, Overtaken}
 use Rattle.history.specs.Entries.{noHistory, cellOf, cellsOf, noItem, itemUpdate, itemChange, itemsOf, operationOf, didOfEntry, canRunIn, mayRunIn}
-use Rattle.history.specs.Cells.{itemTest, testIn, staleIn, alreadyDoneIn, readOvertakenIn, changeIn, lineIn, valuesIn, LowPlaces}
+use Rattle.history.specs.Cells.{itemTest, testIn, staleIn, alreadyDoneIn, readOvertakenIn, changeIn, lineIn, valuesIn}
 use Rattle.history.specs.Tests.{none-fails, all-map, any-map}
 
 -- ### The book of a log
@@ -152,11 +152,10 @@ module _ (hs₀ hs : List History) (items : List Item) (i : ℕ) where
   Entered = (h : ℕ) → h < 16 → cellsOf hs h ≡ enterAll h (changesTo i items) (cellsOf hs₀ h)
 
 module _ (hs₀ hs : List History) (items : List Item) (i : ℕ) (inv : Entered hs₀ hs items i) where
-  pub low-place : LowPlaces hs₀ → i ≤ 4 → (h : ℕ) → h < 16 → cellsOf hs h .place < 18446744073709551615
-  low-place low le h lt =
+  pub low-place : (h : ℕ) → h < 16 → cellsOf hs₀ h .place < 2 ^ 63 → i ≤ 4 → cellsOf hs h .place < 18446744073709551615
+  low-place h lt low le =
       let p : cellsOf hs h .place ≤ cellsOf hs₀ h .place + length (changesTo i items) = rw (inv h lt) (place-rises h (changesTo i items) (cellsOf hs₀ h)) in
-      let q = low h lt in
-      omega (arith, length-map (take i items) itemChange, length-take i items)
+      omega (arith, low, length-map (take i items) itemChange, length-take i items)
 
   module _ (y : History) (inside : i < length items) (long : length hs ≡ 16) (below : getD items i noItem .history < 16) where
     abbrev pub itemNow : Item

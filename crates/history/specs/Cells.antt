@@ -1,12 +1,11 @@
 -- What the specification asks of the book of a log, asked of the cells of an array of histories.
-use Prim.Native.Nat.{ℕ, _+_, _≤_, _<_, _^_}
+use Prim.Native.Nat.{ℕ, _+_, _<_, _^_}
 use mathlib.Core.Path.{_≡_}
 use mathlib.Core.Bool.{Bool, false, _&&_, not}
 use mathlib.Core.List.{List, map}
 use lib.Dec.{leb, ltb}
-use lib.ListN.{length}
+use lib.ListN.{length, getD}
 use Rattle.forms.specs.Forms.{Update, Change, Did}
-use Rattle.forms.specs.Held.{numbersOf, Numbers}
 use Rattle.rules.specs.Rules.{strong, ordered, ruleOf, loggedAs, versionAfter}
 use Rattle.rules.specs.Book.{Cell, runsAt, enterAll}
 use Rattle.rules.specs.State.{Operation}
@@ -15,7 +14,7 @@ use Rattle.history.specs.declared.Item.{Item}
 use Rattle.history.specs.declared.Entry.{Entry}
 use Rattle.history.specs.declared.ItemTest.{ItemTest}
 use Rattle.history.specs.declared.ItemTest.the-variants.{Waits, Stale, Ran, Overtaken}
-use Rattle.history.specs.Entries.{cellsOf, itemChange, operationOf, didOfEntry, UsableEntry}
+use Rattle.history.specs.Entries.{cellsOf, noItem, itemChange, operationOf, didOfEntry, UsableEntry}
 
 -- ### Tests of refusals
 
@@ -80,17 +79,12 @@ pub record Stamps (cells : ℕ → Cell) (e after : Entry) : Type 0 where
 unfoldable pub valuesIn : (ℕ → Cell) → List Update → List ℕ
 valuesIn cells us = map (λ (u : Update). cells (u .history) .profile) us
 
--- A list of numbers that can be written in a reply.
-pub record Values (ns : List ℕ) (r : Numbers) : Type 0 where
-  pub few : r .count ≤ 64
-  pub long : length (r .values) ≡ 64
-  pub numbers : numbersOf r ≡ ns
-
 -- ### Performing
 
--- Places that can rise: a log has far fewer changes.
-abbrev pub LowPlaces : List History → Type 0
-LowPlaces hs = (h : ℕ) → h < 16 → cellsOf hs h .place < 2 ^ 63
+-- Places that can rise, as a log has far fewer changes: those of the histories of an entry, and of history 0, which blank items name.
+pub record LowPlaces (hs : List History) (e : Entry) : Type 0 where
+  pub first : cellsOf hs 0 .place < 2 ^ 63
+  pub each : (i : ℕ) → i < e .count → cellsOf hs (getD (e .items) i noItem .history) .place < 2 ^ 63
 
 -- The histories after the changes of a line are what the book makes of them.
 pub record Applies (hs : List History) (e : Entry) (after : List History) : Type 0 where

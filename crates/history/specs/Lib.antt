@@ -8,3 +8,4 @@ pub mod AtLog
 pub mod AskingLaws
 pub mod Words
 pub mod WordLaws
+pub mod Lists

@@ -1,18 +1,18 @@
 -- Laws of values in words: lists made by index, what stays as it was when words are written, and the histories that stand in words.
-use Prim.Native.Nat.{ℕ, zero, suc, _+_, _≤_, _<_}
+use Prim.Native.Nat.{ℕ, zero, suc, _+_, _*_, _≤_, _<_}
 use native.Mathlib.Omega.{arith}
-use mathlib.Core.Path.{_≡_, refl, sym, ap, _∙_}
+use mathlib.Core.Path.{_≡_, refl, sym, ap, subst, _∙_}
 use mathlib.Core.Logic.{_⊎_, inl, inr}
 use mathlib.Core.Bool.{Bool, true, false}
 use mathlib.Core.List.{List, [], _∷_, _++_, map, map-append}
 use borrow.Author.Tests.{lt-ltb, ltb-true, ltb-false, eqb-true, eqb-false}
 use lib.Dec.{eqb, ltb}
-use lib.ListN.{length, getD, set, replicate, length-append, length-map, length-set, getD-replicate, List·getD-append}
-use lib.Seq.{ext-getD, getD-at, getD-set-same, getD-set-other}
+use lib.ListN.{length, getD, set, length-append, length-map, length-set, List·getD-append}
+use lib.Seq.{ext-getD, getD-at, getD-set-same, getD-set-other, drop-set-lt}
 use Rattle.forms.specs.Lists.{below}
 use Rattle.history.specs.declared.History.{History}
 use Rattle.history.specs.Entries.{noHistory}
-use Rattle.history.specs.Words.{within, UnchangedOutside, historyFrom, historiesIn, rowFrom, persistedIn, stabilisedIn, PutHistory, Blank, Copied}
+use Rattle.history.specs.Words.{within, UnchangedOutside, width, historyFrom, historiesIn, columnFrom, PastKept, MarksKept, PutHistory, PutColumn, PutFirst}
 
 -- a number below the limit
 pub within-of : (limit n : ℕ) → n < limit → within limit n ≡ n
@@ -21,7 +21,7 @@ within-of limit n h = rw (lt-ltb n limit h)
 
 -- ### Lists made by index
 
-below-long : (n : ℕ) → length (below n) ≡ n
+pub below-long : (n : ℕ) → length (below n) ≡ n
 unfolding below
 below-long zero = refl
 below-long (suc n) = let e = below-long n in omega (arith, length-append (below n) (n ∷ []))
@@ -121,134 +121,190 @@ unfolding historiesIn
 history-in ws i h = made-at (historyFrom ws) 16 i noHistory h
 
 -- a history, read field by field
-pub history-read : (ws : List ℕ) (i : ℕ) {p : ℕ} → p ≡ within 4294967296 (getD ws i 0)
-    → record { profile = p; version = record { 0 = getD ws (16 + i) 0 }; place = record { 0 = getD ws (32 + i) 0 } } ≡ historyFrom ws i
+pub history-read : (ws : List ℕ) (i : ℕ) {p : ℕ} → p ≡ within 4294967296 (getD ws (width * i) 0)
+    → record { profile = p; version = record { 0 = getD ws (width * i + 1) 0 }; place = record { 0 = getD ws (width * i + 2) 0 } } ≡ historyFrom ws i
 unfolding historyFrom
 history-read ws i e = rw e
 
-history-same : (old new : List ℕ) (i : ℕ) → i < 16 → Same 0 48 old new → historyFrom new i ≡ historyFrom old i
+-- the first three numbers of history i are the same
+pub history-same : (old new : List ℕ) (i : ℕ) → ((f : ℕ) → f < 3 → getD new (width * i + f) 0 ≡ getD old (width * i + f) 0) → historyFrom new i ≡ historyFrom old i
 unfolding historyFrom
-history-same old new i h s =
-    rw (
-      s i (omega arith) (omega arith),
-      s (16 + i) (omega arith) (omega arith),
-      s (32 + i) (omega arith) (omega arith),
-    )
+history-same old new i s =
+    let first : width * i + 0 ≡ width * i = omega arith in
+    let profile : getD new (width * i) 0 ≡ getD old (width * i) 0 = subst (λ (k : ℕ). getD new k 0 ≡ getD old k 0) first (s 0 (omega arith)) in
+    rw (profile, s 1 (omega arith), s 2 (omega arith))
 
--- words that agree hold the same histories
-pub histories-same : (old new : List ℕ) → Same 0 48 old new → historiesIn new ≡ historiesIn old
+-- .. of each history
+pub histories-same : (old new : List ℕ) → ((i f : ℕ) → i < 16 → f < 3 → getD new (width * i + f) 0 ≡ getD old (width * i + f) 0) → historiesIn new ≡ historiesIn old
 unfolding historiesIn
 histories-same old new s =
     made-is (historyFrom new) 16 noHistory (map (historyFrom old) (below 16)) (made-long (historyFrom old) 16)
-    (λ i h. history-same old new i h s ∙ sym (made-at (historyFrom old) 16 i noHistory h))
+    (λ i h. history-same old new i (λ f l. s i f h l) ∙ sym (made-at (historyFrom old) 16 i noHistory h))
 
--- a store behind the places
-pub histories-kept : {at n : ℕ} (old new : List ℕ) → UnchangedOutside at n old new → 48 ≤ at → historiesIn new ≡ historiesIn old
-histories-kept old new q h = histories-same old new (λ k l m. q .before k (omega arith))
+-- ### Columns
+
+pub column-long : (f : ℕ) (ws : List ℕ) → length (columnFrom f ws) ≡ 16
+unfolding columnFrom
+column-long f ws = made-long (λ (i : ℕ). getD ws (width * i + f) 0) 16
+
+pub column-in : (f : ℕ) (ws : List ℕ) (i : ℕ) → i < 16 → getD (columnFrom f ws) i 0 ≡ getD ws (width * i + f) 0
+unfolding columnFrom
+column-in f ws i h = made-at (λ (i : ℕ). getD ws (width * i + f) 0) 16 i 0 h
+
+-- A column is one that has these numbers.
+pub column-is : (f : ℕ) (ws l : List ℕ) → length l ≡ 16 → ((i : ℕ) → i < 16 → getD ws (width * i + f) 0 ≡ getD l i 0) → columnFrom f ws ≡ l
+unfolding columnFrom
+column-is f ws l long same = made-is (λ (i : ℕ). getD ws (width * i + f) 0) 16 0 l long same
+
+-- words that agree there have the same column
+pub column-same : (f : ℕ) (old new : List ℕ) → ((i : ℕ) → i < 16 → getD new (width * i + f) 0 ≡ getD old (width * i + f) 0) → columnFrom f new ≡ columnFrom f old
+column-same f old new s = column-is f new (columnFrom f old) (column-long f old) (λ i h. s i h ∙ sym (column-in f old i h))
+
+-- the versions of the histories are a column
+pub column-versions : (ws : List ℕ) (i : ℕ) → i < 16 → getD (columnFrom 1 ws) i 0 ≡ getD (historiesIn ws) i noHistory .version .0
+unfolding historyFrom
+column-versions ws i h = column-in 1 ws i h ∙ sym (ap (λ (x : History). x .version .0) (history-in ws i h))
+
+-- ### Stores
+
+pub marks-same : (ws : List ℕ) → MarksKept ws ws
+marks-same ws = record { persisted = refl; stabilised = refl }
+
+pub marks-then : {x y z : List ℕ} → MarksKept x y → MarksKept y z → MarksKept x z
+marks-then a b = record { persisted = b .persisted ∙ a .persisted; stabilised = b .stabilised ∙ a .stabilised }
+
+-- a store into a word of the first n histories
+pub past-set : (n : ℕ) (old ws : List ℕ) (k v : ℕ) → k < width * n → PastKept n old ws → PastKept n old (set ws k v)
+past-set n old ws k v h e = drop-set-lt (width * n) ws k v h ∙ e
 
 -- The three stores of a history.
 module _ (ws : List ℕ) (i : ℕ) (h : History) (low : i < 16) (long : length ws ≡ 80) (small : h .profile < 4294967296) where
   abbrev first : List ℕ
-  first = set ws i (h .profile)
+  first = set ws (width * i) (h .profile)
 
   abbrev second : List ℕ
-  second = set first (16 + i) (h .version .0)
+  second = set first (width * i + 1) (h .version .0)
 
   abbrev third : List ℕ
-  third = set second (32 + i) (h .place .0)
+  third = set second (width * i + 2) (h .place .0)
 
-  others : (k : ℕ) → (k ≡ i → ⊥) → (k ≡ 16 + i → ⊥) → (k ≡ 32 + i → ⊥) → getD third k 0 ≡ getD ws k 0
+  others : (k : ℕ) → (k ≡ width * i → ⊥) → (k ≡ width * i + 1 → ⊥) → (k ≡ width * i + 2 → ⊥) → getD third k 0 ≡ getD ws k 0
   others k a b c =
-      getD-set-other second (32 + i) k (h .place .0) 0 c
-      ∙ getD-set-other first (16 + i) k (h .version .0) 0 b
-      ∙ getD-set-other ws i k (h .profile) 0 a
+      getD-set-other second (width * i + 2) k (h .place .0) 0 c
+      ∙ getD-set-other first (width * i + 1) k (h .version .0) 0 b
+      ∙ getD-set-other ws (width * i) k (h .profile) 0 a
+
+  -- the numbers of another history, and the marks of any
+  elsewhere : (j f : ℕ) → f < width → ((j ≡ i → ⊥) ⊎ (3 ≤ f)) → getD third (width * j + f) 0 ≡ getD ws (width * j + f) 0
+  elsewhere j f l (inl ne) =
+      others (width * j + f) (λ (e : width * j + f ≡ width * i). ne (omega (arith, e, l)))
+      (λ (e : width * j + f ≡ width * i + 1). ne (omega (arith, e, l))) (λ (e : width * j + f ≡ width * i + 2). ne (omega (arith, e, l)))
+  elsewhere j f l (inr m) =
+      others (width * j + f) (λ (e : width * j + f ≡ width * i). omega (arith, e, l, m))
+      (λ (e : width * j + f ≡ width * i + 1). omega (arith, e, l, m)) (λ (e : width * j + f ≡ width * i + 2). omega (arith, e, l, m))
 
   written : historyFrom third i ≡ h
   unfolding historyFrom
   written =
-      let profile : getD third i 0 ≡ h .profile =
-      kept-set second (32 + i) (h .place .0) .before i (omega arith)
-      ∙ kept-set first (16 + i) (h .version .0) .before i (omega arith)
-      ∙ getD-set-same ws i (h .profile) 0 (omega (arith, long)) in
-      let version : getD third (16 + i) 0 ≡ h .version .0 =
-      kept-set second (32 + i) (h .place .0) .before (16 + i) (omega arith)
-      ∙ getD-set-same first (16 + i) (h .version .0) 0 (omega (arith, long, length-set ws i (h .profile))) in
-      let place : getD third (32 + i) 0 ≡ h .place .0 =
-      getD-set-same second (32 + i) (h .place .0) 0 (omega (arith, long, length-set ws i (h .profile), length-set first (16 + i) (h .version .0))) in
+      let profile : getD third (width * i) 0 ≡ h .profile =
+      kept-set second (width * i + 2) (h .place .0) .before (width * i) (omega arith)
+      ∙ kept-set first (width * i + 1) (h .version .0) .before (width * i) (omega arith)
+      ∙ getD-set-same ws (width * i) (h .profile) 0 (omega (arith, long)) in
+      let version : getD third (width * i + 1) 0 ≡ h .version .0 =
+      kept-set second (width * i + 2) (h .place .0) .before (width * i + 1) (omega arith)
+      ∙ getD-set-same first (width * i + 1) (h .version .0) 0 (omega (arith, long, length-set ws (width * i) (h .profile))) in
+      let place : getD third (width * i + 2) 0 ≡ h .place .0 =
+      getD-set-same second (width * i + 2) (h .place .0) 0
+      (omega (arith, long, length-set ws (width * i) (h .profile), length-set first (width * i + 1) (h .version .0))) in
       λ t. record {
         profile = (ap (within 4294967296) profile ∙ within-of 4294967296 (h .profile) small) t;
         version = record { 0 = version t };
         place = record { 0 = place t };
       }
 
-  unwritten : (j : ℕ) → j < 16 → (j ≡ i → ⊥) → historyFrom third j ≡ historyFrom ws j
-  unfolding historyFrom
-  unwritten j lt ne =
-      rw (
-        others j ne (λ (e : j ≡ 16 + i). omega (arith, e)) (λ (e : j ≡ 32 + i). omega (arith, e)),
-        others (16 + j) (λ (e : 16 + j ≡ i). omega (arith, e)) (λ (e : 16 + j ≡ 16 + i). ne (omega (arith, e))) (λ (e : 16 + j ≡ 32 + i). omega (arith, e)),
-        others (32 + j) (λ (e : 32 + j ≡ i). omega (arith, e)) (λ (e : 32 + j ≡ 16 + i). omega (arith, e)) (λ (e : 32 + j ≡ 32 + i). ne (omega (arith, e))),
-      )
-
   pub history-put : PutHistory i h ws third
   unfolding historiesIn
   history-put =
       record {
-        histories = made-set (historyFrom third) (historyFrom ws) 16 i h noHistory low written unwritten;
-        rest =
-            kept-then (kept-wide 0 48 (kept-set ws i (h .profile)) (omega arith) (omega arith))
-            (kept-then (kept-wide 0 48 (kept-set first (16 + i) (h .version .0)) (omega arith) (omega arith))
-            (kept-wide 0 48 (kept-set second (32 + i) (h .place .0)) (omega arith) (omega arith)));
+        histories =
+            made-set (historyFrom third) (historyFrom ws) 16 i h noHistory low written
+            (λ j lt ne. history-same ws third j (λ f l. elsewhere j f (omega arith) (inl ne)));
+        marks =
+            record {
+              persisted = column-same 3 ws third (λ j l. elsewhere j 3 (omega arith) (inr (omega arith)));
+              stabilised = column-same 4 ws third (λ j l. elsewhere j 4 (omega arith) (inr (omega arith)));
+            };
+        past =
+            λ n l.
+            past-set n ws second (width * i + 2) (h .place .0) (omega (arith, l))
+            (past-set n ws first (width * i + 1) (h .version .0) (omega (arith, l)) (past-set n ws ws (width * i) (h .profile) (omega (arith, l)) refl));
       }
 
--- ### Rows
+-- A column stored number after number: the first m are those of the row, and nothing else has changed.
+pub record Stored (f m : ℕ) (row old ws : List ℕ) : Type 0 where
+  pub long : length ws ≡ 80
+  pub done : (h : ℕ) → h < m → getD ws (width * h + f) 0 ≡ getD row h 0
+  pub rest : (g h : ℕ) → g < width → (g ≡ f → ⊥) → getD ws (width * h + g) 0 ≡ getD old (width * h + g) 0
+  pub past : (n : ℕ) → m ≤ n → PastKept n old ws
 
-pub row-long : (at : ℕ) (ws : List ℕ) → length (rowFrom at ws) ≡ 16
-unfolding rowFrom
-row-long at ws = made-long (λ (i : ℕ). getD ws (at + i) 0) 16
+pub stored-none : (f : ℕ) (row ws : List ℕ) → length ws ≡ 80 → Stored f 0 row ws ws
+stored-none f row ws long =
+    record { long = long; done = λ h l. absurd (let z : h < 0 = l in omega arith); rest = λ g h l ne. refl; past = λ n l. refl }
 
-pub row-in : (at : ℕ) (ws : List ℕ) (i : ℕ) → i < 16 → getD (rowFrom at ws) i 0 ≡ getD ws (at + i) 0
-unfolding rowFrom
-row-in at ws i h = made-at (λ (i : ℕ). getD ws (at + i) 0) 16 i 0 h
+pub stored-next : (f m : ℕ) (row old ws : List ℕ) → f < width → m < 16 → Stored f m row old ws → Stored f (m + 1) row old (set ws (width * m + f) (getD row m 0))
+stored-next f m row old ws few low s =
+    record {
+      long = length-set ws (width * m + f) (getD row m 0) ∙ s .long;
+      done =
+          filled-next (λ (h : ℕ). width * h + f) (λ (h : ℕ). getD row h 0) m ws (λ h l. omega (arith, l)) (omega (arith, few, low, s .long)) (s .done);
+      rest =
+          λ g h l ne.
+          getD-set-other ws (width * m + f) (width * h + g) (getD row m 0) 0 (λ (e : width * h + g ≡ width * m + f). ne (omega (arith, e, l, few)))
+          ∙ s .rest g h l ne;
+      past = λ n l. past-set n old ws (width * m + f) (getD row m 0) (omega (arith, l, few)) (s .past n (omega (arith, l)));
+    }
 
--- A row is one that has these numbers.
-pub row-is : (at : ℕ) (ws l : List ℕ) → length l ≡ 16 → ((i : ℕ) → i < 16 → getD ws (at + i) 0 ≡ getD l i 0) → rowFrom at ws ≡ l
-unfolding rowFrom
-row-is at ws l long same = made-is (λ (i : ℕ). getD ws (at + i) 0) 16 0 l long same
+pub stored-all : (f n : ℕ) (row old ws : List ℕ) → f < width → n ≤ 16 → Stored f n row old ws → PutColumn f n row old ws
+stored-all f n row old ws few le s =
+    record {
+      numbers = λ h l. column-in f ws h (omega (arith, l)) ∙ s .done h l;
+      others = λ g l ne. column-same g old ws (λ i m. s .rest g i l ne);
+      histories = λ m. histories-same old ws (λ i g _ l. s .rest g i (omega (arith, l)) (λ (e : g ≡ f). omega (arith, e, l, m)));
+      past = s .past n (omega arith);
+    }
 
--- words that agree have the same row
-pub row-same : (at : ℕ) (old new : List ℕ) → Same at 16 old new → rowFrom at new ≡ rowFrom at old
-row-same at old new s =
-    row-is at new (rowFrom at old) (row-long at old) (λ i h. s (at + i) (omega arith) (omega arith) ∙ sym (row-in at old i h))
+-- The words of the first histories, stored one after the other.
+pub record FirstStored (n : ℕ) (f : ℕ → ℕ) (i : ℕ) (old ws : List ℕ) : Type 0 where
+  pub long : length ws ≡ 80
+  pub done : Filled (λ (k : ℕ). k) f i ws
+  pub past : PastKept n old ws
 
-pub row-kept : (at : ℕ) {a n : ℕ} (old new : List ℕ) → UnchangedOutside a n old new → (at + 16 ≤ a) ⊎ (a + n ≤ at) → rowFrom at new ≡ rowFrom at old
-row-kept at old new q apart = row-same at old new (kept-same at 16 q apart)
+pub first-none : (n : ℕ) (f : ℕ → ℕ) (ws : List ℕ) → length ws ≡ 80 → FirstStored n f 0 ws ws
+first-none n f ws long = record { long = long; done = λ k h. absurd (let z : k < 0 = h in omega arith); past = refl }
 
--- what changes histories leaves the persistent and stable versions
-pub rows-kept : {old new : List ℕ} → UnchangedOutside 0 48 old new → (persistedIn new ≡ persistedIn old) × (stabilisedIn new ≡ stabilisedIn old)
-rows-kept {old} {new} q = (row-kept 48 old new q (inr (omega arith)), row-kept 64 old new q (inr (omega arith)))
+pub first-next : (n : ℕ) (f : ℕ → ℕ) (i : ℕ) (old ws : List ℕ) → i < width * n → n ≤ 16 → FirstStored n f i old ws → FirstStored n f (i + 1) old (set ws i (f i))
+first-next n f i old ws l le s =
+    record {
+      long = length-set ws i (f i) ∙ s .long;
+      done = filled-next (λ (k : ℕ). k) f i ws (λ k h. h) (omega (arith, s .long)) (s .done);
+      past = past-set n old ws i (f i) l (s .past);
+    }
 
--- the versions and the places of the histories are rows
-pub row-versions : (ws : List ℕ) (i : ℕ) → i < 16 → getD (rowFrom 16 ws) i 0 ≡ getD (historiesIn ws) i noHistory .version .0
-unfolding historyFrom
-row-versions ws i h = row-in 16 ws i h ∙ sym (ap (λ (x : History). x .version .0) (history-in ws i h))
+pub first-all : (n : ℕ) (f : ℕ → ℕ) (i : ℕ) (old ws : List ℕ) → width * n ≤ i → FirstStored n f i old ws → PutFirst n f old ws
+first-all n f i old ws le s = record { words = λ k h. s .done k (omega arith); past = s .past }
 
-pub row-places : (ws : List ℕ) (i : ℕ) → i < 16 → getD (rowFrom 32 ws) i 0 ≡ getD (historiesIn ws) i noHistory .place .0
-unfolding historyFrom
-row-places ws i h = row-in 32 ws i h ∙ sym (ap (λ (x : History). x .place .0) (history-in ws i h))
+-- ### Histories that are cleared or copied
 
--- ### Books of zeros, and copies
+-- the first histories have the numbers stored there
+pub first-history : (n : ℕ) (f : ℕ → ℕ) (old new from : List ℕ) → PutFirst n f old new → ((k : ℕ) → f k ≡ getD from k 0)
+    → (i : ℕ) → i < n → historyFrom new i ≡ historyFrom from i
+first-history n f old new from p same i l = history-same from new i (λ g m. p .words (width * i + g) (omega (arith, l, m)) ∙ same (width * i + g))
 
-pub blank-histories : (ws : List ℕ) → Blank ws → historiesIn ws ≡ replicate 16 noHistory
-unfolding historiesIn historyFrom within
-blank-histories ws z =
-    made-is (historyFrom ws) 16 noHistory (replicate 16 noHistory) refl (λ i h. none i h ∙ sym (getD-replicate 16 i noHistory noHistory h))
-  where
-    none : (i : ℕ) → i < 16 → historyFrom ws i ≡ noHistory
-    none i h = rw (z i (omega arith), z (16 + i) (omega arith), z (32 + i) (omega arith)) refl
+pub first-column : (n : ℕ) (f : ℕ → ℕ) (old new : List ℕ) → PutFirst n f old new → (g i : ℕ) → g < width → i < n → n ≤ 16 → getD (columnFrom g new) i 0 ≡ f (width * i + g)
+first-column n f old new p g i l h le = column-in g new i (omega arith) ∙ p .words (width * i + g) (omega (arith, h, l))
 
-pub blank-row : (at : ℕ) (ws : List ℕ) → Blank ws → at + 16 ≤ 80 → rowFrom at ws ≡ replicate 16 0
-blank-row at ws z room = row-is at ws (replicate 16 0) refl (λ i h. z (at + i) (omega arith) ∙ sym (getD-replicate 16 i 0 0 h))
-
-pub copied-histories : (from new : List ℕ) → Copied from new → historiesIn new ≡ historiesIn from
-copied-histories from new c = histories-same from new (λ k l m. c k (omega arith))
+-- a cleared history
+pub cleared-history : (n : ℕ) (old new : List ℕ) → PutFirst n (λ (k : ℕ). 0) old new → (i : ℕ) → i < n → n ≤ 16 → getD (historiesIn new) i noHistory ≡ noHistory
+unfolding historyFrom within
+cleared-history n old new p i l le =
+    history-in new i (omega arith) ∙ first-history n (λ (k : ℕ). 0) old new [] p (λ k. refl) i l

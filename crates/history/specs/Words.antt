@@ -1,13 +1,14 @@
 -- Histories in words: how the histories of a site, and their persistent and stable versions, stand in the array of numbers that is lent to it.
-use Prim.Native.Nat.{ℕ, _+_, _≤_, _<_}
+use Prim.Native.Nat.{ℕ, _+_, _*_, _≤_, _<_}
 use mathlib.Core.Path.{_≡_}
 use mathlib.Core.Bool.{cond}
 use mathlib.Core.List.{List, map}
 use lib.Dec.{ltb}
-use lib.ListN.{getD, set}
+use lib.ListN.{getD, set, drop}
 use Rattle.forms.specs.Lists.{below}
 use Rattle.history.specs.declared.History.{History}
 use Rattle.history.specs.declared.Entry.{Entry}
+use Rattle.history.specs.Entries.{InFirst}
 use Rattle.history.specs.Cells.{Applies}
 
 -- a number below a limit, and 0 for any other
@@ -21,46 +22,73 @@ pub record UnchangedOutside (at n : ℕ) (old new : List ℕ) : Type 0 where
 
 -- ### What the words mean
 
+-- How many numbers a history has: its profile, version and place, its persistent and its stable version. Those of history i begin at `width * i`.
+abbrev pub width : ℕ
+width = 5
+
 -- history i: its profile, its version and its place
 unfoldable pub historyFrom : List ℕ → ℕ → History
-historyFrom ws i = record { profile = within 4294967296 (getD ws i 0); version = record { 0 = getD ws (16 + i) 0 }; place = record { 0 = getD ws (32 + i) 0 } }
+historyFrom ws i =
+    record {
+      profile = within 4294967296 (getD ws (width * i) 0);
+      version = record { 0 = getD ws (width * i + 1) 0 };
+      place = record { 0 = getD ws (width * i + 2) 0 };
+    }
 
 -- The histories that stand in words.
 unfoldable pub historiesIn : List ℕ → List History
 historiesIn ws = map (historyFrom ws) (below 16)
 
--- The row of 16 numbers, one for each history, that begins at `at`.
-unfoldable pub rowFrom : ℕ → List ℕ → List ℕ
-rowFrom at ws = map (λ (i : ℕ). getD ws (at + i) 0) (below 16)
+-- Number f of each history.
+unfoldable pub columnFrom : ℕ → List ℕ → List ℕ
+columnFrom f ws = map (λ (i : ℕ). getD ws (width * i + f) 0) (below 16)
 
 -- each history's persistent and stable version
 abbrev pub persistedIn : List ℕ → List ℕ
-persistedIn ws = rowFrom 48 ws
+persistedIn ws = columnFrom 3 ws
 
 abbrev pub stabilisedIn : List ℕ → List ℕ
-stabilisedIn ws = rowFrom 64 ws
+stabilisedIn ws = columnFrom 4 ws
 
 -- ### What is written
+
+-- The words past those of the first n histories are as they were.
+abbrev pub PastKept : ℕ → List ℕ → List ℕ → Type 0
+PastKept n old new = drop (width * n) new ≡ drop (width * n) old
+
+-- The persistent and stable versions are as they were.
+pub record MarksKept (old new : List ℕ) : Type 0 where
+  pub persisted : persistedIn new ≡ persistedIn old
+  pub stabilised : stabilisedIn new ≡ stabilisedIn old
 
 -- History i is h now; the other histories, and the persistent and stable versions, are as they were.
 pub record PutHistory (i : ℕ) (h : History) (old new : List ℕ) : Type 0 where
   pub histories : historiesIn new ≡ set (historiesIn old) i h
-  pub rest : UnchangedOutside 0 48 old new
+  pub marks : MarksKept old new
+  pub past : (n : ℕ) → i < n → PastKept n old new
 
--- The row that begins at `at` is this one now; the other words are as they were.
-pub record PutRow (at : ℕ) (row old new : List ℕ) : Type 0 where
-  pub numbers : rowFrom at new ≡ row
-  pub rest : UnchangedOutside at 16 old new
+-- Number f of each of the first n histories is that of the row now; their other numbers, and the words past them, are as they were.
+pub record PutColumn (f n : ℕ) (row old new : List ℕ) : Type 0 where
+  pub numbers : (h : ℕ) → h < n → getD (columnFrom f new) h 0 ≡ getD row h 0
+  pub others : (g : ℕ) → g < width → (g ≡ f → ⊥) → columnFrom g new ≡ columnFrom g old
+  pub histories : 3 ≤ f → historiesIn new ≡ historiesIn old
+  pub past : PastKept n old new
 
--- All words are 0.
-abbrev pub Blank : List ℕ → Type 0
-Blank ws = (k : ℕ) → k < 80 → getD ws k 0 ≡ 0
+-- The words of the first n histories have these values now; the words past them are as they were.
+pub record PutFirst (n : ℕ) (f : ℕ → ℕ) (old new : List ℕ) : Type 0 where
+  pub words : (k : ℕ) → k < width * n → getD new k 0 ≡ f k
+  pub past : PastKept n old new
 
--- The words are those of another book.
-abbrev pub Copied : List ℕ → List ℕ → Type 0
-Copied from new = (k : ℕ) → k < 80 → getD new k 0 ≡ getD from k 0
+-- .. 0, and those of another book
+abbrev pub Cleared : ℕ → List ℕ → List ℕ → Type 0
+Cleared n old new = PutFirst n (λ (k : ℕ). 0) old new
 
--- The histories after the changes of a line are what the book makes of them; the persistent and stable versions are as they were.
+abbrev pub Copied : ℕ → List ℕ → List ℕ → List ℕ → Type 0
+Copied n from old new = PutFirst n (λ (k : ℕ). getD from k 0) old new
+
+-- The histories after the changes of a line are what the book makes of them; the persistent and stable versions are as they were, and so are the
+-- words past the first n histories, if the line's are among these.
 pub record AppliesIn (e : Entry) (old new : List ℕ) : Type 0 where
   pub applies : Applies (historiesIn old) e (historiesIn new)
-  pub rest : UnchangedOutside 0 48 old new
+  pub marks : MarksKept old new
+  pub past : (n : ℕ) → InFirst n e → PastKept n old new

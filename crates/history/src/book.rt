@@ -1,24 +1,27 @@
 // Histories in words: reading and writing the histories of a site in an array of numbers.
 ghost use mathlib.Core.Path.{_≡_};
-ghost use Prim.Native.Nat.{_+_, _≤_, _<_};
-ghost use lib.ListN.{length, getD};
+ghost use Prim.Native.Nat.{_≤_, _<_};
+ghost use lib.ListN.{getD};
 ghost use Rattle.history.specs.Entries.{noHistory};
-ghost use Rattle.history.specs.Words.{within, historiesIn, rowFrom, PutHistory, PutRow, Blank, Copied};
+ghost use Rattle.history.specs.Words.{within, historiesIn, columnFrom, PutHistory, PutColumn, Cleared, Copied};
 use super::History;
 use forms::Place;
 use forms::Version;
 
-// The histories of a site in five rows of 16 numbers: profiles, versions, places, persistent versions, stable versions.
-pub type BookWords = [u64; 80];
+// How many numbers a history has: profile, version, place, persistent version, stable version.
+pub const WIDTH: usize = 5;
 
-// Where the rows begin; the profiles begin at 0.
-pub const VERSIONS: usize = 16;
+// The histories of a site, one behind the other: those of history i begin at WIDTH * i.
+pub type BookWords = [u64; 16 * WIDTH];
 
-pub const PLACES: usize = 32;
+// Where a history's numbers stand behind its profile.
+pub const VERSION: usize = 1;
 
-pub const PERSISTED: usize = 48;
+pub const PLACE: usize = 2;
 
-pub const STABILISED: usize = 64;
+pub const PERSISTED: usize = 3;
+
+pub const STABILISED: usize = 4;
 
 // A number below 2^32, and 0 for any other.
 pub fn small_half(n: u64) -> u32
@@ -35,10 +38,11 @@ pub fn history_at(words: &BookWords, i: usize) -> History
     requires { ⌜ i < 16 ⌝ }
     ensures { λ r. ⌜ r ≡ getD (historiesIn (now (words .entry))) i noHistory ⌝ }
 {
+    let at = WIDTH * i;
     History {
-        profile: small_half(words[i]),
-        version: Version(words[VERSIONS + i]),
-        place: Place(words[PLACES + i]),
+        profile: small_half(words[at]),
+        version: Version(words[at + VERSION]),
+        place: Place(words[at + PLACE]),
     }
 }
 
@@ -48,57 +52,62 @@ pub fn put_history(words: &mut BookWords, i: usize, h: History)
     ensures { λ r. ⌜ PutHistory i h (now (words .entry)) (now (words .exit)) ⌝ }
 {
     known_length(words);
-    words[i] = h.profile as u64;
-    words[VERSIONS + i] = h.version.0;
-    words[PLACES + i] = h.place.0;
+    let at = WIDTH * i;
+    words[at] = h.profile as u64;
+    words[at + VERSION] = h.version.0;
+    words[at + PLACE] = h.place.0;
 }
 
-// The row that begins at `at`.
-pub fn row_at(words: &BookWords, at: usize) -> [u64; 16]
-    requires { ⌜ at + 16 ≤ 80 ⌝ }
-    ensures { λ r. ⌜ r ≡ rowFrom at (now (words .entry)) ⌝ }
+// Number f of each history.
+pub fn column_at(words: &BookWords, f: usize) -> [u64; 16]
+    requires { ⌜ f < 5 ⌝ }
+    ensures { λ r. ⌜ r ≡ columnFrom f (now (words .entry)) ⌝ }
 {
-    let mut row = [0u64; 16];
+    let mut column = [0u64; 16];
     let mut i: usize = 0;
     while i < 16 {
-        row[i] = words[at + i];
+        column[i] = words[WIDTH * i + f];
         i += 1;
     }
-    row
+    column
 }
 
-// The row that begins at `at` becomes this one.
-pub fn put_row(words: &mut BookWords, at: usize, row: [u64; 16])
-    requires { ⌜ (at + 16 ≤ 80) × (length row ≡ 16) ⌝ }
-    ensures { λ r. ⌜ PutRow at row (now (words .entry)) (now (words .exit)) ⌝ }
+// Number f of each of the first n histories becomes that of the column.
+pub fn put_column(words: &mut BookWords, f: usize, column: [u64; 16], n: usize)
+    requires { ⌜ (f < 5) × (n ≤ 16) ⌝ }
+    ensures { λ r. ⌜ PutColumn f n column (now (words .entry)) (now (words .exit)) ⌝ }
 {
     known_length(words);
     let mut i: usize = 0;
-    while i < 16 {
-        words[at + i] = row[i];
+    while i < n {
+        words[WIDTH * i + f] = column[i];
         i += 1;
     }
 }
 
-// All numbers become 0.
-pub fn clear(words: &mut BookWords)
-    ensures { λ r. ⌜ Blank (now (words .exit)) ⌝ }
+// The numbers of the first n histories become 0.
+pub fn clear(words: &mut BookWords, n: usize)
+    requires { ⌜ n ≤ 16 ⌝ }
+    ensures { λ r. ⌜ Cleared n (now (words .entry)) (now (words .exit)) ⌝ }
 {
     known_length(words);
+    let most = WIDTH * n;
     let mut i: usize = 0;
-    while i < 80 {
+    while i < most {
         words[i] = 0;
         i += 1;
     }
 }
 
-// The numbers become those of another book.
-pub fn put_book(words: &mut BookWords, from: &BookWords)
-    ensures { λ r. ⌜ Copied (now (from .entry)) (now (words .exit)) ⌝ }
+// The numbers of the first n histories become those of another book.
+pub fn put_book(words: &mut BookWords, from: &BookWords, n: usize)
+    requires { ⌜ n ≤ 16 ⌝ }
+    ensures { λ r. ⌜ Copied n (now (from .entry)) (now (words .entry)) (now (words .exit)) ⌝ }
 {
     known_length(words);
+    let most = WIDTH * n;
     let mut i: usize = 0;
-    while i < 80 {
+    while i < most {
         words[i] = from[i];
         i += 1;
     }

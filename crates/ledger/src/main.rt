@@ -1,10 +1,11 @@
 // The fitting ledger: a session's forms from standard input, as they come, and its replies to standard output.
+ghost use mathlib.Core.List.{[]};
 ghost use Prim.Native.Nat.{_≤_};
 ghost use lib.ListN.{length};
 ghost use Rattle.session.specs.Feeding.{UsablePartial};
-ghost use Rattle.site.specs.Model.{received};
+ghost use Rattle.site.specs.Model.{received, newWith};
 ghost use Rattle.stream.specs.Model.{ValidStream};
-use forms::ListWords;
+use forms::ReplyNumbers;
 use forms::writer::Written;
 use history::book::BookWords;
 use libc::STDIN_FILENO;
@@ -26,19 +27,18 @@ fn answer(
     queued: &mut QueueWords,
     done: &mut DoneWords,
     book: &mut BookWords,
-    first: &mut ListWords,
-    second: &mut ListWords,
+    lists: &mut ReplyNumbers,
     chunk: &[u8],
     out: &mut [u8],
 ) -> Serving
     requires { ⌜ ValidStream start (received log queued done book) ⌝ }
     requires { ⌜ 2730 ≤ length (now out) ⌝ }
-    ensures { λ r. ⌜ ValidStream (r .stream) (received (log .exit) (queued .exit) (done .exit) (book .exit)) ⌝ }
+    ensures { λ r. ⌜ ValidStream (r .stream) (newWith [] log queued done book) ⌝ }
 {
     let mut stream = start;
     let mut at: usize = 0;
     while at < chunk.len() {
-        let f = stream.feed(log, queued, done, book, first, second, &chunk[at..], out);
+        let f = stream.feed(log, queued, done, book, lists, &chunk[at..], out);
         let n = f.written;
         at += f.used;
         stream = f.stream;
@@ -65,14 +65,13 @@ fn step(
     queued: &mut QueueWords,
     done: &mut DoneWords,
     book: &mut BookWords,
-    first: &mut ListWords,
-    second: &mut ListWords,
+    lists: &mut ReplyNumbers,
     chunk: &mut [u8],
     out: &mut [u8],
 ) -> Serving
     requires { ⌜ ValidStream stream (received log queued done book) ⌝ }
     requires { ⌜ 2730 ≤ length (now out) ⌝ }
-    ensures { λ r. ⌜ ValidStream (r .stream) (received (log .exit) (queued .exit) (done .exit) (book .exit)) ⌝ }
+    ensures { λ r. ⌜ ValidStream (r .stream) (newWith [] log queued done book) ⌝ }
 {
     let got = libc::read(STDIN_FILENO, chunk);
     if got < 0 {
@@ -83,17 +82,7 @@ fn step(
         return Serving { stream, on: false };
     }
     let n = io::count(got, chunk);
-    answer(
-        stream,
-        log,
-        queued,
-        done,
-        book,
-        first,
-        second,
-        &chunk[..n],
-        out,
-    )
+    answer(stream, log, queued, done, book, lists, &chunk[..n], out)
 }
 
 // A proved loop has to end, and nothing says that the input does: it counts its turns down, from a number that no run uses up.
@@ -102,8 +91,7 @@ fn serve(
     queued: &mut QueueWords,
     done: &mut DoneWords,
     book: &mut BookWords,
-    first: &mut ListWords,
-    second: &mut ListWords,
+    lists: &mut ReplyNumbers,
     chunk: &mut [u8],
     out: &mut [u8],
 )
@@ -112,7 +100,7 @@ fn serve(
     let mut stream = Stream::start();
     let mut turns = u64::MAX;
     while turns > 0 {
-        let s = step(stream, log, queued, done, book, first, second, chunk, out);
+        let s = step(stream, log, queued, done, book, lists, chunk, out);
         let on = s.on;
         stream = s.stream;
         if on {
@@ -128,8 +116,7 @@ fn main() {
     let mut queued = [0u64; 1472];
     let mut done = [0u64; 640];
     let mut book = [0u64; 80];
-    let mut first = [0u64; 64];
-    let mut second = [0u64; 64];
+    let mut lists = [0u64; 68];
     let mut chunk = io::large_buffer();
     let mut out = io::large_buffer();
     serve(
@@ -137,8 +124,7 @@ fn main() {
         &mut queued,
         &mut done,
         &mut book,
-        &mut first,
-        &mut second,
+        &mut lists,
         &mut chunk,
         &mut out,
     );

@@ -27,7 +27,7 @@ starts s e bytes =
 
 -- What is written of a turn's reply is the specification's reply.
 pub answers-turn : (s : Session) (old : Lent) (t : Turn) (r : LineResult) (new : Lent) (n : Written) (out written : List ℕ) →
-    Turns s old t r new → Writes out 0 (withEnd (outcomeText (outcomeOf (replied (r .reply) (new .first) (new .second))))) n written →
+    Turns s old t r new → Writes out 0 (withEnd (outcomeText (outcomeOf (replied (r .reply) (new .lists))))) n written →
     Answers s old t (record { session = r .session; next = n }) new out written
 answers-turn s old t r new n out written h w =
     record {

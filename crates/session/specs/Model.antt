@@ -1,11 +1,10 @@
 -- The session and the bytes of its log buffer as the specification has them, and what a line does.
-use Prim.Native.Nat.{ℕ, _+_, _≤_}
+use Prim.Native.Nat.{ℕ, _+_, _*_, _≤_}
 use mathlib.Core.Path.{_≡_}
 use mathlib.Core.Bool.{Bool, true, false}
 use mathlib.Core.List.{List}
 use mathlib.Core.Option.{Option, none, some}
 use lib.ListN.{length, drop}
-use denote.Ref.{now}
 use Rattle.forms.specs.Forms.{Outcome, Refused, Accepted, outcomeText}
 use Rattle.forms.specs.Held.{Replied, replied, outcomeOf}
 use Rattle.forms.specs.declared.Refusal.{Refusal}
@@ -15,12 +14,13 @@ use Rattle.forms.specs.declared.DidLine.{DidLine}
 use Rattle.rules.specs.State.{State, Reply, refused}
 use Rattle.rules.specs.Calls.{openSite, Call, step}
 use Rattle.rules.specs.Session.{Turn, turnOf, turn}
+use Rattle.history.specs.Words.{width}
 use Rattle.forms.specs.declared.reader.CommandForm.{CommandForm}
 use Rattle.forms.specs.declared.reader.CommandRead.{CommandRead}
 use Rattle.site.specs.declared.Site.{Site}
 use Rattle.site.specs.declared.CallResult.{CallResult}
 use Rattle.site.specs.Representation.{Representation, Sound}
-use Rattle.site.specs.Model.{Lent, lent, Ends, represented, view, Says, Does}
+use Rattle.site.specs.Model.{Lent, lent, Ends, was, left, represented, view, Says, Does}
 use Rattle.site.specs.Trim.{updatesHeld, didHeld, redoOf}
 use Rattle.forms.specs.declared.writer.Written.{Written}
 use Rattle.forms.specs.Write.{Writes, withEnd}
@@ -45,10 +45,14 @@ pub record ValidOpened (opened : Bool) (w : Representation) (log : List ℕ) : T
 abbrev pub ValidSession : Session → Lent → Type 0
 ValidSession s m = ValidOpened (s .opened) (represented (s .site) m) (m .log)
 
--- how many bytes of the log buffer are in use
+-- how many bytes of the log buffer, and how many words of the histories, are in use
 abbrev pub usedIf : Bool → Site → ℕ
 usedIf true s = s .used
 usedIf false s = 0
+
+abbrev pub heldIf : Bool → Site → ℕ
+heldIf true s = width * s .count
+heldIf false s = 0
 
 -- ### What a line does
 
@@ -57,18 +61,22 @@ pub record Unchanged (s : Session) (old : Lent) (r : LineResult) (new : Lent) : 
   pub session : r .session ≡ s
   pub kept : new ≡ old
 
--- "An accepted call alters no byte of a lent buffer past those in use": no byte of the log's.
-pub record PastKept (old : Lent) (r : LineResult) (new : Lent) : Type 0 where
+-- "An accepted call alters no byte of a lent buffer past those in use, or handed out, after it": of the log's buffer, of the histories'
+-- numbers, and of the lists' numbers past those that the reply counts.
+pub record UnusedKept (old : Lent) (r : LineResult) (new : Lent) : Type 0 where
   pub past : drop (usedIf (r .session .opened) (r .session .site)) (new .log)
       ≡ drop (usedIf (r .session .opened) (r .session .site)) (old .log)
+  pub pastHistories :
+      drop (heldIf (r .session .opened) (r .session .site)) (new .book) ≡ drop (heldIf (r .session .opened) (r .session .site)) (old .book)
+  pub pastLists : drop (r .reply .first + r .reply .second) (new .lists) ≡ drop (r .reply .first + r .reply .second) (old .lists)
 
 abbrev pub Keeps : Outcome → Session → Lent → LineResult → Lent → Type 0
 Keeps (Refused q) s old r new = Unchanged s old r new
-Keeps (Accepted a) s old r new = PastKept old r new
+Keeps (Accepted a) s old r new = UnusedKept old r new
 
 -- The session s, to which `old` was lent and is `new` after it, takes the turn t of the specification.
 pub record Turns (s : Session) (old : Lent) (t : Turn) (r : LineResult) (new : Lent) : Type 0 where
-  pub answer : Says (replied (r .reply) (new .first) (new .second)) (t .reply)
+  pub answer : Says (replied (r .reply) (new .lists)) (t .reply)
   pub after : sessionView (r .session) new ≡ t .after
   pub valid : ValidSession (r .session) new
   pub keeps : Keeps (t .reply) s old r new
@@ -79,7 +87,7 @@ TurnsLine s old line r new = Turns s old (turn (length (old .log)) line (session
 
 -- The line is refused with q, and the session is as it was.
 pub record Refuses (s : Session) (q : Refusal) (r : LineResult) : Type 0 where
-  pub answer : (xs ys : List ℕ) → Says (replied (r .reply) xs ys) (Refused q)
+  pub answer : (ns : List ℕ) → Says (replied (r .reply) ns) (Refused q)
   pub session : r .session ≡ s
 
 -- what a call of the site hands back, as a turn
@@ -154,5 +162,5 @@ DoesForm s old c r new = Does s old (siteReply (length (old .log)) (c .form) (c 
 -- The session, which is not open, takes the turn of opening a site of n histories, whatever is lent beside the log and the histories.
 abbrev pub Opens : Session → ℕ → Ends → Ends → LineResult → Type 0
 Opens s n log book r =
-    (qs ds xs ys : List ℕ) → Turns s (lent (now (log .entry)) qs ds (now (book .entry)) xs ys)
-    (turnOf (openSite n (length (now (log .entry)))) none) r (lent (now (log .exit)) qs ds (now (book .exit)) xs ys)
+    (qs ds ns : List ℕ) → Turns s (lent (was log) qs ds (was book) ns) (turnOf (openSite n (length (was log))) none) r
+    (lent (left log) qs ds (left book) ns)

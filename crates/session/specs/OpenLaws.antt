@@ -46,5 +46,5 @@ opens s old (ok st a) r new t d some-there same =
       answer = d .answer;
       after = ap some (d .state);
       valid = record { site = λ o. d .valid };
-      keeps = record { past = d .past };
+      keeps = record { past = d .past; pastHistories = d .pastHistories; pastLists = d .pastLists };
     })

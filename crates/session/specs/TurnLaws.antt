@@ -1,15 +1,16 @@
 -- A call of the site as a turn of the session, and a line's form as the specification obeys it.
-use Prim.Native.Nat.{ℕ, _≤_, _<_}
+use Prim.Native.Nat.{ℕ, _+_, _-_, _≤_, _<_}
 use native.Mathlib.Omega.{arith}
 use mathlib.Core.Path.{_≡_, refl, sym, ap, subst, _∙_}
 use mathlib.Core.Bool.{Bool, true, false}
 use mathlib.Core.List.{List}
 use mathlib.Core.Option.{Option, none, some}
-use lib.ListN.{length}
+use lib.ListN.{length, length-drop}
 use lib.Seq.{length-take-le}
 use borrow.Author.Tests.{lt-leb}
 use Rattle.forms.specs.Reading.{readWhole, readCommand}
-use Rattle.forms.specs.Held.{Numbers, numbersOf, Replied}
+use Rattle.forms.specs.Held.{Numbers, numbersOf, Replied, replied}
+use Rattle.forms.specs.declared.ReplyLine.{ReplyLine}
 use Rattle.forms.specs.declared.Refusal.{Refusal}
 use Rattle.forms.specs.declared.Refusal.the-variants.{Unreadable}
 use Rattle.rules.specs.State.{State, Reply, refused, ok}
@@ -36,6 +37,13 @@ lists-short r p = (short (r .first) (p .first), short (r .second) (p .second))
     short : (n : Numbers) → Few n → length (numbersOf n) ≤ 64
     short n f = omega (arith, numbers-count n f, f .few)
 
+-- The second list ends within the array, and has as many numbers as the reply counts.
+pub lists-within : (r : ReplyLine) (ns : List ℕ) → Printable (replied r ns) → r .first + r .second ≤ length ns
+lists-within r ns p = omega (arith, p .first .within, p .second .within, length-drop (r .first) ns)
+
+pub second-counts : (n m : ℕ) → (n + m) - n ≡ m
+second-counts n m = omega arith
+
 -- ### A refused line
 
 -- The turn is a refusal, the reply says so, and nothing has changed.
@@ -45,7 +53,7 @@ unfolding turnOf
 turn-refused s old t q r v e h =
     subst (λ (x : Turn). Turns s old x r old) (sym e)
     (record {
-      answer = h .answer (old .first) (old .second);
+      answer = h .answer (old .lists);
       after = ap (λ (x : Session). sessionView x old) (h .session);
       valid = subst (λ (x : Session). ValidSession x old) (sym (h .session)) v;
       keeps = record { session = h .session; kept = refl };
@@ -73,7 +81,7 @@ call-turns s old (ok st a) r new e v d =
       answer = d .answer;
       after = ap some (d .state);
       valid = record { site = λ o. d .valid };
-      keeps = record { past = d .past };
+      keeps = record { past = d .past; pastHistories = d .pastHistories; pastLists = d .pastLists };
     }
 
 -- ### A form

@@ -3,13 +3,14 @@ ghost use mathlib.Core.Path.{_≡_};
 ghost use mathlib.Core.Bool.{false};
 ghost use mathlib.Core.List.{[]};
 ghost use Rattle.forms.specs.Held.{replied};
-ghost use Rattle.site.specs.Model.{Lent, received, old, new, Valid, RefusedAs, Printable};
+ghost use Rattle.site.specs.Model.{Lent, was, left, received, old, new, Valid, RefusedAs, Printable};
 ghost use Rattle.session.specs.Model.{ValidSession, Refuses, Starts, TurnsLine, AnswersLine, WritesTurn};
 ghost use Rattle.session.specs.Model.{turnedOf, Opens, DoesForm, TurnsForm};
 ghost use Rattle.session.specs.Feeding.{Begins};
-use forms::ListWords;
+use forms::LogNumber;
 use forms::Refusal;
 use forms::ReplyLine;
+use forms::ReplyNumbers;
 use forms::reader::CommandForm;
 use forms::reader::CommandRead;
 use forms::reader::read_command;
@@ -87,12 +88,11 @@ fn call(
     queued: &mut QueueWords,
     done: &mut DoneWords,
     book: &mut BookWords,
-    first: &mut ListWords,
-    second: &mut ListWords,
+    lists: &mut ReplyNumbers,
     c: CommandRead,
 ) -> CallResult
     requires { ⌜ Valid site (received log queued done book) ⌝ }
-    ensures { λ r. ⌜ DoesForm site (old log queued done book first second) c r (new log queued done book first second) ⌝ }
+    ensures { λ r. ⌜ DoesForm site (old log queued done book lists) c r (new log queued done book lists) ⌝ }
 {
     let form = c.form;
     let asked = c.asked;
@@ -100,27 +100,28 @@ fn call(
     match form {
         CommandForm::Bad => refused(site, Refusal::Unreadable),
         CommandForm::SiteOf(_) => refused(site, Refusal::OutOfTurn),
-        CommandForm::Add(i) => site.add(log, queued, done, book, first, i, asked),
-        CommandForm::Finish(i) => site.finish(log, queued, done, book, first, second, i),
-        CommandForm::Withdraw(i) => site.withdraw(log, queued, done, book, first, i),
-        CommandForm::Persistent(n) => site.persistent(log, queued, done, book, first, second, n),
-        CommandForm::Stable(n) => site.stable(log, queued, done, book, first, n),
+        CommandForm::Add(i) => site.add(log, queued, done, book, lists, i, asked),
+        CommandForm::Finish(i) => site.finish(log, queued, done, book, lists, i),
+        CommandForm::Withdraw(i) => site.withdraw(log, queued, done, book, lists, i),
+        CommandForm::Persistent(n) => site.persistent(log, queued, done, book, lists, LogNumber(n)),
+        CommandForm::Stable(n) => site.stable(log, queued, done, book, lists, LogNumber(n)),
         CommandForm::Show(h) => site.show(log, queued, done, book, h),
         CommandForm::Cut(k) => site.cut(log, queued, done, book, k),
         CommandForm::Redo => site.redo_did(log, queued, done, book, did),
-        CommandForm::End => site.end(log, queued, done, book, first),
+        CommandForm::End => site.end(log, queued, done, book, lists),
     }
 }
 
-// Writes the reply of a turn, with its end: its lists stand at the front of what was lent for them. It has at most 2,730 bytes.
-pub fn write_turn(out: &mut [u8], at: usize, r: ReplyLine, first: &[u64], second: &[u64]) -> Written
-    requires { ⌜ Printable (replied r (now first) (now second)) ⌝ }
-    ensures { λ w. ⌜ WritesTurn (replied r (now (first .entry)) (now (second .entry))) (now (out .entry)) at w (now (out .exit)) ⌝ }
+// Writes the reply of a turn, with its end: its lists stand one behind the other at the front of what was lent for them.
+// It has at most 2,730 bytes.
+pub fn write_turn(out: &mut [u8], at: usize, r: ReplyLine, lists: &[u64]) -> Written
+    requires { ⌜ Printable (replied r (now lists)) ⌝ }
+    ensures { λ w. ⌜ WritesTurn (replied r (was lists)) (was out) at w (left out) ⌝ }
 {
     let form = r.form;
     let n = r.first;
-    let m = r.second;
-    write_reply(out, at, form, &first[..n], &second[..m])
+    let m = n + r.second;
+    write_reply(out, at, form, &lists[..n], &lists[n..m])
 }
 
 impl Session {
@@ -159,17 +160,16 @@ impl Session {
         queued: &mut QueueWords,
         done: &mut DoneWords,
         book: &mut BookWords,
-        first: &mut ListWords,
-        second: &mut ListWords,
+        lists: &mut ReplyNumbers,
         c: CommandRead,
     ) -> LineResult
         requires { ⌜ ValidSession self (received log queued done book) ⌝ }
-        ensures { λ r. ⌜ TurnsForm self (old log queued done book first second) c r (new log queued done book first second) ⌝ }
+        ensures { λ r. ⌜ TurnsForm self (old log queued done book lists) c r (new log queued done book lists) ⌝ }
     {
         let form = c.form;
         if self.opened {
             let site = self.site;
-            return called(call(site, log, queued, done, book, first, second, c));
+            return called(call(site, log, queued, done, book, lists, c));
         }
         match form {
             CommandForm::Bad => self.refuse(Refusal::Unreadable),
@@ -185,16 +185,15 @@ impl Session {
         queued: &mut QueueWords,
         done: &mut DoneWords,
         book: &mut BookWords,
-        first: &mut ListWords,
-        second: &mut ListWords,
+        lists: &mut ReplyNumbers,
         line: &[u8],
     ) -> LineResult
         requires { ⌜ ValidSession self (received log queued done book) ⌝ }
-        ensures { λ r. ⌜ TurnsLine self (old log queued done book first second) (now (line .entry)) r
-            (new log queued done book first second) ⌝ }
+        ensures { λ r. ⌜ TurnsLine self (old log queued done book lists) (was line) r
+            (new log queued done book lists) ⌝ }
     {
         let c = read_command(line);
-        self.obey(log, queued, done, book, first, second, c)
+        self.obey(log, queued, done, book, lists, c)
     }
 
     // A session "before site".
@@ -214,19 +213,18 @@ impl Session {
         queued: &mut QueueWords,
         done: &mut DoneWords,
         book: &mut BookWords,
-        first: &mut ListWords,
-        second: &mut ListWords,
+        lists: &mut ReplyNumbers,
         line: &[u8],
         out: &mut [u8],
     ) -> Answered
         requires { ⌜ ValidSession self (received log queued done book) ⌝ }
-        ensures { λ r. ⌜ AnswersLine self (old log queued done book first second) (now (line .entry)) r
-            (new log queued done book first second) (now (out .entry)) (now (out .exit)) ⌝ }
+        ensures { λ r. ⌜ AnswersLine self (old log queued done book lists) (was line) r
+            (new log queued done book lists) (was out) (left out) ⌝ }
     {
-        let t = self.turn(log, queued, done, book, first, second, line);
+        let t = self.turn(log, queued, done, book, lists, line);
         let session = t.session;
         let reply = t.reply;
-        let next = write_turn(out, 0, reply, first, second);
+        let next = write_turn(out, 0, reply, lists);
         Answered { session, next }
     }
 }

@@ -4,13 +4,15 @@ use native.Mathlib.Omega.{arith}
 use mathlib.Core.Path.{_≡_, refl, sym, ap, ap₂, subst, _∙_}
 use mathlib.Core.Bool.{Bool, true, false, _&&_, _||_}
 use mathlib.Core.List.{List, [], _∷_, _++_, map, map-append}
+use mathlib.Core.List.{List·Memᴰ as Mem}
+use mathlib.Core.Logic.{_⊎_, inl, inr}
 use mathlib.Core.Option.{Option, none, some}
 use lib.Dec.{T, leb}
 use lib.ListN.{length}
 use borrow.Author.Tests.{le-leb}
 use Rattle.forms.specs.Decimal.{top}
 use Rattle.forms.specs.Lists.{all, any}
-use Rattle.forms.specs.ListLaws.{T-true}
+use Rattle.forms.specs.ListLaws.{T-true, mem-snoc}
 use Rattle.forms.specs.Forms.{Update, Added}
 use Rattle.forms.specs.Held.{outcomeWith, heldUpdates, updatesOf, Numbers, listed}
 use Rattle.forms.specs.HeldLaws.{updates-back}
@@ -29,16 +31,15 @@ use Rattle.history.specs.declared.Verdict.{Verdict}
 use Rattle.history.specs.declared.Verdict.the-variants.{Refused}
 use Rattle.history.specs.Asking.{verdictOf, UsableHeld, Enters}
 use Rattle.history.specs.AskingLaws.{usable-held}
-use Rattle.history.specs.Entries.{cellsOf, operationOf}
+use Rattle.history.specs.Entries.{cellsOf, operationOf, InFirst}
 use Rattle.history.specs.Cells.{alreadyDoneIn, readOvertakenIn}
-use Rattle.history.specs.AtLog.{already-done-book, read-overtaken-book}
-use Rattle.table.specs.Lists.{IsNumbers}
-use Rattle.table.specs.Queues.{Queued, queueOf, IsQueue}
-use Rattle.table.specs.Tries.{Tries, tryAllIn, operationsOf}
+use Rattle.history.specs.AtLog.{asked-first, already-done-book, read-overtaken-book}
+use Rattle.table.specs.Queues.{Queued, queueOf, UsableQueue, IsQueue}
+use Rattle.table.specs.Tries.{tryAllIn, operationsOf}
 use Rattle.table.specs.TryLaws.{try-all-is}
 use Rattle.site.specs.declared.seen.CheckInputs.{CheckInputs}
 use Rattle.site.specs.Representation.{Representation, stateOf, pendingIn, waitingIn, Sound}
-use Rattle.site.specs.ModelLaws.{AcceptsCall, step-performs, accepts-step, says-lists, means, means-none}
+use Rattle.site.specs.ModelLaws.{AcceptsCall, step-performs, accepts-step, says-lists, Means, means-is, means-none}
 use Rattle.site.specs.QueueLaws.{withQueue, carries-queue}
 use Rattle.site.specs.ShowLaws.{count-most}
 use Rattle.site.specs.CheckInputs.{Sees, conflictRefusal}
@@ -65,22 +66,25 @@ module _ (x : CheckInputs) (hs : List History) (i : ℕ) (us : List Update) (st 
   unfolding check verdictOf
   nothing-orders-is e = rw e refl
 
-  pub conflict-is : nothingOrders us ≡ false → (e : Entry) → Enters (addedOperation i us) e → (done overtaken : Bool) →
+  pub conflict-is : updatesRefusal (x .count) us ≡ none → nothingOrders us ≡ false → (e : Entry) → Enters (addedOperation i us) e → (done overtaken : Bool) →
       done ≡ (x .done || any (alreadyDoneIn (cellsOf hs)) (operationOf e .updates)) →
       overtaken ≡ any (readOvertakenIn (cellsOf hs)) (operationOf e .updates) →
       (v : Verdict) → v ≡ verdictOf (conflictRefusal (x .pending) done overtaken (x .full) false) → v ≡ verdictOf others
   unfolding check
-  conflict-is orders e enters done overtaken d o v h =
+  conflict-is formed orders e enters done overtaken d o v h =
       h ∙ λ j. verdictOf (check (sym orders j) NothingOrders (conflictRefusal (x .pending) (ran j) (late j) (x .full) false))
     where
+      within : InFirst (x .count) e
+      within = asked-first (x .count) e (enters .usable) (ap (λ (y : Operation). updatesRefusal (x .count) (y .updates)) (enters .operation) ∙ formed)
+
       ran : done ≡ (x .done || any (alreadyDone st) us)
       ran =
-          d ∙ ap (_||_ (x .done)) (already-done-book hs st (s .book) e (enters .usable)
+          d ∙ ap (_||_ (x .done)) (already-done-book (x .count) hs st (s .book) e within
           ∙ ap (λ (y : Operation). any (alreadyDone st) (y .updates)) (enters .operation))
 
       late : overtaken ≡ any (readOvertaken st) us
       late =
-          o ∙ read-overtaken-book hs st (s .book) e (enters .usable)
+          o ∙ read-overtaken-book (x .count) hs st (s .book) e within
           ∙ ap (λ (y : Operation). any (readOvertaken st) (y .updates)) (enters .operation)
 
 -- What passed all checks.
@@ -132,7 +136,9 @@ add-accepted i us st le w e = add-performs i us st le w ∙ rw e refl
 
 module _ (s : Representation) (bytes : List ℕ) (v : Sound s bytes) (i : ℕ) (us : List Update) (le : i ≤ top) (w : T (all writableUpdate us))
     (free : addRefusal i us (stateOf s bytes) ≡ none) (e : Entry) (x : Enters (addedOperation i us) e)
-    (q : Queued) (more : IsQueue q (queueOf (s .queue) ++ (e ∷ []))) (tq : Queued) (ns : Numbers) (tries : Tries (cellsOf (s .histories)) (queueOf q) tq ns) where
+    (q : Queued) (more : IsQueue q (queueOf (s .queue) ++ (e ∷ []))) (tq : Queued) (usable : UsableQueue tq)
+    (queue : operationsOf (queueOf tq) ≡ tryAllIn (cellsOf (s .histories)) (operationsOf (queueOf q))) (ns : Numbers)
+    (ids : Means ns (madeReady (operationsOf (queueOf q)) (tryAllIn (cellsOf (s .histories)) (operationsOf (queueOf q))))) where
   abbrev st : State
   st = stateOf s bytes
 
@@ -147,12 +153,23 @@ module _ (s : Representation) (bytes : List ℕ) (v : Sound s bytes) (i : ℕ) (
       ∙ ap (λ (y : Operation). map operationOf (queueOf (s .queue)) ++ (y ∷ [])) (x .operation)
       ∙ ap (λ (b : Bool). pendingIn b s ++ (addedOperation i us ∷ [])) (sym idle)
 
+  -- the histories of the operations are those of the site
+  arrived-low : (y : Operation) → Mem y (arrived i us st) → (u : Update) → Mem u (y .updates) → u .history < s .count
+  unfolding Sound arrived
+  arrived-low y m u k = go (mem-snoc (st .pending) m)
+    where
+      go : (y ≡ addedOperation i us) ⊎ Mem y (st .pending) → u .history < s .count
+      go (inl e) =
+          formed-updates (s .count) us (free-of i us st free .formed) .known u (subst (λ (z : Operation). Mem u (z .updates)) e k)
+      go (inr p) = formed-updates (s .count) (y .updates) (v .good .pendingFormed y p .passes) .known u k
+
   tried : tryAllIn (cellsOf (s .histories)) (operationsOf (queueOf q)) ≡ tryAll (st .log) (arrived i us st)
   unfolding Sound
-  tried = try-all-is (st .log) (s .histories) (queueOf q) (v .carries .book) (more .usable .each) ∙ ap (tryAll (st .log)) entries
+  tried =
+      ap (tryAllIn (cellsOf (s .histories))) entries ∙ try-all-is (s .count) (st .log) (s .histories) (arrived i us st) (v .carries .book) arrived-low
 
-  ready : IsNumbers ns (madeReady (arrived i us st) (tryAll (st .log) (arrived i us st)))
-  ready = subst (IsNumbers ns) (ap₂ madeReady entries tried) (tries .ready)
+  ready : Means ns (madeReady (arrived i us st) (tryAll (st .log) (arrived i us st)))
+  ready = means-is ids (ap₂ madeReady entries tried)
 
   abbrev after : Representation
   after = withQueue tq (s .restoring) (s .reserved) s
@@ -164,9 +181,9 @@ module _ (s : Representation) (bytes : List ℕ) (v : Sound s bytes) (i : ℕ) (
       accepts-step s bytes (Call.Add i us) (withPending (tryAll (st .log) (arrived i us st)) st)
       (Added (madeReady (arrived i us st) (tryAll (st .log) (arrived i us st)))) _ bytes v
       (add-accepted i us st le w free)
-      (says-lists _ (madeReady (arrived i us st) (tryAll (st .log) (arrived i us st))) [] (means ready) (means-none ys))
-      (carries-queue s bytes st (v .carries) tq (s .restoring) (s .reserved) (tryAll (st .log) (arrived i us st)) (st .waiting) (tries .usable)
-      (ap (λ (z : Bool). pendingIn z after) idle ∙ tries .queue ∙ tried)
+      (says-lists _ (madeReady (arrived i us st) (tryAll (st .log) (arrived i us st))) [] ready (means-none ys))
+      (carries-queue s bytes st (v .carries) tq (s .restoring) (s .reserved) (tryAll (st .log) (arrived i us st)) (st .waiting) usable
+      (ap (λ (z : Bool). pendingIn z after) idle ∙ queue ∙ tried)
       (ap (λ (z : Bool). waitingIn z after) idle ∙ sym (ap (λ (z : Bool). waitingIn z s) idle))
       (v .carries .reserved))
       refl

@@ -23,7 +23,7 @@ pub record Sees (x : CheckInputs) (hs : List History) (i : ℕ) (st : State) : T
   pub pending : x .pending ≡ idPending i st
   pub done : x .done ≡ idDone i st
   pub full : x .full ≡ tableFull st
-  pub book : (h : ℕ) → h < 16 → cellsOf hs h ≡ cell h (st .log)
+  pub book : (h : ℕ) → h < x .count → cellsOf hs h ≡ cell h (st .log)
 
 -- So many bytes of the log buffer are neither in use nor reserved.
 abbrev pub LeavesLines : ℕ → State → Type 0

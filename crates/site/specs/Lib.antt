@@ -1,6 +1,7 @@
 pub mod Representation
 pub mod Model
 pub mod ModelLaws
+pub mod ReplyLaws
 pub mod QueueLaws
 pub mod Busy
 pub mod BusyLaws

@@ -1,5 +1,5 @@
 -- The site and what is lent to it as a state of the specification, the invariant of the two, and what a call promises.
-use Prim.Native.Nat.{ℕ, _≤_}
+use Prim.Native.Nat.{ℕ, _+_, _*_, _≤_}
 use mathlib.Core.Path.{_≡_}
 use mathlib.Core.List.{List, []}
 use lib.ListN.{length, drop}
@@ -10,7 +10,7 @@ use Rattle.forms.specs.Held.{Numbers, Replied, replied, outcomeOf}
 use Rattle.forms.specs.declared.Refusal.{Refusal}
 use Rattle.rules.specs.State.{State, Reply, refused, ok}
 use Rattle.rules.specs.Calls.{Call, step}
-use Rattle.history.specs.Words.{historiesIn, persistedIn, stabilisedIn}
+use Rattle.history.specs.Words.{width, historiesIn, persistedIn, stabilisedIn}
 use Rattle.table.specs.Slots.{stored, storedDone}
 use Rattle.site.specs.declared.Site.{Site}
 use Rattle.site.specs.declared.CallResult.{CallResult}
@@ -25,28 +25,38 @@ pub record Lent : Type 0 where
   pub queue : List ℕ
   pub done : List ℕ
   pub book : List ℕ
-  pub first : List ℕ
-  pub second : List ℕ
+  pub lists : List ℕ
 
-abbrev pub lent : List ℕ → List ℕ → List ℕ → List ℕ → List ℕ → List ℕ → Lent
-lent log queue done book first second = record { log = log; queue = queue; done = done; book = book; first = first; second = second }
+abbrev pub lent : List ℕ → List ℕ → List ℕ → List ℕ → List ℕ → Lent
+lent log queue done book lists = record { log = log; queue = queue; done = done; book = book; lists = lists }
 
--- a lent array in an `ensures`: as it came, and as it is left
+-- a lent array in an `ensures`, where a parameter is a pair; and its words as they came, and as they are left
 abbrev pub Ends : Type 0
 Ends = Both (RefT (List ℕ)) (RefT (List ℕ))
 
+abbrev pub was : Ends → List ℕ
+was x = now (x .entry)
+
+abbrev pub left : Ends → List ℕ
+left x = now (x .exit)
+
 -- What was lent, in a `requires`: the lists of a reply do not matter there.
 abbrev pub received : RefT (List ℕ) → RefT (List ℕ) → RefT (List ℕ) → RefT (List ℕ) → Lent
-received log queue done book = lent (now log) (now queue) (now done) (now book) [] []
+received log queue done book = lent (now log) (now queue) (now done) (now book) []
 
--- What was lent, in an `ensures`, as it came and as it is left.
-abbrev pub old : Ends → Ends → Ends → Ends → Ends → Ends → Lent
-old log queue done book first second =
-    lent (now (log .entry)) (now (queue .entry)) (now (done .entry)) (now (book .entry)) (now (first .entry)) (now (second .entry))
+-- What was lent, in an `ensures`: as it came, and as it is left.
+abbrev pub old : Ends → Ends → Ends → Ends → Ends → Lent
+old log queue done book lists = lent (was log) (was queue) (was done) (was book) (was lists)
 
-abbrev pub new : Ends → Ends → Ends → Ends → Ends → Ends → Lent
-new log queue done book first second =
-    lent (now (log .exit)) (now (queue .exit)) (now (done .exit)) (now (book .exit)) (now (first .exit)) (now (second .exit))
+abbrev pub new : Ends → Ends → Ends → Ends → Ends → Lent
+new log queue done book lists = lent (left log) (left queue) (left done) (left book) (left lists)
+
+-- .. of a call that is lent no lists, whatever they are
+abbrev pub oldWith : List ℕ → Ends → Ends → Ends → Ends → Lent
+oldWith ns log queue done book = lent (was log) (was queue) (was done) (was book) ns
+
+abbrev pub newWith : List ℕ → Ends → Ends → Ends → Ends → Lent
+newWith ns log queue done book = lent (left log) (left queue) (left done) (left book) ns
 
 -- The site with the histories and the entries that stand in what is lent.
 abbrev pub represented : Site → Lent → Representation
@@ -71,7 +81,7 @@ abbrev pub view : Site → Lent → State
 view s m = stateOf (represented s m) (m .log)
 
 -- The invariant of a site and what is lent to it: opening and restart establish it, and every call keeps it. It does not look at the lists of a reply,
--- so that contracts that require it write `[] []` for them.
+-- so that `received` leaves them out.
 abbrev pub Valid : Site → Lent → Type 0
 Valid s m = Sound (represented s m) (m .log)
 
@@ -93,17 +103,20 @@ pub record Says (r : Replied) (o : Outcome) : Type 0 where
 
 -- "A refusal returns its number only; site, log .. and all other lent buffers do not change."
 pub record RefusedAs (s : Site) (old : Lent) (q : Refusal) (r : CallResult) (new : Lent) : Type 0 where
-  pub answer : Says (replied (r .reply) (new .first) (new .second)) (Refused q)
+  pub answer : Says (replied (r .reply) (new .lists)) (Refused q)
   pub site : r .site ≡ s
   pub kept : new ≡ old
 
--- "An accepted call alters no byte of a lent buffer past those in use": no byte of the log's. Of the arrays of numbers an accepted call says what
--- they mean, by the answer and the state; nothing is said of numbers behind those in use.
+-- "An accepted call alters no byte of a lent buffer past those in use, or handed out, after it": of the log's buffer, of the histories' numbers
+-- past those of the site's histories, of the lists' numbers past those that the reply counts. Of the table's numbers an accepted call says what they
+-- mean, by the state; nothing is said of those behind the entries in use.
 pub record AcceptedAs (old : Lent) (st : State) (a : Answer) (r : CallResult) (new : Lent) : Type 0 where
-  pub answer : Says (replied (r .reply) (new .first) (new .second)) (Accepted a)
+  pub answer : Says (replied (r .reply) (new .lists)) (Accepted a)
   pub valid : Valid (r .site) new
   pub state : view (r .site) new ≡ st
   pub past : drop (r .site .used) (new .log) ≡ drop (r .site .used) (old .log)
+  pub pastHistories : drop (width * r .site .count) (new .book) ≡ drop (width * r .site .count) (old .book)
+  pub pastLists : drop (r .reply .first + r .reply .second) (new .lists) ≡ drop (r .reply .first + r .reply .second) (old .lists)
 
 -- A call of the site s, to which `old` was lent and is `new` after it, does what the specification replies.
 abbrev pub Does : Site → Lent → Reply → CallResult → Lent → Type 0

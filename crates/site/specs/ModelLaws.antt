@@ -1,5 +1,5 @@
 -- The laws through which every call goes: what a site holds is its view, and so it is valid.
-use Prim.Native.Nat.{ℕ}
+use Prim.Native.Nat.{ℕ, _+_}
 use native.Mathlib.Omega.{arith}
 use mathlib.Core.Path.{_≡_, refl, sym, ap, ap₂, subst, _∙_}
 use mathlib.Core.Bool.{true}
@@ -16,7 +16,7 @@ use Rattle.rules.specs.Checks.{check}
 use Rattle.rules.specs.Calls.{Call, unless, writable, perform, step}
 use Rattle.rules.specs.Good.{Good}
 use Rattle.history.specs.declared.History.{History}
-use Rattle.table.specs.Lists.{IsNumbers}
+use Rattle.history.specs.Words.{PastKept}
 use Rattle.site.specs.declared.Site.{Site}
 use Rattle.site.specs.declared.CallResult.{CallResult}
 use Rattle.site.specs.Representation.{Representation, stateOf, didsIn, Carries, Represents, Sound}
@@ -29,8 +29,8 @@ pub record Means (n : Numbers) (l : List ℕ) : Type 0 where
   pub fits : Few n
   pub list : numbersOf n ≡ l
 
-pub means : {n : Numbers} {l : List ℕ} → IsNumbers n l → Means n l
-means a = record { fits = record { few = a .few; within = omega (arith, a .few, a .long) }; list = a .list }
+pub means-is : {n : Numbers} {l k : List ℕ} → Means n l → l ≡ k → Means n k
+means-is {n} a e = subst (Means n) e a
 
 -- no numbers, in any array
 pub means-none : (ws : List ℕ) → Means (listed 0 ws) []
@@ -125,21 +125,24 @@ accepts-book old x w reply new h p s a =
 
 -- .. and so it does what the specification replies.
 pub does : (s : Site) (old : Lent) (x : Reply) (r : CallResult) (new : Lent) →
-    AcceptsCall (old .log) x (record { site = represented (r .site) new; reply = replied (r .reply) (new .first) (new .second) }) (new .log) →
+    AcceptsCall (old .log) x (record { site = represented (r .site) new; reply = replied (r .reply) (new .lists) }) (new .log) →
+    PastKept (r .site .count) (old .book) (new .book) →
+    drop (r .reply .first + r .reply .second) (new .lists) ≡ drop (r .reply .first + r .reply .second) (old .lists) →
     Does s old x r new
-does s old x r new a =
-    subst (λ (y : Reply). Does s old y r new) (sym (a .accepted)) (record { answer = a .says; valid = a .sound; state = a .state; past = a .past })
+does s old x r new a histories lists =
+    subst (λ (y : Reply). Does s old y r new) (sym (a .accepted))
+    (record { answer = a .says; valid = a .sound; state = a .state; past = a .past; pastHistories = histories; pastLists = lists })
 
 -- A call that the specification refuses: site and all that is lent are the very ones that came in.
 pub refuses : (s : Site) (old : Lent) (reply : Reply) (q : Refusal) (r : CallResult) → reply ≡ refused q →
-    Says (replied (r .reply) (old .first) (old .second)) (Refused q) → r .site ≡ s → Does s old reply r old
+    Says (replied (r .reply) (old .lists)) (Refused q) → r .site ≡ s → Does s old reply r old
 refuses s old reply q r e says same = subst (λ (x : Reply). Does s old x r old) (sym e) (record { answer = says; site = same; kept = refl })
 
 -- .. the log too, where the writer found no room
 pub refuses-full : (s : Site) (old : Lent) (new : List ℕ) (reply : Reply) (q : Refusal) (r : CallResult) → reply ≡ refused q → new ≡ old .log →
-    Says (replied (r .reply) (old .first) (old .second)) (Refused q) → r .site ≡ s → Does s old reply r (lent new (old .queue) (old .done) (old .book) (old .first) (old .second))
+    Says (replied (r .reply) (old .lists)) (Refused q) → r .site ≡ s → Does s old reply r (lent new (old .queue) (old .done) (old .book) (old .lists))
 refuses-full s old new reply q r e f says same =
-    subst (λ (b : List ℕ). Does s old reply r (lent b (old .queue) (old .done) (old .book) (old .first) (old .second))) (sym f) (refuses s old reply q r e says same)
+    subst (λ (b : List ℕ). Does s old reply r (lent b (old .queue) (old .done) (old .book) (old .lists))) (sym f) (refuses s old reply q r e says same)
 
 -- A call that the specification accepts: the site after it holds the next state.
 pub accepts-call : (old : List ℕ) (reply : Reply) (st : State) (a : Answer) (r : Taken) (new : List ℕ) → reply ≡ ok st a →

@@ -76,11 +76,11 @@ pub record Carries (s : Representation) (bytes : List ℕ) (st : State) : Type 0
   pub waiting : waitingIn (s .restoring) s ≡ st .waiting
   pub reserved : s .reserved ≡ sum lineBytes (st .waiting)
   pub historiesLong : length (s .histories) ≡ 16
-  pub book : (h : ℕ) → h < 16 → cellsOf (s .histories) h ≡ cell h (st .log)
+  pub book : (h : ℕ) → h < s .count → cellsOf (s .histories) h ≡ cell h (st .log)
   pub persistedLong : length (s .persisted) ≡ 16
-  pub persisted : (h : ℕ) → h < 16 → getD (s .persisted) h 0 ≡ versionAt (st .persistentTo) h st
+  pub persisted : (h : ℕ) → h < s .count → getD (s .persisted) h 0 ≡ versionAt (st .persistentTo) h st
   pub stabilisedLong : length (s .stabilised) ≡ 16
-  pub stabilised : (h : ℕ) → h < 16 → getD (s .stabilised) h 0 ≡ versionAt (st .stableTo) h st
+  pub stabilised : (h : ℕ) → h < s .count → getD (s .stabilised) h 0 ≡ versionAt (st .stableTo) h st
   pub usable : UsableQueue (s .queue)
   -- done operations that are not yet stable, in log order
   pub finished : IsDone (s .finished) (map doneEntryOf (liveDone st))

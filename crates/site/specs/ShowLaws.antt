@@ -1,6 +1,5 @@
 -- Show against the specification.
 use Prim.Native.Nat.{ℕ, _≤_, _<_}
-use native.Mathlib.Omega.{arith}
 use mathlib.Core.Path.{_≡_, refl, sym, _∙_}
 use mathlib.Core.List.{List, []}
 use lib.ListN.{getD}
@@ -46,17 +45,14 @@ show-accepted s bytes h v le below =
     c : Carries s bytes (stateOf s bytes)
     c = v .carries
 
-    few : h < 16
-    few = let m = histories-most (s .count) (v .good .histories) in omega arith
-
     now-h : cell h (stateOf s bytes .log) ≡ cellsOf (s .histories) h
-    now-h = sym (c .book h few)
+    now-h = sym (c .book h below)
 
     persisted : versionAt (s .persistent .0) h (stateOf s bytes) ≡ getD (s .persisted) h 0
-    persisted = sym (c .persisted h few)
+    persisted = sym (c .persisted h below)
 
     stabilised : versionAt (s .stable .0) h (stateOf s bytes) ≡ getD (s .stabilised) h 0
-    stabilised = sym (c .stabilised h few)
+    stabilised = sym (c .stabilised h below)
 
 -- the reply that shows history h: what it holds, and its persistent and its stable version
 abbrev pub shownOf : ℕ → History → ℕ → ℕ → List ℕ → List ℕ → Replied

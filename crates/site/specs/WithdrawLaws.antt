@@ -18,7 +18,7 @@ use Rattle.rules.specs.State.{State, refused, ok, liveDone, dry, becameDry, wit
 use Rattle.rules.specs.Calls.{Call, unless, writable, perform, step, without, withdrawRefusal, withdraw}
 use Rattle.rules.specs.Good.{operationIds, didIds}
 use Rattle.table.specs.declared.Found.the-variants.{At, Nothing}
-use Rattle.table.specs.Lists.{IsNumbers, firstAt}
+use Rattle.table.specs.Lists.{firstAt}
 use Rattle.table.specs.Arrays.{Tabulates, ceases}
 use Rattle.table.specs.Queues.{Queued, queueOf, UsableQueue, IsQueue, isEntry, pastEntry}
 use Rattle.table.specs.QueueLaws.{queue-length}
@@ -26,7 +26,7 @@ use Rattle.table.specs.Tries.{operationsOf}
 use Rattle.table.specs.FindLaws.{first-found, any-future, no-future, without-is}
 use Rattle.table.specs.BookLaws.{became-dry-is}
 use Rattle.site.specs.Representation.{Representation, stateOf, pendingIn, waitingIn, Sound}
-use Rattle.site.specs.ModelLaws.{AcceptsCall, step-performs, accepts-step, says-lists, means, means-none}
+use Rattle.site.specs.ModelLaws.{AcceptsCall, step-performs, accepts-step, says-lists, Means, means-is, means-none}
 use Rattle.site.specs.QueueLaws.{withQueue, carries-queue}
 use Rattle.site.specs.Busy.{busyIn}
 use Rattle.site.specs.BusyLaws.{busy-wet}
@@ -68,7 +68,7 @@ module _ (s : Representation) (bytes : List ℕ) (i k : ℕ) (v : Sound s bytes)
     (removed : IsQueue left (take k (queueOf (s .queue)) ++ drop (k + 1) (queueOf (s .queue))))
     (was : Tabulates false before (busyIn (s .restoring) (s .queue) (s .finished) (s .persistent .0 - s .stable .0)))
     (is : Tabulates false after (busyIn (s .restoring) left (s .finished) (s .persistent .0 - s .stable .0)))
-    (dried : IsNumbers a (keep (ceases before after) (below (s .count)))) where
+    (dried : Means a (keep (ceases before after) (below (s .count)))) where
   -- the ids of the operations are distinct
   once : Nodup (operationIds (operationsOf (queueOf (s .queue))))
   unfolding Sound
@@ -103,11 +103,7 @@ module _ (s : Representation) (bytes : List ℕ) (i k : ℕ) (v : Sound s bytes)
       accepts-step s bytes (Call.Withdraw i) (withdrawnFrom i s bytes) (Withdrawn (becameDry (stateOf s bytes) (withdrawnFrom i s bytes))) _ bytes v
       (withdraw-accepted s bytes i k le e found)
       (says-lists _ (becameDry (stateOf s bytes) (withdrawnFrom i s bytes)) []
-      (means (record {
-        few = dried .few;
-        long = dried .long;
-        list = dried .list ∙ became-dry-is before after (stateOf s bytes) (withdrawnFrom i s bytes) (marks-ordered s bytes v .few) wet-before wet-after;
-      }))
+      (means-is dried (became-dry-is before after (stateOf s bytes) (withdrawnFrom i s bytes) (marks-ordered s bytes v .few) wet-before wet-after))
       (means-none ys))
       (carries-queue s bytes (stateOf s bytes) (v .carries) left (s .restoring) (s .reserved) (without i (pendingIn (s .restoring) s)) (waitingIn (s .restoring) s)
       (removed .usable) (rw e left-is) (rw e refl) (v .carries .reserved))

@@ -7,18 +7,19 @@ ghost use Rattle.table.specs.Dones.{UsableDones};
 ghost use Rattle.table.specs.Queues.{UsableQueue};
 ghost use Rattle.table.specs.Slots.{stored, storedDone};
 ghost use Rattle.site.specs.Busy.{busyIn};
+use super::Site;
 use table::DoneList;
 use table::Queue;
 use table::slots::DoneWords;
 use table::slots::QueueWords;
 
 // The histories that are marked in one array or in the other.
-fn joined(a: [bool; 16], b: [bool; 16]) -> [bool; 16]
+fn joined(a: [bool; Site::HISTORIES], b: [bool; Site::HISTORIES]) -> [bool; Site::HISTORIES]
     ensures { λ r. ⌜ Tabulates false r (λ (h : ℕ). getD a h false || getD b h false) ⌝ }
 {
-    let mut r = [false; 16];
+    let mut r = [false; Site::HISTORIES];
     let mut h = 0;
-    while h < 16 {
+    while h < Site::HISTORIES {
         let x = table::either(a[h], b[h]);
         r[h] = x;
         h += 1;
@@ -34,7 +35,7 @@ pub fn busy(
     finished: DoneList,
     done: &DoneWords,
     from: usize,
-) -> [bool; 16]
+) -> [bool; Site::HISTORIES]
     requires { ⌜ UsableQueue (stored queue (now queued)) ⌝ }
     requires { ⌜ UsableDones (storedDone finished (now done)) ⌝ }
     requires { ⌜ from ≤ finished .count ⌝ }

@@ -1,15 +1,13 @@
 // End: restoring is over.
-ghost use Prim.Native.Nat.{ℕ};
-ghost use mathlib.Core.List.{List, []};
 ghost use Rattle.rules.specs.Calls.{Call};
-ghost use Rattle.site.specs.Model.{lent, Valid, Steps};
+ghost use Rattle.site.specs.Model.{received, old, new, Valid, Steps};
 use super::CallResult;
 use super::Site;
 use super::refusal;
-use forms::ListWords;
 use forms::Refusal;
 use forms::ReplyForm;
 use forms::ReplyLine;
+use forms::ReplyNumbers;
 use history::book::BookWords;
 use table::Queue;
 use table::slots::DoneWords;
@@ -23,16 +21,15 @@ impl Site {
         queued: &QueueWords,
         done: &DoneWords,
         book: &BookWords,
-        first: &mut ListWords,
+        lists: &mut ReplyNumbers,
     ) -> CallResult
-        requires { ⌜ Valid self (lent (now log) (now queued) (now done) (now book) [] []) ⌝ }
-        ensures { λ r. ⌜ ((ys : List ℕ) → Steps self (lent (now (log .entry)) (now (queued .entry)) (now (done .entry)) (now (book .entry)) (now (first .entry)) ys) Call.End r
-            (lent (now (log .entry)) (now (queued .entry)) (now (done .entry)) (now (book .entry)) (now (first .exit)) ys)) ⌝ }
+        requires { ⌜ Valid self (received log queued done book) ⌝ }
+        ensures { λ r. ⌜ Steps self (old log queued done book lists) Call.End r (new log queued done book lists) ⌝ }
     {
         let restoring = self.restoring;
         if restoring {
             let queue = self.queue;
-            let ids = queue.ids(queued, first);
+            let ids = queue.ids(queued, lists, 0);
             let mut site = self;
             site.queue = Queue::empty();
             site.restoring = false;

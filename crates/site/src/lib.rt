@@ -25,8 +25,8 @@ pub mod show;
 pub mod stable;
 pub mod withdraw;
 
-// A site by value. What the caller lends to each call: a buffer whose first `used` bytes are its log, two arrays of numbers with the entries of its
-// table, one with its histories, and two for the lists of the reply.
+// A site by value. What the caller lends to each call: a buffer whose first `used` bytes are its log, two arrays of numbers with the
+// entries of its table, one with its histories, and one for the lists of the reply, one behind the other.
 pub struct Site {
     // how many histories there are
     pub count: usize,
@@ -66,7 +66,7 @@ impl Site {
 
 // A reply without numbers behind those of its form.
 fn bare(form: ReplyForm) -> ReplyLine
-    ensures { λ r. ⌜ ((xs ys : List ℕ) → Says (replied r xs ys) (outcomeWith form [] [])) ⌝ }
+    ensures { λ r. ⌜ ((ns : List ℕ) → Says (replied r ns) (outcomeWith form [] [])) ⌝ }
 {
     ReplyLine {
         form,
@@ -77,7 +77,7 @@ fn bare(form: ReplyForm) -> ReplyLine
 
 // The reply of a refusal.
 pub fn refusal(q: Refusal) -> ReplyLine
-    ensures { λ r. ⌜ ((xs ys : List ℕ) → Says (replied r xs ys) (Refused q)) ⌝ }
+    ensures { λ r. ⌜ ((ns : List ℕ) → Says (replied r ns) (Refused q)) ⌝ }
 {
     bare(ReplyForm::Refused(q))
 }

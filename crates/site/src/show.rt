@@ -1,8 +1,8 @@
 // Show: what a history is now.
 ghost use Prim.Native.Nat.{ℕ};
-ghost use mathlib.Core.List.{List, []};
+ghost use mathlib.Core.List.{List};
 ghost use Rattle.rules.specs.Calls.{Call};
-ghost use Rattle.site.specs.Model.{lent, Valid, Steps};
+ghost use Rattle.site.specs.Model.{received, oldWith, newWith, Valid, Steps};
 use super::CallResult;
 use super::Site;
 use super::refusal;
@@ -14,6 +14,7 @@ use forms::Version;
 use history::book::BookWords;
 use history::book::PERSISTED;
 use history::book::STABILISED;
+use history::book::WIDTH;
 use history::book::history_at;
 use table::slots::DoneWords;
 use table::slots::QueueWords;
@@ -28,9 +29,9 @@ impl Site {
         book: &BookWords,
         h: u64,
     ) -> CallResult
-        requires { ⌜ Valid self (lent (now log) (now queued) (now done) (now book) [] []) ⌝ }
-        ensures { λ r. ⌜ ((xs ys : List ℕ) → Steps self (lent (now (log .entry)) (now (queued .entry)) (now (done .entry)) (now (book .entry)) xs ys) (Call.Show h) r
-            (lent (now (log .entry)) (now (queued .entry)) (now (done .entry)) (now (book .entry)) xs ys)) ⌝ }
+        requires { ⌜ Valid self (received log queued done book) ⌝ }
+        ensures { λ r. ⌜ ((ns : List ℕ) →
+            Steps self (oldWith ns log queued done book) (Call.Show h) r (newWith ns log queued done book)) ⌝ }
     {
         let n = self.count;
         if n as u64 <= h {
@@ -46,8 +47,8 @@ impl Site {
         let shown = Shown {
             history: h,
             version,
-            persistent: Version(book[PERSISTED + i]),
-            stable: Version(book[STABILISED + i]),
+            persistent: Version(book[WIDTH * i + PERSISTED]),
+            stable: Version(book[WIDTH * i + STABILISED]),
             place,
             profile: c.profile as u64,
         };

@@ -140,12 +140,12 @@ module _ (s : Stream) (old : Lent) (chunk : List ℕ) (r : FeedResult) (new : Le
     abbrev part : List ℕ
     part = take (e - r .used) (drop (r .used) chunk)
 
-    pub line-printable : Printable (replied (t .reply) (after .first) (after .second))
+    pub line-printable : Printable (replied (t .reply) (after .lists))
     line-printable = let l = some-line (r .stream .begun) (a .valid .begun) in turns (l .line) (l .begins) .answer .printable
 
     pub along-line : (b : PartialLine) (n : ℕ) (next : List ℕ) → length (after .log) ≡ length (new .log) → length next ≡ length page →
         Begins b [] →
-        Wrote page (r .written) (ended (outcomeText (outcomeOf (replied (t .reply) (after .first) (after .second))))) n next →
+        Wrote page (r .written) (ended (outcomeText (outcomeOf (replied (t .reply) (after .lists))))) n next →
         Along s old chunk (record { stream = record { session = t .session; begun = b }; used = e + 1; written = n }) after out next
     unfolding logged fed
     along-line b n next same long none w =

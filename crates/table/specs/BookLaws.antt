@@ -191,13 +191,13 @@ keep-below p q (suc n) e =
     ∙ sym (keep-append q (below n) (n ∷ []))
 
 -- the histories whose persistent (stable) version rose
-pub rose-is : (before after : List ℕ) (m k : ℕ) (st : State) → st .histories ≤ 16
-    → Tabulates 0 before (λ (h : ℕ). versionAt m h st) → Tabulates 0 after (λ (h : ℕ). versionAt k h st)
+pub rose-is : (before after : List ℕ) (m k : ℕ) (st : State)
+    → ((h : ℕ) → h < st .histories → getD before h 0 ≡ versionAt m h st) → ((h : ℕ) → h < st .histories → getD after h 0 ≡ versionAt k h st)
     → keep (rises before after) (below (st .histories)) ≡ rose m k st
 unfolding rose
-rose-is before after m k st le a b =
+rose-is before after m k st a b =
     keep-below (rises before after) (λ (h : ℕ). ltb (versionAt m h st) (versionAt k h st)) (st .histories)
-    (λ h l. ap₂ ltb (a .each h (omega arith)) (b .each h (omega arith)))
+    (λ h l. ap₂ ltb (a h l) (b h l))
 
 -- marks of what keeps a history from being dry
 pub wet-is : (r : List Bool) (st : State)

@@ -37,13 +37,11 @@ pub usable-history : (e : Entry) → UsableEntry e → (u : Update) → Mem u (e
 unfolding operationOf
 usable-history e w u m = item-low itemUpdate (λ (v : Update). v .history) (λ x. refl) e w u m
 
--- An entry can run against the cells of the histories where it can against the log that they stand for.
-pub can-run-is : (log : List Did) (hs : List History) (e : Entry) → ((h : ℕ) → h < 16 → cellsOf hs h ≡ cell h log) → UsableEntry e
-    → canRunEntry (cellsOf hs) e ≡ canRun log (didOfEntry e)
-unfolding canRunIn canRun didOfEntry
-can-run-is log hs e same w =
-    all-agree _ _ (didOfEntry e .changes)
-    (λ x m. ap (λ (c : Cell). runsAt c x) (same (x .history) (item-low itemChange (λ (y : Change). y .history) (λ y. refl) e w x m)))
+-- An entry can run against the cells of the first n histories where it can against the log that they stand for.
+pub can-run-is : (n : ℕ) (log : List Did) (hs : List History) (e : Entry) → ((h : ℕ) → h < n → cellsOf hs h ≡ cell h log)
+    → ((x : Change) → Mem x (didOfEntry e .changes) → x .history < n) → canRunEntry (cellsOf hs) e ≡ canRun log (didOfEntry e)
+unfolding canRunIn canRun
+can-run-is n log hs e same low = all-agree _ _ (didOfEntry e .changes) (λ x m. ap (λ (c : Cell). runsAt c x) (same (x .history) (low x m)))
 
 -- What is found for an item and its history, as they were read, holds of the item against the cells of the histories.
 module _ (hs : List History) (y : Item) {h : History} {b : Bool} where

@@ -12,7 +12,7 @@ use lib.ListN.{length, getD, take, drop}
 use lib.Seq.{split-at}
 use Rattle.forms.specs.Lists.{any, keep, find}
 use Rattle.forms.specs.ListLaws.{Nodup, nodup-mid, keep-append, keep-all, true-T, mem-at, mem-along}
-use Rattle.forms.specs.Forms.{Did}
+use Rattle.forms.specs.Forms.{Did, Change}
 use Rattle.rules.specs.Book.{cell, canRun}
 use Rattle.rules.specs.State.{Operation}
 use Rattle.rules.specs.Calls.{inProgress, future, without, behind, pick, Pick}
@@ -21,7 +21,7 @@ use Rattle.rules.specs.Good.{didIds, operationIds}
 use Rattle.rules.specs.CheckLaws.{or-false-left, or-false-right}
 use Rattle.history.specs.declared.History.{History}
 use Rattle.history.specs.declared.Entry.{Entry}
-use Rattle.history.specs.Entries.{cellsOf, operationOf, didOfEntry, UsableEntry}
+use Rattle.history.specs.Entries.{cellsOf, operationOf, didOfEntry}
 use Rattle.history.specs.Tests.{any-map, any-agree, map-map}
 use Rattle.table.specs.declared.Found.{Found}
 use Rattle.table.specs.declared.Found.the-variants.{At, Nothing}
@@ -195,12 +195,12 @@ pick-none log (w ∷ l) e =
     ap (picked log w l) (or-false-left (canRun log w) (any (canRun log) l) e)
     ∙ ap (behind w) (pick-none log l (or-false-right (canRun log w) (any (canRun log) l) e))
 
-module _ (log : List Did) (hs : List History) (l : List Entry) (same : (h : ℕ) → h < 16 → cellsOf hs h ≡ cell h log)
-    (usable : (e : Entry) → Mem e l → UsableEntry e) where
+module _ (n : ℕ) (log : List Did) (hs : List History) (l : List Entry) (same : (h : ℕ) → h < n → cellsOf hs h ≡ cell h log)
+    (low : (e : Entry) → Mem e l → (x : Change) → Mem x (didOfEntry e .changes) → x .history < n) where
   agree : (a : List Entry) → ((e : Entry) → Mem e a → Mem e l) → any (canRun log) (map didOfEntry a) ≡ any (canRunEntry (cellsOf hs)) a
   agree a into =
       any-map didOfEntry (canRun log) a
-      ∙ sym (any-agree (canRunEntry (cellsOf hs)) (λ (e : Entry). canRun log (didOfEntry e)) a (λ e m. can-run-is log hs e same (usable e (into e m))))
+      ∙ sym (any-agree (canRunEntry (cellsOf hs)) (λ (e : Entry). canRun log (didOfEntry e)) a (λ e m. can-run-is n log hs e same (low e (into e m))))
 
   -- The first line that can run is the one that the specification picks, and the queue without it holds the others.
   pub pick-is : (k : ℕ) → firstAt (canRunEntry (cellsOf hs)) l ≡ At k
@@ -209,7 +209,7 @@ module _ (log : List Did) (hs : List History) (l : List Entry) (same : (h : ℕ)
       ap (pick log) (map-split didOfEntry l pastEntry k (f .lt))
       ∙ pick-mid log (map didOfEntry (take k l)) (didOfEntry (getD l k pastEntry)) (map didOfEntry (drop (suc k) l))
       (agree (take k l) (λ x m. whole x (Memᴰ·append-left (getD l k pastEntry ∷ drop (suc k) l) m)) ∙ f .miss)
-      (sym (can-run-is log hs (getD l k pastEntry) same (usable (getD l k pastEntry) (whole (getD l k pastEntry) (mem-at (getD l k pastEntry) (take k l) (drop (suc k) l))))) ∙ f .hit)
+      (sym (can-run-is n log hs (getD l k pastEntry) same (low (getD l k pastEntry) (whole (getD l k pastEntry) (mem-at (getD l k pastEntry) (take k l) (drop (suc k) l))))) ∙ f .hit)
       ∙ ap (this (didOfEntry (getD l k pastEntry))) (sym (map-rest didOfEntry l pastEntry k (f .lt)))
     where
       f : First (canRunEntry (cellsOf hs)) pastEntry l k

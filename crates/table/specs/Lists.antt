@@ -1,10 +1,10 @@
 -- The first element that passes a test, and a list without one element.
-use Prim.Native.Nat.{ℕ, zero, suc, _≤_}
+use Prim.Native.Nat.{ℕ, zero, suc, _+_}
 use mathlib.Core.Path.{_≡_}
 use mathlib.Core.Bool.{Bool, cond}
 use mathlib.Core.List.{List, [], _∷_}
 use lib.ListN.{length}
-use Rattle.forms.specs.Held.{numbersOf, Numbers}
+use Rattle.forms.specs.Write.{Wrote}
 use Rattle.table.specs.declared.Found.{Found}
 use Rattle.table.specs.declared.Found.the-variants.{At, Nothing}
 
@@ -24,8 +24,7 @@ omit k [] = []
 omit zero (x ∷ xs) = xs
 omit (suc k) (x ∷ xs) = x ∷ omit k xs
 
--- The list of numbers that is held.
-pub record IsNumbers (n : Numbers) (l : List ℕ) : Type 0 where
-  pub few : n .count ≤ 64
-  pub long : length (n .values) ≡ 64
-  pub list : numbersOf n ≡ l
+-- The array of a reply's lists has the n numbers l from `at` on, and is as it was elsewhere.
+pub record IsNumbers (old : List ℕ) (at n : ℕ) (ws l : List ℕ) : Type 0 where
+  pub long : length old ≡ 68
+  pub wrote : Wrote old at l (at + n) ws

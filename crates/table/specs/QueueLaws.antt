@@ -1,66 +1,69 @@
 -- Laws of queues: one entry more, one less.
 use Prim.Native.Nat.{ℕ, suc, _+_, _-_, _≤_, _<_}
 use native.Mathlib.Omega.{arith}
-use mathlib.Core.Path.{_≡_, refl, sym, ap, subst, _∙_}
+use mathlib.Core.Path.{_≡_, sym, ap, subst, _∙_}
 use mathlib.Core.Bool.{Bool, true, false, _&&_}
 use mathlib.Core.List.{List, [], _∷_, _++_, append-nil}
 use mathlib.Core.List.{List·Memᴰ·not-nil}
 use lib.ListN.{length, getD, take, drop, set, length-set}
 use lib.Seq.{length-take-le, split-at}
 use Rattle.forms.specs.Lists.{keep, below}
-use Rattle.forms.specs.Held.{numbersOf, listed, Numbers}
 use Rattle.forms.specs.ListLaws.{mem-along, mem-widen}
 use Rattle.history.specs.declared.Entry.{Entry}
 use Rattle.history.specs.Entries.{UsableEntry}
+use Rattle.forms.specs.Write.{Wrote}
+use Rattle.forms.specs.WriteLaws.{wrote-none, wrote-more}
 use Rattle.table.specs.Lists.{omit, IsNumbers}
 use Rattle.table.specs.Queues.{Queued, queueOf, UsableQueue, IsQueue, pastEntry}
 use Rattle.table.specs.LoopLaws.{take-push, push-each, take-none, mem-take, omitted, below-next}
 
 -- ### Numbers
 
-pub number-pushed : (ns : Numbers) (x : ℕ) → length (ns .values) ≡ 64 → ns .count < 64
-    → IsNumbers (record { count = ns .count + 1; values = set (ns .values) (ns .count) x }) (numbersOf ns ++ (x ∷ []))
-unfolding numbersOf
-number-pushed ns x l h = record {
-  few = omega arith;
-  long = length-set (ns .values) (ns .count) x ∙ l;
-  list = take-push (ns .values) (ns .count) x (omega arith);
-}
-
 -- a list of numbers that grows
-pub numbers-next : (ns r : Numbers) (x : ℕ) (l k : List ℕ) → IsNumbers ns l → IsNumbers r (numbersOf ns ++ (x ∷ [])) → k ≡ l ++ (x ∷ []) → IsNumbers r k
-numbers-next ns r x l k a b e = record { few = b .few; long = b .long; list = b .list ∙ ap (λ (z : List ℕ). z ++ (x ∷ [])) (a .list) ∙ sym e }
+pub numbers-next : (old : List ℕ) (at n : ℕ) (ws : List ℕ) (x : ℕ) (l k vs : List ℕ) → IsNumbers old at n ws l → Wrote ws (at + n) (x ∷ []) (at + n + 1) vs
+    → at + n < 68 → k ≡ l ++ (x ∷ []) → IsNumbers old at (n + 1) vs k
+numbers-next old at n ws x l k vs a w room e =
+    let more : Wrote old at (l ++ (x ∷ [])) (at + n + 1) vs =
+    wrote-more old at l (x ∷ []) (at + n) (at + n + 1) ws vs (omega (arith, a .long, a .wrote .behind, room)) (a .wrote) w in
+    record {
+      long = a .long;
+      wrote = subst (λ (z : List ℕ). Wrote old at z (at + (n + 1)) vs) (sym e) (record { behind = omega (arith, more .behind); bytes = more .bytes });
+    }
 
-pub no-numbers : (ws : List ℕ) → length ws ≡ 64 → IsNumbers (listed 0 ws) []
-unfolding numbersOf
-no-numbers ws l = record { few = omega arith; long = l; list = take-none 0 ws refl }
+pub no-numbers : (ws : List ℕ) (at : ℕ) → length ws ≡ 68 → IsNumbers ws at 0 ws []
+no-numbers ws at l = record { long = l; wrote = wrote-none ws at }
 
 -- the numbers below h that pass a test
-pub record KeptBelow (p : ℕ → Bool) (h : ℕ) (ns : Numbers) : Type 0 where
-  pub few : ns .count ≤ h
-  pub is : IsNumbers ns (keep p (below h))
+pub record KeptBelow (p : ℕ → Bool) (h : ℕ) (old : List ℕ) (at n : ℕ) (ws : List ℕ) : Type 0 where
+  pub few : n ≤ h
+  pub is : IsNumbers old at n ws (keep p (below h))
 
-pub kept-yes : (p : ℕ → Bool) (ns r next : Numbers) (h : ℕ) → KeptBelow p h ns → IsNumbers r (numbersOf ns ++ (h ∷ [])) × (r .count ≡ ns .count + 1) → next ≡ r
-    → p h ≡ true → KeptBelow p (h + 1) next
-kept-yes p ns r next h a b f e =
-    subst (KeptBelow p (h + 1)) (sym f)
-    (record { few = omega (arith, a .few, b .1); is = numbers-next ns r h (keep p (below h)) (keep p (below (h + 1))) (a .is) (b .0) (below-next p h true e) })
+module _ (p : ℕ → Bool) (old : List ℕ) (at n : ℕ) (ws : List ℕ) (h : ℕ) (a : KeptBelow p h old at n ws) where
+  pub kept-yes : {m : ℕ} {us vs : List ℕ} → Wrote ws (at + n) (h ∷ []) (at + n + 1) vs → at + n < 68 → us ≡ vs → m ≡ n + 1 → p h ≡ true → KeptBelow p (h + 1) old at m us
+  kept-yes {m} {us} {vs} w room f g e =
+      subst (λ (k : ℕ). KeptBelow p (h + 1) old at k us) (sym g)
+      (subst (KeptBelow p (h + 1) old at (n + 1)) (sym f)
+      (record {
+        few = omega (arith, a .few);
+        is = numbers-next old at n ws h (keep p (below h)) (keep p (below (h + 1))) vs (a .is) w room (below-next p h true e);
+      }))
 
-pub kept-no : (p : ℕ → Bool) (ns next : Numbers) (h : ℕ) → KeptBelow p h ns → next ≡ ns → p h ≡ false → KeptBelow p (h + 1) next
-kept-no p ns next h a f e =
-    subst (KeptBelow p (h + 1)) (sym f)
-    (record {
-      few = omega (arith, a .few);
-      is = record { few = a .is .few; long = a .is .long; list = a .is .list ∙ sym (append-nil (keep p (below h))) ∙ sym (below-next p h false e) };
-    })
+  pub kept-no : {m : ℕ} {us : List ℕ} → us ≡ ws → m ≡ n → p h ≡ false → KeptBelow p (h + 1) old at m us
+  kept-no {m} {us} f g e =
+      subst (λ (k : ℕ). KeptBelow p (h + 1) old at k us) (sym g)
+      (subst (KeptBelow p (h + 1) old at n) (sym f)
+      (record {
+        few = omega (arith, a .few);
+        is = subst (IsNumbers old at n ws) (sym (append-nil (keep p (below h))) ∙ sym (below-next p h false e)) (a .is);
+      }))
 
 -- a test that fails in its first half
 pub and-no : (a b : Bool) → a ≡ false → (a && b) ≡ false
 and-no a b e = ap (λ (t : Bool). t && b) e
 
-pub kept-none : (p : ℕ → Bool) (ws : List ℕ) → length ws ≡ 64 → KeptBelow p 0 (listed 0 ws)
+pub kept-none : (p : ℕ → Bool) (ws : List ℕ) (at : ℕ) → length ws ≡ 68 → KeptBelow p 0 ws at 0 ws
 unfolding below
-kept-none p ws l = record { few = omega arith; is = no-numbers ws l }
+kept-none p ws at l = record { few = omega arith; is = no-numbers ws at l }
 
 -- ### Queues
 

@@ -11,11 +11,10 @@ use Rattle.rules.specs.Rules.{strong}
 use Rattle.rules.specs.Book.{Cell}
 use Rattle.rules.specs.State.{Operation}
 use Rattle.rules.specs.Calls.{blocked, madeReady}
-use Rattle.forms.specs.Held.{Numbers}
 use Rattle.history.specs.declared.Entry.{Entry}
 use Rattle.history.specs.Entries.{operationOf, mayRunIn}
 use Rattle.table.specs.declared.Marks.{Marks}
-use Rattle.table.specs.Lists.{IsNumbers}
+use Rattle.history.specs.Lists.{Lists}
 use Rattle.table.specs.Queues.{Queued, queueOf, UsableQueue}
 use Rattle.table.specs.Arrays.{Tabulates}
 
@@ -86,8 +85,8 @@ startsBy cells m x = not (x .running) && all (readyBy cells m) (x .updates)
 abbrev pub operationsOf : List Entry → List Operation
 operationsOf l = map operationOf l
 
--- The queue after a pass over these entries, and the ids made ready.
-pub record Tries (cells : ℕ → Cell) (l : List Entry) (q : Queued) (ns : Numbers) : Type 0 where
+-- The queue after a pass over these entries, and the ids made ready, r of them, as a list from `at` on.
+pub record Tries (cells : ℕ → Cell) (l : List Entry) (q : Queued) (old : List ℕ) (at r : ℕ) (new : List ℕ) : Type 0 where
   pub usable : UsableQueue q
   pub queue : operationsOf (queueOf q) ≡ tryAllIn cells (operationsOf l)
-  pub ready : IsNumbers ns (madeReady (operationsOf l) (tryAllIn cells (operationsOf l)))
+  pub ready : Lists old at (madeReady (operationsOf l) (tryAllIn cells (operationsOf l))) r new

@@ -6,12 +6,12 @@ use mathlib.Core.Path.{_≡_, refl, sym, ap, ap₂, subst, _∙_}
 use mathlib.Core.Logic.{_⊎_, inl, inr}
 use mathlib.Core.Bool.{Bool, true, false, cond, not, _&&_, _||_, or-assoc, or-comm, and-not-self}
 use mathlib.Core.List.{List, [], _∷_, _++_, map-append, append-nil}
-use mathlib.Core.List.{List·Memᴰ as Mem, List·Memᴰ·head as here, List·Memᴰ·tail as there, List·Memᴰ·not-nil, List·Memᴰ·cases-cons}
+use mathlib.Core.List.{List·Memᴰ as Mem, List·Memᴰ·head as here, List·Memᴰ·tail as there}
 use lib.ListN.{length, getD, take, drop, set, length-set, length-map, length-take, drop-of-length-le}
 use lib.Seq.{split-at, set-split, set-getD, drop-cons, drop-drop, drop-set-lt, getD-drop, getD-take, take-all, take-set-lt, length-take-le}
 use Rattle.forms.specs.Lists.{any, all}
 use Rattle.forms.specs.ListLaws.{mem-at}
-use Rattle.forms.specs.Held.{numbersOf, Numbers}
+use Rattle.forms.specs.Held.{Numbers, listed}
 use Rattle.forms.specs.Forms.{Update, Did}
 use Rattle.rules.specs.Rules.{mayRun}
 use Rattle.rules.specs.Book.{Cell, cell}
@@ -23,7 +23,9 @@ use Rattle.history.specs.Entries.{cellsOf, operationOf, mayRunIn, UsableEntry}
 use Rattle.history.specs.Tests.{all-agree}
 use Rattle.history.specs.CellLaws.{logCells}
 use Rattle.table.specs.declared.Marks.{Marks}
+use Rattle.forms.specs.Write.{Wrote}
 use Rattle.table.specs.Lists.{IsNumbers}
+use Rattle.table.specs.QueueLaws.{numbers-next, no-numbers}
 use Rattle.table.specs.Queues.{Queued, queueOf, pastEntry}
 use Rattle.table.specs.Slots.{begun}
 use Rattle.table.specs.Tries.{readyIn, attemptIn, tryFromIn, tryAllIn, gather, held, heldOf, entryUpdates, MarksOf, More, readyBy, startsBy, operationsOf, Tries}
@@ -38,15 +40,15 @@ unfolding tryFromIn tryFrom attemptIn attempt readyIn ready mayRunIn mayRunNow
 try-log log tried [] = refl
 try-log log tried (x ∷ xs) = try-log log (tried ++ (attempt log (tried ++ xs) x ∷ [])) xs
 
-module _ (a b : ℕ → Cell) (same : (h : ℕ) → h < 16 → a h ≡ b h) where
-  attempt-agree : (others : List Operation) (x : Operation) → ((u : Update) → Mem u (x .updates) → u .history < 16) → attemptIn a others x ≡ attemptIn b others x
+module _ (n : ℕ) (a b : ℕ → Cell) (same : (h : ℕ) → h < n → a h ≡ b h) where
+  attempt-agree : (others : List Operation) (x : Operation) → ((u : Update) → Mem u (x .updates) → u .history < n) → attemptIn a others x ≡ attemptIn b others x
   unfolding attemptIn readyIn mayRunIn
   attempt-agree others x low = λ i. record { id = x .id; updates = x .updates; running = x .running || both i }
     where
       both : all (λ (u : Update). mayRunIn a u && not (blocked others u)) (x .updates) ≡ all (λ (u : Update). mayRunIn b u && not (blocked others u)) (x .updates)
       both = all-agree _ _ (x .updates) (λ u m. ap (λ (c : Cell). mayRun (u .rule) (c .version) (u .version) && not (blocked others u)) (same (u .history) (low u m)))
 
-  try-agree : (tried xs : List Operation) → ((x : Operation) → Mem x xs → (u : Update) → Mem u (x .updates) → u .history < 16)
+  try-agree : (tried xs : List Operation) → ((x : Operation) → Mem x xs → (u : Update) → Mem u (x .updates) → u .history < n)
       → tryFromIn a tried xs ≡ tryFromIn b tried xs
   unfolding tryFromIn
   try-agree tried [] low = refl
@@ -54,18 +56,10 @@ module _ (a b : ℕ → Cell) (same : (h : ℕ) → h < 16 → a h ≡ b h) wher
       ap (λ (y : Operation). tryFromIn a (tried ++ (y ∷ [])) xs) (attempt-agree (tried ++ xs) x (low x (here refl)))
       ∙ try-agree (tried ++ (attemptIn b (tried ++ xs) x ∷ [])) xs (λ y m. low y (there m))
 
--- The pass against the cells of the histories is the specification's against the log that they stand for.
-pub try-all-is : (log : List Did) (hs : List History) (l : List Entry) → ((h : ℕ) → h < 16 → cellsOf hs h ≡ cell h log)
-    → ((e : Entry) → Mem e l → UsableEntry e) → tryAllIn (cellsOf hs) (operationsOf l) ≡ tryAll log (operationsOf l)
-try-all-is log hs l same usable = try-agree (cellsOf hs) (logCells log) same [] (operationsOf l) (low l usable) ∙ try-log log [] (operationsOf l)
-  where
-    low : (l : List Entry) → ((e : Entry) → Mem e l → UsableEntry e) → (x : Operation) → Mem x (operationsOf l) → (u : Update) → Mem u (x .updates) → u .history < 16
-    low [] w x m u k = absurd (List·Memᴰ·not-nil m)
-    low (e ∷ l) w x m u k = cases (List·Memᴰ·cases-cons m) (λ r. low l (λ y q. w y (there q)) x r u k)
-      where
-        cases : (x ≡ operationOf e) ⊎ Mem x (operationsOf l) → (Mem x (operationsOf l) → u .history < 16) → u .history < 16
-        cases (inl q) below = usable-history e (w e (here refl)) u (subst (λ (y : Operation). Mem u (y .updates)) q k)
-        cases (inr r) below = below r
+-- The pass against the cells of the first n histories is the specification's against the log that they stand for.
+pub try-all-is : (n : ℕ) (log : List Did) (hs : List History) (xs : List Operation) → ((h : ℕ) → h < n → cellsOf hs h ≡ cell h log)
+    → ((x : Operation) → Mem x xs → (u : Update) → Mem u (x .updates) → u .history < n) → tryAllIn (cellsOf hs) xs ≡ tryAll log xs
+try-all-is n log hs xs same low = try-agree n (cellsOf hs) (logCells log) same [] xs low ∙ try-log log [] xs
 
 -- ### One try, by the marks
 
@@ -124,24 +118,29 @@ made-snoc (z ∷ a) (w ∷ b) x y e = go (w .running && not (z .running)) (made-
     go false q = q
 
 -- After the first i entries of `before` have been tried: the entries now, the marks of those in progress, and the ids made ready.
-pub record TriedTo (cells : ℕ → Cell) (before now : List Entry) (m : Marks) (ns : Numbers) (i : ℕ) : Type 0 where
+pub record TriedTo (cells : ℕ → Cell) (before now : List Entry) (m : Marks) (old : List ℕ) (start : ℕ) (ns : Numbers) (i : ℕ) : Type 0 where
   pub each : (e : Entry) → Mem e now → UsableEntry e
   pub same : length now ≡ length before
   pub behind : drop i now ≡ drop i before
   pub tries : tryFromIn cells (operationsOf (take i now)) (operationsOf (drop i now)) ≡ tryAllIn cells (operationsOf before)
   pub few : ns .count ≤ i
-  pub ready : IsNumbers ns (madeReady (operationsOf (take i before)) (operationsOf (take i now)))
+  pub ready : IsNumbers old start (ns .count) (ns .values) (madeReady (operationsOf (take i before)) (operationsOf (take i now)))
   pub marks : MarksOf m (gather heldOf now)
 
-pub passed-none : (cells : ℕ → Cell) (l : List Entry) (m : Marks) (ns : Numbers) → ((e : Entry) → Mem e l → UsableEntry e) → MarksOf m (gather heldOf l)
-    → ns .count ≡ 0 → IsNumbers ns [] → TriedTo cells l l m ns 0
+pub passed-none : (cells : ℕ → Cell) (l : List Entry) (m : Marks) (old : List ℕ) (start : ℕ) → ((e : Entry) → Mem e l → UsableEntry e) → MarksOf m (gather heldOf l)
+    → length old ≡ 68 → TriedTo cells l l m old start (listed 0 old) 0
 unfolding madeReady
-passed-none cells [] m ns each marks z is =
-    record { each = each; same = refl; behind = refl; tries = refl; few = omega arith; ready = is; marks = marks }
-passed-none cells (x ∷ l) m ns each marks z is =
-    record { each = each; same = refl; behind = refl; tries = refl; few = omega arith; ready = is; marks = marks }
+passed-none cells [] m old start each marks long =
+    record { each = each; same = refl; behind = refl; tries = refl; few = omega arith; ready = no-numbers old start long; marks = marks }
+passed-none cells (x ∷ l) m old start each marks long =
+    record { each = each; same = refl; behind = refl; tries = refl; few = omega arith; ready = no-numbers old start long; marks = marks }
 
-module _ (cells : ℕ → Cell) (before now : List Entry) (m : Marks) (ns : Numbers) (i : ℕ) (p : TriedTo cells before now m ns i) (lt : i < length now) where
+module _ (cells : ℕ → Cell) (before now : List Entry) (m : Marks) (old₀ : List ℕ) (start : ℕ) (ns : Numbers) (i : ℕ)
+    (p : TriedTo cells before now m old₀ start ns i) (lt : i < length now) where
+  -- the ids made ready so far
+  abbrev ids : List ℕ
+  ids = madeReady (operationsOf (take i before)) (operationsOf (take i now))
+
   -- the entry that is tried, and those around it
   abbrev this : Entry
   this = getD now i pastEntry
@@ -168,8 +167,8 @@ module _ (cells : ℕ → Cell) (before now : List Entry) (m : Marks) (ns : Numb
   step : (e : Entry) (r : Marks) (ks : Numbers) → UsableEntry e
       → operationOf e ≡ attemptIn cells (operationsOf (take i now) ++ operationsOf (drop (suc i) now)) (operationOf this)
       → MarksOf r (gather heldOf (set now i e)) → ks .count ≤ i + 1
-      → IsNumbers ks (numbersOf ns ++ cond (e .running && not (this .running)) (e .id ∷ []) [])
-      → TriedTo cells before (set now i e) r ks (i + 1)
+      → IsNumbers old₀ start (ks .count) (ks .values) (ids ++ cond (e .running && not (this .running)) (e .id ∷ []) [])
+      → TriedTo cells before (set now i e) r old₀ start ks (i + 1)
   unfolding operationOf tryFromIn
   step e r ks w att marks few is = record {
     each = λ x k. cases x (mem-set now i e k);
@@ -179,7 +178,7 @@ module _ (cells : ℕ → Cell) (before now : List Entry) (m : Marks) (ns : Numb
         ∙ sym (ap (λ (l : List Operation). tryFromIn cells (operationsOf (take i now)) l) (ap operationsOf (drop-cons now i pastEntry lt)))
         ∙ p .tries;
     few = few;
-    ready = record { few = is .few; long = is .long; list = is .list ∙ ap (λ (l : List ℕ). l ++ cond (e .running && not (this .running)) (e .id ∷ []) []) (p .ready .list) ∙ sym made };
+    ready = subst (IsNumbers old₀ start (ks .count) (ks .values)) (sym made) is;
     marks = marks;
   }
     where
@@ -243,33 +242,31 @@ module _ (cells : ℕ → Cell) (before now : List Entry) (m : Marks) (ns : Numb
           ∙ sym (ap (any q) is ∙ any-append q a (entryUpdates this ++ b) ∙ ap (λ (t : Bool). any q a || t) (any-append q (entryUpdates this) b))
 
   step-yes : (r : Marks) (ks : Numbers) → startsBy cells m (operationOf this) ≡ true → More r m (entryUpdates this)
-      → IsNumbers ks (numbersOf ns ++ (this .id ∷ [])) → ks .count ≡ ns .count + 1 → TriedTo cells before (set now i (begun this)) r ks (i + 1)
+      → IsNumbers old₀ start (ks .count) (ks .values) (ids ++ (this .id ∷ [])) → ks .count ≡ ns .count + 1
+      → TriedTo cells before (set now i (begun this)) r old₀ start ks (i + 1)
   unfolding operationOf
   step-yes r ks s more is n =
       let y = attempt-yes cells m (operationsOf (take i now)) (operationOf this) (operationsOf (drop (suc i) now)) marked-here (usable-history this here-usable) s in
       let f : this .running ≡ false = y .0 in
       step (begun this) r ks (record { few = here-usable .few; long = here-usable .long; each = here-usable .each }) (sym (y .1)) (begun-marks r f more)
       (omega (arith, p .few))
-      (subst (λ (t : Bool). IsNumbers ks (numbersOf ns ++ cond (not t) (this .id ∷ []) [])) (sym f) is)
+      (subst (λ (t : Bool). IsNumbers old₀ start (ks .count) (ks .values) (ids ++ cond (not t) (this .id ∷ []) [])) (sym f) is)
 
-  step-no : startsBy cells m (operationOf this) ≡ false → TriedTo cells before now m ns (i + 1)
+  step-no : startsBy cells m (operationOf this) ≡ false → TriedTo cells before now m old₀ start ns (i + 1)
   unfolding operationOf
   step-no s =
-      subst (λ (l : List Entry). TriedTo cells before l m ns (i + 1)) (set-getD now i pastEntry)
+      subst (λ (l : List Entry). TriedTo cells before l m old₀ start ns (i + 1)) (set-getD now i pastEntry)
       (step this m ns here-usable
       (sym (attempt-no cells m (operationsOf (take i now)) (operationOf this) (operationsOf (drop (suc i) now)) marked-here (usable-history this here-usable) s))
       (subst (λ (l : List Entry). MarksOf m (gather heldOf l)) (sym (set-getD now i pastEntry)) (p .marks))
       (omega (arith, p .few))
-      (record {
-        few = p .ready .few;
-        long = p .ready .long;
-        list = sym (append-nil (numbersOf ns)) ∙ ap (λ (b : Bool). numbersOf ns ++ cond b (this .id ∷ []) []) (sym (and-not-self (this .running)));
-      }))
+      (subst (IsNumbers old₀ start (ns .count) (ns .values))
+      (sym (append-nil ids) ∙ ap (λ (b : Bool). ids ++ cond b (this .id ∷ []) []) (sym (and-not-self (this .running)))) (p .ready)))
 
 -- ### The pass over an array of entries: x is the one that is tried
 
-module _ (cells : ℕ → Cell) (es₀ es : List Entry) (n : ℕ) (m : Marks) (ns : Numbers) (i : ℕ) (x : Entry) (read : x ≡ getD es i pastEntry)
-    (p : TriedTo cells (take n es₀) (take n es) m ns i) (lt : i < n) (fit : n ≤ length es) where
+module _ (cells : ℕ → Cell) (es₀ es : List Entry) (n : ℕ) (m : Marks) (old : List ℕ) (start : ℕ) (ns : Numbers) (i : ℕ) (x : Entry)
+    (read : x ≡ getD es i pastEntry) (p : TriedTo cells (take n es₀) (take n es) m old start ns i) (lt : i < n) (fit : n ≤ length es) where
   inside : i < length (take n es)
   inside = omega (arith, length-take n es)
 
@@ -277,33 +274,37 @@ module _ (cells : ℕ → Cell) (es₀ es : List Entry) (n : ℕ) (m : Marks) (n
   at = getD-take n es i pastEntry lt ∙ sym read
 
   pub tried-usable : UsableEntry x
-  tried-usable = subst UsableEntry at (here-usable cells (take n es₀) (take n es) m ns i p inside)
+  tried-usable = subst UsableEntry at (here-usable cells (take n es₀) (take n es) m old start ns i p inside)
 
-  pub passed-yes : (r : Marks) (ks : Numbers) → startsBy cells m (operationOf x) ≡ true → More r m (entryUpdates x)
-      → IsNumbers ks (numbersOf ns ++ (x .id ∷ [])) → ks .count ≡ ns .count + 1
-      → TriedTo cells (take n es₀) (take n (set es i (begun (getD es i pastEntry)))) r ks (i + 1)
-  passed-yes r ks s more is c =
-      subst (λ (l : List Entry). TriedTo cells (take n es₀) l r ks (i + 1))
+  pub passed-yes : (r : Marks) (vs : List ℕ) → startsBy cells m (operationOf x) ≡ true → More r m (entryUpdates x)
+      → Wrote (ns .values) (start + ns .count) (x .id ∷ []) (start + ns .count + 1) vs → start + ns .count < 68
+      → TriedTo cells (take n es₀) (take n (set es i (begun (getD es i pastEntry)))) r old start (listed (ns .count + 1) vs) (i + 1)
+  passed-yes r vs s more w room =
+      subst (λ (l : List Entry). TriedTo cells (take n es₀) l r old start (listed (ns .count + 1) vs) (i + 1))
       (ap (λ (y : Entry). set (take n es) i (begun y)) (at ∙ read) ∙ sym (take-set-lt n es i (begun (getD es i pastEntry)) lt))
-      (step-yes cells (take n es₀) (take n es) m ns i p inside r ks
+      (step-yes cells (take n es₀) (take n es) m old start ns i p inside r (listed (ns .count + 1) vs)
       (ap (λ (y : Entry). startsBy cells m (operationOf y)) at ∙ s)
       (subst (λ (y : Entry). More r m (entryUpdates y)) (sym at) more)
-      (subst (λ (y : Entry). IsNumbers ks (numbersOf ns ++ (y .id ∷ []))) (sym at) is) c)
+      (numbers-next old start (ns .count) (ns .values) (x .id) _ _ vs (p .ready) w room
+      (ap (λ (y : Entry). ids cells (take n es₀) (take n es) m old start ns i p inside ++ (y .id ∷ [])) at)) refl)
 
-  pub passed-no : startsBy cells m (operationOf x) ≡ false → TriedTo cells (take n es₀) (take n es) m ns (i + 1)
-  passed-no s = step-no cells (take n es₀) (take n es) m ns i p inside (ap (λ (y : Entry). startsBy cells m (operationOf y)) at ∙ s)
+  pub passed-no : startsBy cells m (operationOf x) ≡ false → TriedTo cells (take n es₀) (take n es) m old start ns (i + 1)
+  passed-no s = step-no cells (take n es₀) (take n es) m old start ns i p inside (ap (λ (y : Entry). startsBy cells m (operationOf y)) at ∙ s)
 
 -- the end of the pass
-pub passed-all : (cells : ℕ → Cell) (l : List Entry) (m : Marks) (q : Queued) (ready : Numbers) (i : ℕ) → q .count ≤ 64 → length (q .entries) ≡ 64 → i ≡ q .count
-    → q .count ≡ length l → TriedTo cells l (queueOf q) m ready i → Tries cells l q ready
+pub passed-all : (cells : ℕ → Cell) (l : List Entry) (m : Marks) (q : Queued) (old : List ℕ) (start : ℕ) (ready : Numbers) (i : ℕ) → q .count ≤ 64
+    → start ≤ 4 → length (q .entries) ≡ 64 → i ≡ q .count → q .count ≡ length l → TriedTo cells l (queueOf q) m old start ready i
+    → Tries cells l q old start (ready .count) (ready .values)
 unfolding tryFromIn
-passed-all cells l m q ready i few long e n p = record {
+passed-all cells l m q old start ready i few early long e n p = record {
   usable = record { few = few; long = long; each = p .each };
   queue = after;
   ready = record {
-    few = p .ready .few;
-    long = p .ready .long;
-    list = p .ready .list ∙ ap₂ madeReady (ap operationsOf (take-all i l (omega arith))) (ap operationsOf whole ∙ after);
+    few = omega (arith, p .few);
+    room = omega (arith, p .few, p .ready .long);
+    wrote =
+        subst (λ (ids : List ℕ). Wrote old start ids (start + ready .count) (ready .values))
+        (ap₂ madeReady (ap operationsOf (take-all i l (omega arith))) (ap operationsOf whole ∙ after)) (p .ready .wrote);
   };
 }
   where
@@ -323,8 +324,9 @@ passed-all cells l m q ready i few long e n p = record {
         ∙ p .tries
 
 -- the same pass under other names
-pub passed-at : (cells : ℕ → Cell) (l es rs : List Entry) (n i : ℕ) (m r : Marks) (ns ks : Numbers) → r ≡ m → rs ≡ es → ks ≡ ns
-    → TriedTo cells l (take n es) m ns i → TriedTo cells l (take n rs) r ks i
-passed-at cells l es rs n i m r ns ks e f g p =
-    subst (λ (x : List Entry). TriedTo cells l (take n x) r ks i) (sym f)
-    (subst (λ (x : Marks). TriedTo cells l (take n es) x ks i) (sym e) (subst (λ (x : Numbers). TriedTo cells l (take n es) m x i) (sym g) p))
+pub passed-at : (cells : ℕ → Cell) (l es rs : List Entry) (n i : ℕ) (m r : Marks) (old : List ℕ) (start : ℕ) (ns ks : Numbers) → r ≡ m → rs ≡ es → ks ≡ ns
+    → TriedTo cells l (take n es) m old start ns i → TriedTo cells l (take n rs) r old start ks i
+passed-at cells l es rs n i m r old start ns ks e f g p =
+    subst (λ (x : List Entry). TriedTo cells l (take n x) r old start ks i) (sym f)
+    (subst (λ (x : Marks). TriedTo cells l (take n es) x old start ks i) (sym e)
+    (subst (λ (x : Numbers). TriedTo cells l (take n es) m old start x i) (sym g) p))

@@ -1,4 +1,5 @@
-// The site's table of live operations: those not done in order of arrival (or waiting lines in order of delivery), and those done in log order.
+// The site's table of live operations: those not done in order of arrival (or waiting lines in order of delivery), and those done in
+// log order.
 // Their entries stand in arrays of numbers that the caller lends.
 ghost use mathlib.Core.Path.{_≡_};
 ghost use mathlib.Core.Bool.{true, false, _&&_, _||_};
@@ -6,17 +7,18 @@ ghost use mathlib.Core.List.{List, [], _∷_, _++_, map};
 ghost use Prim.Native.Nat.{ℕ, _+_, _-_, _≤_, _<_};
 ghost use lib.ListN.{length, take, drop, getD};
 ghost use Rattle.forms.specs.Lists.{any, all, keep, below};
-ghost use Rattle.forms.specs.Held.{numbersOf, listed};
 ghost use Rattle.rules.specs.State.{asks};
 ghost use Rattle.history.specs.Entries.{UsableEntry, cellsOf, operationOf, itemUpdate};
 ghost use Rattle.history.specs.Words.{historiesIn};
-ghost use Rattle.table.specs.Lists.{firstAt, IsNumbers};
+ghost use Rattle.table.specs.Lists.{firstAt};
+ghost use Rattle.forms.specs.Write.{Wrote};
+ghost use Rattle.history.specs.Lists.{Lists};
 ghost use Rattle.table.specs.Arrays.{Tabulates, rises, ceases};
 ghost use Rattle.table.specs.Dones.{doneOf, UsableDone, UsableDones, IsDone, doneHasId, doneTouches, stampedTo, versionFrom};
 ghost use Rattle.table.specs.Tries.{entryUpdates, heldOf, gather, MarksOf, More, freeBy, readyBy, startsBy, operationsOf, Tries};
 ghost use Rattle.table.specs.Slots.{stored, storedDone, entriesIn};
 ghost use Rattle.table.specs.Queues.{queueOf, UsableQueue, IsQueue, hasId, isEntry, idOf, pastEntry, canRunEntry};
-use forms::ListWords;
+use forms::ReplyNumbers;
 use history::DoneEntry;
 use history::Entry;
 use history::Item;
@@ -62,15 +64,13 @@ pub enum Found {
     Nothing,
 }
 
-// One number more behind the first n of a list. The caller sees to it that there is room.
-pub fn push_number(list: &mut ListWords, n: usize, x: u64) -> usize
-    requires { ⌜ n < 64 ⌝ }
-    ensures { λ r. ⌜ IsNumbers (listed r (now (list .exit))) (numbersOf (listed n (now (list .entry))) ++ (x ∷ [])) ⌝ }
-    ensures { λ r. ⌜ r ≡ n + 1 ⌝ }
+// The number x at `at`. The caller sees to it that there is room.
+fn push_number(lists: &mut ReplyNumbers, at: usize, x: u64)
+    requires { ⌜ at < 68 ⌝ }
+    ensures { λ r. ⌜ Wrote (now (lists .entry)) at (x ∷ []) (at + 1) (now (lists .exit)) ⌝ }
 {
-    known_length(list);
-    list[n] = x;
-    n + 1
+    known_length(lists);
+    lists[at] = x;
 }
 
 // Whether the entry at `i` has this id, and is in progress (or future, as asked).
@@ -265,20 +265,19 @@ impl Queue {
         Found::Nothing
     }
 
-    // The ids of the entries, in their order, as a list; how many they are.
-    pub fn ids(self, words: &QueueWords, list: &mut ListWords) -> usize
-        requires { ⌜ UsableQueue (stored self (now words)) ⌝ }
-        ensures { λ r. ⌜ IsNumbers (listed r (now (list .exit))) (map idOf (queueOf (stored self (now (words .entry))))) ⌝ }
+    // The ids of the entries, in their order, as a list from `at` on; how many they are.
+    pub fn ids(self, words: &QueueWords, lists: &mut ReplyNumbers, at: usize) -> usize
+        requires { ⌜ UsableQueue (stored self (now words)) × (at ≤ 4) ⌝ }
+        ensures { λ r. ⌜ Lists (now (lists .entry)) at (map idOf (queueOf (stored self (now (words .entry))))) r (now (lists .exit)) ⌝ }
     {
-        known_length(list);
+        known_length(lists);
         let n = self.count;
-        let mut count: usize = 0;
         let mut i = 0;
         while i < n {
-            count = push_number(list, count, id_at(words, i));
+            push_number(lists, at + i, id_at(words, i));
             i += 1;
         }
-        count
+        n
     }
 
     // Which histories the entries' updates are in.
@@ -322,7 +321,8 @@ impl Queue {
     // The first entry that can run as a did line.
     pub fn first_ready_line(self, words: &QueueWords, book: &BookWords) -> Found
         requires { ⌜ UsableQueue (stored self (now words)) ⌝ }
-        ensures { λ r. ⌜ r ≡ firstAt (canRunEntry (cellsOf (historiesIn (now (book .entry))))) (queueOf (stored self (now (words .entry)))) ⌝ }
+        ensures { λ r. ⌜ r ≡ firstAt (canRunEntry (cellsOf (historiesIn (now (book .entry)))))
+            (queueOf (stored self (now (words .entry)))) ⌝ }
     {
         let n = self.count;
         let mut i = 0;
@@ -335,12 +335,20 @@ impl Queue {
         Found::Nothing
     }
 
-    // One pass over the future operations: each is examined once, oldest first. The list has the ids made ready; how many they are.
-    pub fn try_all(self, words: &mut QueueWords, book: &BookWords, list: &mut ListWords) -> usize
-        requires { ⌜ UsableQueue (stored self (now words)) ⌝ }
-        ensures { λ r. ⌜ Tries (cellsOf (historiesIn (now (book .entry)))) (queueOf (stored self (now (words .entry)))) (stored self (now (words .exit))) (listed r (now (list .exit))) ⌝ }
+    // One pass over the future operations: each is examined once, oldest first. The list from `at` on has the ids made ready; how many
+    // they are.
+    pub fn try_all(
+        self,
+        words: &mut QueueWords,
+        book: &BookWords,
+        lists: &mut ReplyNumbers,
+        at: usize,
+    ) -> usize
+        requires { ⌜ UsableQueue (stored self (now words)) × (at ≤ 4) ⌝ }
+        ensures { λ r. ⌜ Tries (cellsOf (historiesIn (now (book .entry)))) (queueOf (stored self (now (words .entry))))
+            (stored self (now (words .exit))) (now (lists .entry)) at r (now (lists .exit)) ⌝ }
     {
-        known_length(list);
+        known_length(lists);
         let n = self.count;
         let mut m = self.marks(words);
         let mut ready: usize = 0;
@@ -350,7 +358,8 @@ impl Queue {
             if may_start(book, m, e) {
                 m = marked(m, e);
                 start_entry(words, i);
-                ready = push_number(list, ready, e.id);
+                push_number(lists, at + ready, e.id);
+                ready += 1;
             }
             i += 1;
         }
@@ -390,34 +399,48 @@ pub fn stamp(versions: [u64; 16], e: DoneEntry) -> [u64; 16]
     r
 }
 
-// The histories below `n` whose version is greater after than before, rising, as a list; how many they are.
-pub fn rose(before: [u64; 16], after: [u64; 16], n: usize, list: &mut ListWords) -> usize
-    requires { ⌜ n ≤ 16 ⌝ }
-    ensures { λ r. ⌜ IsNumbers (listed r (now (list .exit))) (keep (rises before after) (below n)) ⌝ }
+// The histories below `n` whose version is greater after than before, rising, as a list from `at` on; how many they are.
+pub fn rose(
+    before: [u64; 16],
+    after: [u64; 16],
+    n: usize,
+    lists: &mut ReplyNumbers,
+    at: usize,
+) -> usize
+    requires { ⌜ (n ≤ 16) × (at ≤ 16) ⌝ }
+    ensures { λ r. ⌜ Lists (now (lists .entry)) at (keep (rises before after) (below n)) r (now (lists .exit)) ⌝ }
 {
-    known_length(list);
+    known_length(lists);
     let mut count: usize = 0;
     let mut h = 0;
     while h < n {
         if before[h] < after[h] {
-            count = push_number(list, count, h as u64);
+            push_number(lists, at + count, h as u64);
+            count += 1;
         }
         h += 1;
     }
     count
 }
 
-// The histories below `n` that are marked before and not after, rising, as a list; how many they are.
-pub fn became_dry(before: [bool; 16], after: [bool; 16], n: usize, list: &mut ListWords) -> usize
-    requires { ⌜ n ≤ 16 ⌝ }
-    ensures { λ r. ⌜ IsNumbers (listed r (now (list .exit))) (keep (ceases before after) (below n)) ⌝ }
+// The histories below `n` that are marked before and not after, rising, as a list from `at` on; how many they are.
+pub fn became_dry(
+    before: [bool; 16],
+    after: [bool; 16],
+    n: usize,
+    lists: &mut ReplyNumbers,
+    at: usize,
+) -> usize
+    requires { ⌜ (n ≤ 16) × (at ≤ 16) ⌝ }
+    ensures { λ r. ⌜ Lists (now (lists .entry)) at (keep (ceases before after) (below n)) r (now (lists .exit)) ⌝ }
 {
-    known_length(list);
+    known_length(lists);
     let mut count: usize = 0;
     let mut h = 0;
     while h < n {
         if before[h] && !after[h] {
-            count = push_number(list, count, h as u64);
+            push_number(lists, at + count, h as u64);
+            count += 1;
         }
         h += 1;
     }
@@ -505,7 +528,8 @@ impl DoneList {
         requires { ⌜ UsableDones (storedDone self (now words)) ⌝ }
         requires { ⌜ from ≤ to ⌝ }
         requires { ⌜ to ≤ self .count ⌝ }
-        ensures { λ r. ⌜ Tabulates 0 r (λ (h : ℕ). versionFrom h (getD versions h 0) (drop from (take to (doneOf (storedDone self (now (words .entry))))))) ⌝ }
+        ensures { λ r. ⌜ Tabulates 0 r (λ (h : ℕ). versionFrom h (getD versions h 0)
+            (drop from (take to (doneOf (storedDone self (now (words .entry))))))) ⌝ }
     {
         let mut vs = versions;
         let mut i = from;

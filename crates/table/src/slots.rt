@@ -16,7 +16,8 @@ use history::Item;
 use history::book::known_length;
 use history::book::small_half;
 
-// 64 entries that are not done, of 23 words: id, whether it is in progress, count, and for each of four updates rule, history, version, place and operand.
+// 64 entries that are not done, of 23 words: id, whether it is in progress, count, and for each of four updates rule, history,
+// version, place and operand.
 pub type QueueWords = [u64; 1472];
 
 // 64 done entries, of 10 words: id, count, four histories and four versions.
@@ -153,7 +154,8 @@ pub fn put_entry(words: &mut QueueWords, i: usize, e: Entry)
 // The entry at `i` is in progress from now on.
 pub fn start_entry(words: &mut QueueWords, i: usize)
     requires { ⌜ i < 64 ⌝ }
-    ensures { λ r. ⌜ entriesIn (now (words .exit)) ≡ set (entriesIn (now (words .entry))) i (begun (getD (entriesIn (now (words .entry))) i pastEntry)) ⌝ }
+    ensures { λ r. ⌜ entriesIn (now (words .exit))
+        ≡ set (entriesIn (now (words .entry))) i (begun (getD (entriesIn (now (words .entry))) i pastEntry)) ⌝ }
 {
     known_length(words);
     words[i * 23 + 1] = 1;

@@ -1,5 +1,5 @@
 use denote.Ref.{now}
-use Prim.Native.Nat.{_≤_, _-_, _<_, _+_}
+use Prim.Native.Nat.{ℕ, _≤_, _-_, _<_, _+_}
 use native.Mathlib.Omega.{arith}
 use mathlib.Core.Path.{_≡_, refl, sym, ap, subst, _∙_}
 use mathlib.Core.List.{List}
@@ -7,22 +7,27 @@ use lib.ListN.{getD}
 use Rattle.rules.specs.Rules.{loggedAs}
 use Rattle.rules.specs.Book.{entered, enterAll}
 use Rattle.history.specs.declared.History.{History}
+use Rattle.history.specs.declared.Item.{Item}
 use Rattle.history.specs.Entries.{cellOf, noItem, didOfEntry}
 use Rattle.history.specs.CellLaws.{Entered, low-place, entered-next}
-use Rattle.history.specs.Words.{historiesIn, UnchangedOutside}
-use Rattle.history.specs.WordLaws.{histories-long, kept-then}
+use Rattle.history.specs.Words.{historiesIn, PastKept, MarksKept}
+use Rattle.history.specs.WordLaws.{histories-long, marks-same, marks-then}
 use Rattle.history.proofs.apply.Statement.{statement}
 use Rattle.history.proofs.apply.Tie as tie
 
+-- the words past the first m histories are as they were, if those of the items are among these
+abbrev Past : ℕ → List Item → List ℕ → List ℕ → Type 0
+Past n items old new = (m : ℕ) → ((j : ℕ) → j < n → getD items j noItem .history < m) → PastKept m old new
+
 abbrev Inv-loop : tie.InvT-loop
-Inv-loop book₀ n items i₀ book i = (i ≤ n) × Entered (historiesIn book₀) (historiesIn book) items i × UnchangedOutside 0 48 book₀ book
+Inv-loop book₀ n items i₀ book i = (i ≤ n) × Entered (historiesIn book₀) (historiesIn book) items i × MarksKept book₀ book × Past n items book₀ book
 
 abbrev μ-loop : tie.MeasureT-loop
 μ-loop book₀ n items i₀ book i = n - i
 
 loop-holds : tie.Need-loop-holds Inv-loop μ-loop
 unfolding enterAll
-loop-holds c = (omega arith, (λ h lt. refl), record { before = λ k l. refl; behind = λ k l. refl })
+loop-holds c = (omega arith, (λ h lt. refl), marks-same _, (λ m w. refl))
 
 mul-x : tie.Need-mul-x Inv-loop μ-loop
 mul-x c = omega (arith, c .before .before .before .pre .0 .few)
@@ -46,8 +51,8 @@ apply-item-requires c κs =
     let l = c .before .before .before .before .before .before .loop in
     let x = e .pre .0 .each (l .i) (c .before .before .before .before .before .loop-test .taken) in
     let low =
-    low-place (historiesIn (now (e .args .book))) (historiesIn (l .book)) (e .args .e .items) (l .i) (l .inv .1) (e .pre .1)
-    (omega (arith, e .pre .0 .few)) _ (x .history) in
+    low-place (historiesIn (now (e .args .book))) (historiesIn (l .book)) (e .args .e .items) (l .i) (l .inv .1) _ (x .history)
+    (e .pre .1 .each (l .i) (c .before .before .before .before .before .loop-test .taken)) (omega (arith, e .pre .0 .few)) in
     (x, subst (λ (h : History). h .place .0 < 18446744073709551615) (sym (c .before .history-at .ensures)) low)
 
 put-history-requires : tie.Need-put-history-requires Inv-loop μ-loop
@@ -75,7 +80,8 @@ loop-again c =
       subst (λ (hs : List History). Entered (historiesIn (now (a .book))) hs (a .e .items) (l .i + 1)) (sym (p .histories))
           (entered-next (historiesIn (now (a .book))) (historiesIn (l .book)) (a .e .items) (l .i) (l .inv .1) y (omega (arith, v .few, v .long))
           (histories-long (l .book)) (v .each (l .i) (c .before .before .before .before .before .before .before .loop-test .taken) .history) made),
-      kept-then (l .inv .2) (p .rest),
+      marks-then (l .inv .2) (p .marks),
+      (λ m w. p .past m (w (l .i) (c .before .before .before .before .before .before .before .loop-test .taken)) ∙ l .inv .3 m w),
     )
 
 returns : tie.Need-returns Inv-loop μ-loop
@@ -90,7 +96,8 @@ returns c =
             long = histories-long (l .book);
             cells = subst (Entered (historiesIn (now (a .book))) (historiesIn (l .book)) (a .e .items)) q (l .inv .1);
           };
-      rest = l .inv .2;
+      marks = l .inv .2;
+      past = l .inv .3;
     }
 
 pub apply-spec : {M : Type 1} → statement M

@@ -8,7 +8,7 @@ use Rattle.history.specs.declared.History.{History}
 use Rattle.history.specs.declared.Item.{Item}
 use Rattle.history.specs.Entries.{cellOf, cellsOf}
 use Rattle.history.specs.Cells.{stamped}
-use Rattle.history.specs.EntryLaws.{usable-at, unk-below}
+use Rattle.history.specs.EntryLaws.{usable-at, low-at, unk-below}
 use Rattle.history.specs.Words.{historiesIn}
 use borrow.Author.Needs.{needs}
 use Rattle.history.proofs.stamp_at.Statement.{statement}
@@ -30,10 +30,9 @@ stamp-item-requires c κs =
     let p = c .before .before .before .pre in
     let x = c .before .before .item-at .result in
     let cells = cellsOf (historiesIn (now (a .book))) in
-    let u = usable-at (a .e) (p .0) (a .i) in
     let ok : (x .rule ≡ Unk → cells (x .history) .version < top) × (cells (x .history) .place < top) =
     subst (λ (x : Item). (x .rule ≡ Unk → cells (x .history) .version < top) × (cells (x .history) .place < top)) (sym (c .before .before .item-at .ensures))
-    (unk-below (a .e) (p .0) cells (p .2) (a .i), let q = p .1 _ (u .history) in omega (arith, q)) in
+    (unk-below (a .e) (p .0) cells (p .2) (a .i), let q = low-at (a .e) (p .0) (historiesIn (now (a .book))) (p .1) (a .i) in omega (arith, q)) in
     subst (λ (h : History). (x .rule ≡ Unk → h .version .0 < top) × (h .place .0 < top)) (sym (c .history-at .ensures)) ok
 
 returns : tie.Need-returns

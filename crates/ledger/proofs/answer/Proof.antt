@@ -18,65 +18,65 @@ use Rattle.ledger.proofs.answer.Tie as tie
 -- what holds between two calls of feed
 record Holds (log₀ chunk out₀ log queued done book out : List ℕ) (stream : Stream) (at : ℕ) : Type 0 where
   within : at ≤ length chunk
-  valid : ValidStream stream (lent log queued done book [] [])
+  valid : ValidStream stream (lent log queued done book [])
   room : length log ≡ length log₀
   long : length out ≡ length out₀
 
 abbrev Inv-loop : tie.InvT-loop
-Inv-loop log₀ queued₀ done₀ book₀ first₀ second₀ chunk out₀ stream₀ at₀ log queued done book first second out stream at = Holds log₀ chunk out₀ log queued done book out stream at
+Inv-loop log₀ queued₀ done₀ book₀ lists₀ chunk out₀ stream₀ at₀ log queued done book lists out stream at = Holds log₀ chunk out₀ log queued done book out stream at
 
 abbrev μ-loop : tie.MeasureT-loop
-μ-loop log₀ queued₀ done₀ book₀ first₀ second₀ chunk out₀ stream₀ at₀ log queued done book first second out stream at = length chunk - at
+μ-loop log₀ queued₀ done₀ book₀ lists₀ chunk out₀ stream₀ at₀ log queued done book lists out stream at = length chunk - at
 
 -- the call of feed moved on
-moved : (c : tie.After-feed Inv-loop μ-loop) → Moves (now (c .before .before .before .before .before .before .before .before .before .before .before .before .before .before .args .chunk)) (c .before .before .before .before .before .before .before .before .before .before .loop .at) (c .feed .result .used)
+moved : (c : tie.After-feed Inv-loop μ-loop) → Moves (now (c .before .before .before .before .before .before .before .before .before .before .before .before .before .args .chunk)) (c .before .before .before .before .before .before .before .before .before .loop .at) (c .feed .result .used)
 moved c =
-    let l = c .before .before .before .before .before .before .before .before .before .before .loop in
+    let l = c .before .before .before .before .before .before .before .before .before .loop in
     let f = c .feed in
     let long = l .inv .long in
-    moves-on (l .stream) (lent (l .log) (l .queued) (l .done) (l .book) (l .first) (l .second)) (now (c .before .before .before .before .before .before .before .before .before .before .before .before .before .before .args .chunk)) (l .at) (f .result)
-    (lent (f .last .1 .0) (f .last .1 .1 .0) (f .last .1 .1 .1 .0) (f .last .1 .1 .1 .1 .0) (f .last .1 .1 .1 .1 .1 .0) (f .last .1 .1 .1 .1 .1 .1 .0)) _ _ (l .inv .valid) (f .ensures)
-    (omega (arith, long, c .before .before .before .before .before .before .before .before .before .before .before .before .before .before .pre .1)) (c .before .before .before .before .before .before .before .before .before .loop-test .taken)
+    moves-on (l .stream) (lent (l .log) (l .queued) (l .done) (l .book) (l .lists)) (now (c .before .before .before .before .before .before .before .before .before .before .before .before .before .args .chunk)) (l .at) (f .result)
+    (lent (f .last .1 .0) (f .last .1 .1 .0) (f .last .1 .1 .1 .0) (f .last .1 .1 .1 .1 .0) (f .last .1 .1 .1 .1 .1 .0)) _ _ (l .inv .valid) (f .ensures)
+    (omega (arith, long, c .before .before .before .before .before .before .before .before .before .before .before .before .before .pre .1)) (c .before .before .before .before .before .before .before .before .loop-test .taken)
 
 -- what holds after the call of feed
 kept : (c : tie.After-feed Inv-loop μ-loop) →
-    Holds (now (c .before .before .before .before .before .before .before .before .before .before .before .before .before .before .args .log)) (now (c .before .before .before .before .before .before .before .before .before .before .before .before .before .before .args .chunk)) (now (c .before .before .before .before .before .before .before .before .before .before .before .before .before .before .args .out))
-    (c .feed .last .1 .0) (c .feed .last .1 .1 .0) (c .feed .last .1 .1 .1 .0) (c .feed .last .1 .1 .1 .1 .0) (c .feed .last .1 .1 .1 .1 .1 .1 .1 .1 .0) (c .feed .result .stream) (c .before .before .before .before .before .before .before .before .before .before .loop .at + c .feed .result .used)
+    Holds (now (c .before .before .before .before .before .before .before .before .before .before .before .before .before .args .log)) (now (c .before .before .before .before .before .before .before .before .before .before .before .before .before .args .chunk)) (now (c .before .before .before .before .before .before .before .before .before .before .before .before .before .args .out))
+    (c .feed .last .1 .0) (c .feed .last .1 .1 .0) (c .feed .last .1 .1 .1 .0) (c .feed .last .1 .1 .1 .1 .0) (c .feed .last .1 .1 .1 .1 .1 .1 .1 .0) (c .feed .result .stream) (c .before .before .before .before .before .before .before .before .before .loop .at + c .feed .result .used)
 kept c =
     let f = c .feed in
-    let l = c .before .before .before .before .before .before .before .before .before .before .loop in
+    let l = c .before .before .before .before .before .before .before .before .before .loop in
     let room : length (f .last .1 .0) ≡ length (l .log) = f .ensures .room in
-    let long : length (f .last .1 .1 .1 .1 .1 .1 .1 .1 .0) ≡ length (l .out) = f .kept .1 .1 .1 .1 .1 .1 .1 .1 .0 in
+    let long : length (f .last .1 .1 .1 .1 .1 .1 .1 .0) ≡ length (l .out) = f .kept .1 .1 .1 .1 .1 .1 .1 .0 in
     record { within = moved c .within; valid = f .ensures .valid; room = room ∙ l .inv .room; long = long ∙ l .inv .long }
 
 loop-holds : tie.Need-loop-holds Inv-loop μ-loop
 loop-holds c = record { within = omega arith; valid = c .before .before .before .pre .0; room = refl; long = refl }
 
 sub-feed : tie.Need-sub-feed Inv-loop μ-loop
-sub-feed c = c .before .before .before .before .before .before .before .loop .inv .within
+sub-feed c = c .before .before .before .before .before .before .loop .inv .within
 
 part-feed-start : tie.Need-part-feed-start Inv-loop μ-loop
-part-feed-start c = let w = c .before .before .before .before .before .before .before .loop .inv .within in search needs
+part-feed-start c = let w = c .before .before .before .before .before .before .loop .inv .within in search needs
 
 part-feed-end : tie.Need-part-feed-end Inv-loop μ-loop
-part-feed-end c = let w = c .before .before .before .before .before .before .before .loop .inv .within in search needs
+part-feed-end c = let w = c .before .before .before .before .before .before .loop .inv .within in search needs
 
 feed-requires : tie.Need-feed-requires Inv-loop μ-loop
-feed-requires c κs = c .before .before .before .before .before .before .before .before .before .loop .inv .valid
+feed-requires c κs = c .before .before .before .before .before .before .before .before .loop .inv .valid
 
 add-at : tie.Need-add-at Inv-loop μ-loop
-add-at c = let m = moved (c .before .before .before .before .before) .within in let g : length (now (c .before .before .before .before .before .before .before .before .before .before .before .before .before .before .before .before .before .before .before .args .chunk)) < 18446744073709551616 = c .before .before .before .before .before .before .before .before .before .before .before .before .before .before .before .before .before .before .before .good .1 .1 .1 .1 .1 .1 .1 .0 .0 in omega (arith, m, g)
+add-at c = let m = moved (c .before .before .before .before .before) .within in let g : length (now (c .before .before .before .before .before .before .before .before .before .before .before .before .before .before .before .before .before .before .args .chunk)) < 18446744073709551616 = c .before .before .before .before .before .before .before .before .before .before .before .before .before .before .before .before .before .before .good .1 .1 .1 .1 .1 .1 .0 .0 in omega (arith, m, g)
 
 slice-reshare-prefix-write-all : tie.Need-slice-reshare-prefix-write-all Inv-loop μ-loop
 slice-reshare-prefix-write-all c =
     let f = c .before .before .before .before .before .before .feed in
-    let long : length (f .last .1 .1 .1 .1 .1 .1 .1 .1 .0) ≡ length (c .before .before .before .before .before .before .before .before .before .before .before .before .before .before .before .before .loop .out) = search needs in
+    let long : length (f .last .1 .1 .1 .1 .1 .1 .1 .0) ≡ length (c .before .before .before .before .before .before .before .before .before .before .before .before .before .before .before .loop .out) = search needs in
     omega (arith, f .ensures .fits, long)
 
 slice-aggregate-write-all : tie.Need-slice-aggregate-write-all Inv-loop μ-loop
 slice-aggregate-write-all c =
     let f = c .before .before .before .before .before .before .before .feed in
-    let long : length (f .last .1 .1 .1 .1 .1 .1 .1 .1 .0) ≡ length (c .before .before .before .before .before .before .before .before .before .before .before .before .before .before .before .before .before .loop .out) = search needs in
+    let long : length (f .last .1 .1 .1 .1 .1 .1 .1 .0) ≡ length (c .before .before .before .before .before .before .before .before .before .before .before .before .before .before .before .before .loop .out) = search needs in
     sym (length-take-le _ _ (omega (arith, f .ensures .fits, long)))
 
 write-all-requires : tie.Need-write-all-requires Inv-loop μ-loop

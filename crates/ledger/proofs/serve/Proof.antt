@@ -14,43 +14,43 @@ use Rattle.ledger.proofs.serve.Tie as tie
 
 -- what holds between two reads
 record Holds (log₀ chunk₀ out₀ log queued done book chunk out : List ℕ) (stream : Stream) : Type 0 where
-  valid : ValidStream stream (lent log queued done book [] [])
+  valid : ValidStream stream (lent log queued done book [])
   room : length log ≡ length log₀
   input : length chunk ≡ length chunk₀
   long : length out ≡ length out₀
 
 abbrev Inv-loop : tie.InvT-loop
-Inv-loop log₀ queued₀ done₀ book₀ first₀ second₀ chunk₀ out₀ stream₀ turns₀ log queued done book first second chunk out stream turns = Holds log₀ chunk₀ out₀ log queued done book chunk out stream
+Inv-loop log₀ queued₀ done₀ book₀ lists₀ chunk₀ out₀ stream₀ turns₀ log queued done book lists chunk out stream turns = Holds log₀ chunk₀ out₀ log queued done book chunk out stream
 
 abbrev μ-loop : tie.MeasureT-loop
-μ-loop log₀ queued₀ done₀ book₀ first₀ second₀ chunk₀ out₀ stream₀ turns₀ log queued done book first second chunk out stream turns = turns
+μ-loop log₀ queued₀ done₀ book₀ lists₀ chunk₀ out₀ stream₀ turns₀ log queued done book lists chunk out stream turns = turns
 
 -- the buffers keep their lengths
 kept : (c : tie.After-step Inv-loop μ-loop) →
-    Holds (now (c .before .before .before .before .before .before .before .before .before .before .before .before .before .before .before .args .log)) (now (c .before .before .before .before .before .before .before .before .before .before .before .before .before .before .before .args .chunk)) (now (c .before .before .before .before .before .before .before .before .before .before .before .before .before .before .before .args .out))
-    (c .step .last .1 .0) (c .step .last .1 .1 .0) (c .step .last .1 .1 .1 .0) (c .step .last .1 .1 .1 .1 .0) (c .step .last .1 .1 .1 .1 .1 .1 .1 .0) (c .step .last .1 .1 .1 .1 .1 .1 .1 .1 .0) (c .step .result .stream)
+    Holds (now (c .before .before .before .before .before .before .before .before .before .before .before .before .before .before .args .log)) (now (c .before .before .before .before .before .before .before .before .before .before .before .before .before .before .args .chunk)) (now (c .before .before .before .before .before .before .before .before .before .before .before .before .before .before .args .out))
+    (c .step .last .1 .0) (c .step .last .1 .1 .0) (c .step .last .1 .1 .1 .0) (c .step .last .1 .1 .1 .1 .0) (c .step .last .1 .1 .1 .1 .1 .1 .0) (c .step .last .1 .1 .1 .1 .1 .1 .1 .0) (c .step .result .stream)
 kept c =
     let s = c .step in
-    let l = c .before .before .before .before .before .before .before .before .before .before .loop in
+    let l = c .before .before .before .before .before .before .before .before .before .loop in
     let a : length (s .last .1 .0) ≡ length (l .log) = search needs in
-    let b : length (s .last .1 .1 .1 .1 .1 .1 .1 .0) ≡ length (l .chunk) = search needs in
-    let d : length (s .last .1 .1 .1 .1 .1 .1 .1 .1 .0) ≡ length (l .out) = s .kept .1 .1 .1 .1 .1 .1 .1 .1 .0 in
+    let b : length (s .last .1 .1 .1 .1 .1 .1 .0) ≡ length (l .chunk) = search needs in
+    let d : length (s .last .1 .1 .1 .1 .1 .1 .1 .0) ≡ length (l .out) = s .kept .1 .1 .1 .1 .1 .1 .1 .0 in
     record { valid = s .ensures; room = a ∙ l .inv .room; input = b ∙ l .inv .input; long = d ∙ l .inv .long }
 
 start-requires : tie.Need-start-requires Inv-loop μ-loop
 start-requires c κs = search needs
 
 loop-holds : tie.Need-loop-holds Inv-loop μ-loop
-loop-holds c = let e = c .before .before .before .before in record { valid = c .start .ensures (lent (now (e .args .log)) (now (e .args .queued)) (now (e .args .done)) (now (e .args .book)) [] []) .valid; room = refl; input = refl; long = refl }
+loop-holds c = let e = c .before .before .before .before in record { valid = c .start .ensures (lent (now (e .args .log)) (now (e .args .queued)) (now (e .args .done)) (now (e .args .book)) []) .valid; room = refl; input = refl; long = refl }
 
 step-requires : tie.Need-step-requires Inv-loop μ-loop
-step-requires c κs = (c .before .before .before .before .before .before .before .before .before .loop .inv .valid, let l = c .before .before .before .before .before .before .before .before .before .loop .inv .long in omega (arith, l, c .before .before .before .before .before .before .before .before .before .before .before .before .before .before .pre))
+step-requires c κs = (c .before .before .before .before .before .before .before .before .loop .inv .valid, let l = c .before .before .before .before .before .before .before .before .loop .inv .long in omega (arith, l, c .before .before .before .before .before .before .before .before .before .before .before .before .before .pre))
 
 sub-turns : tie.Need-sub-turns Inv-loop μ-loop
-sub-turns c = omega (arith, c .before .before .before .before .before .before .before .before .before .before .before .before .before .before .before .before .before .loop-test .taken)
+sub-turns c = omega (arith, c .before .before .before .before .before .before .before .before .before .before .before .before .before .before .before .before .loop-test .taken)
 
 loop-less : tie.Need-loop-less Inv-loop μ-loop
-loop-less c = omega (arith, c .before .before .before .before .before .before .before .before .before .before .before .before .before .before .before .before .before .loop-test .taken)
+loop-less c = omega (arith, c .before .before .before .before .before .before .before .before .before .before .before .before .before .before .before .before .loop-test .taken)
 
 loop-again : tie.Need-loop-again Inv-loop μ-loop
 loop-again c = kept (c .before .before .before .before .before .before .before .before)

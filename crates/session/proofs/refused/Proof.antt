@@ -9,7 +9,7 @@ refusal-requires c κs = search needs
 
 returns : tie.Need-returns
 returns c = λ m.
-    record { answer = c .refusal .ensures (m .first) (m .second); site = refl; kept = refl }
+    record { answer = c .refusal .ensures (m .lists); site = refl; kept = refl }
 
 pub refused-spec : {M : Type 1} → statement M
 refused-spec = tie.close (tie.spec refusal-requires returns)

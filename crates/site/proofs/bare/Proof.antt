@@ -4,7 +4,7 @@ use Rattle.site.proofs.bare.Statement.{statement}
 use Rattle.site.proofs.bare.Tie as tie
 
 returns : tie.Need-returns
-returns c xs ys = says-lists _ [] [] (means-none xs) (means-none ys)
+returns c ns = says-lists _ [] [] (means-none ns) (means-none ns)
 
 pub bare-spec : {M : Type 1} → statement M
 bare-spec = tie.close (tie.spec returns)

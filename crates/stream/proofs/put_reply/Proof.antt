@@ -11,7 +11,7 @@ use Rattle.stream.proofs.put_reply.Statement.{statement}
 use Rattle.stream.proofs.put_reply.Tie as tie
 
 write-turn-requires : tie.Need-write-turn-requires
-write-turn-requires c κs = c .before .before .before .before .pre .0
+write-turn-requires c κs = c .before .before .before .pre .0
 
 enum-known-next : tie.Need-enum-known-next
 enum-known-next c = search needs
@@ -25,7 +25,7 @@ same-length c = search needs
 returns : tie.Need-returns
 unfolding ended
 returns c =
-    let a = c .before .before .before .before .before .before .before .before .before .before .args in
+    let a = c .before .before .before .before .before .before .before .before .before .args in
     let w = c .before .before .before .before .before .write-turn in
     wrote-at (now (a .out)) (a .at) _ (w .result) _ (c .before .next .given .0 .0) (w .ensures .text) (c .before .next .given .1)
 
@@ -34,10 +34,10 @@ same-length-2 c = search needs
 
 returns-2 : tie.Need-returns-2
 returns-2 c =
-    let e = c .before .before .before .before .before .before .before .before .before in
+    let e = c .before .before .before .before .before .before .before .before in
     let w = c .before .before .before .before .write-turn in
     let short = wrote-not (now (e .args .out)) (e .args .at) _ (w .result) _ (w .ensures .text) (c .enum-told .given .1) .short in
-    let text = outcomeText (outcomeOf (replied (e .args .r) (now (e .args .first)) (now (e .args .second)))) in
+    let text = outcomeText (outcomeOf (replied (e .args .r) (now (e .args .lists)))) in
     absurd (omega (arith, short, end-size text, w .ensures .short, e .pre .1))
 
 pub put-reply-spec : {M : Type 1} → statement M

@@ -12,15 +12,15 @@ use Rattle.stream.proofs.run.Tie as tie
 
 -- what is lent at first: the log buffer and tables of zeros
 abbrev blank : List ℕ → Lent
-blank log = lent log (replicate 1472 0) (replicate 640 0) (replicate 80 0) (replicate 64 0) (replicate 64 0)
+blank log = lent log (replicate 1472 0) (replicate 640 0) (replicate 80 0) (replicate 68 0)
 
 start-requires : tie.Need-start-requires
 start-requires c κs = search needs
 
 feed-requires : tie.Need-feed-requires
 feed-requires c κs =
-    let a = c .before .before .before .before .before .before .before .before .before .before .before .args in
-    c .before .before .before .before .before .before .before .start .ensures (blank (now (a .log))) .valid
+    let a = c .before .before .before .before .before .before .before .before .before .before .args in
+    c .before .before .before .before .before .before .start .ensures (blank (now (a .log))) .valid
 
 same-length : tie.Need-same-length
 same-length c = search needs
@@ -32,10 +32,10 @@ returns : tie.Need-returns
 returns c =
     let fed = c .before .before .before .before .before .before in
     let f = fed .feed in
-    let s = fed .before .before .before .before .before .before .before .before .start in
-    let a = fed .before .before .before .before .before .before .before .before .before .before .before .before .args in
+    let s = fed .before .before .before .before .before .before .before .start in
+    let a = fed .before .before .before .before .before .before .before .before .before .before .before .args in
     let old = blank (now (a .log)) in
-    let new = lent (f .last .1 .0) (f .last .1 .1 .0) (f .last .1 .1 .1 .0) (f .last .1 .1 .1 .1 .0) (f .last .1 .1 .1 .1 .1 .0) (f .last .1 .1 .1 .1 .1 .1 .0) in
+    let new = lent (f .last .1 .0) (f .last .1 .1 .0) (f .last .1 .1 .1 .0) (f .last .1 .1 .1 .1 .0) (f .last .1 .1 .1 .1 .1 .0) in
     run-stops (now (a .input)) old (s .result) (f .result) new (now (a .out)) _ (s .ensures old) (f .ensures) (c .if1 .taken)
 
 finish-requires : tie.Need-finish-requires
@@ -57,10 +57,10 @@ returns-2 : tie.Need-returns-2
 returns-2 c =
     let fed = c .before .before .before .before .before .before .before .before .before .before .before .before .before in
     let f = fed .feed in
-    let s = fed .before .before .before .before .before .before .before .before .start in
-    let a = fed .before .before .before .before .before .before .before .before .before .before .before .before .args in
+    let s = fed .before .before .before .before .before .before .before .start in
+    let a = fed .before .before .before .before .before .before .before .before .before .before .before .args in
     let old = blank (now (a .log)) in
-    let new = lent (f .last .1 .0) (f .last .1 .1 .0) (f .last .1 .1 .1 .0) (f .last .1 .1 .1 .1 .0) (f .last .1 .1 .1 .1 .1 .0) (f .last .1 .1 .1 .1 .1 .1 .0) in
+    let new = lent (f .last .1 .0) (f .last .1 .1 .0) (f .last .1 .1 .1 .0) (f .last .1 .1 .1 .1 .0) (f .last .1 .1 .1 .1 .1 .0) in
     let all = c .before .before .before .before .before .before .before .if1 .left in
     let z = c .before .before .before .before .before .finish in
     run-whole (now (a .input)) old (s .result) (f .result) new (now (a .out)) _ (s .ensures old) (f .ensures)
@@ -75,11 +75,11 @@ same-length-6 c = search needs
 returns-3 : tie.Need-returns-3
 returns-3 c =
     let f = c .before .before .before .before .before .before .before .before .before .before .before .before .feed in
-    let a = c .before .before .before .before .before .before .before .before .before .before .before .before .before .before .before .before .before .before .before .before .before .before .before .before .args in
-    let long : length (f .last .1 .1 .1 .1 .1 .1 .1 .1 .0) ≡ length (now (a .out)) = search needs in
-    let s = c .before .before .before .before .before .before .before .before .before .before .before .before .before .before .before .before .before .before .before .before .start in
+    let a = c .before .before .before .before .before .before .before .before .before .before .before .before .before .before .before .before .before .before .before .before .before .before .before .args in
+    let long : length (f .last .1 .1 .1 .1 .1 .1 .1 .0) ≡ length (now (a .out)) = search needs in
+    let s = c .before .before .before .before .before .before .before .before .before .before .before .before .before .before .before .before .before .before .before .start in
     let old = blank (now (a .log)) in
-    let new = lent (f .last .1 .0) (f .last .1 .1 .0) (f .last .1 .1 .1 .0) (f .last .1 .1 .1 .1 .0) (f .last .1 .1 .1 .1 .1 .0) (f .last .1 .1 .1 .1 .1 .1 .0) in
+    let new = lent (f .last .1 .0) (f .last .1 .1 .0) (f .last .1 .1 .1 .0) (f .last .1 .1 .1 .1 .0) (f .last .1 .1 .1 .1 .1 .0) in
     let all = c .before .before .before .before .before .before .if1 .left in
     let z = c .before .before .before .before .finish in
     run-short (now (a .input)) old (s .result) (f .result) new (now (a .out)) _ (s .ensures old) (f .ensures)

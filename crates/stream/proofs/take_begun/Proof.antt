@@ -19,37 +19,37 @@ returns : tie.Need-returns
 returns c =
     let e = c .before .before .before .before .before .before in
     let w = c .before .before .before .with-bytes in
-    let m = lent (now (e .args .log)) (now (e .args .queued)) (now (e .args .done)) (now (e .args .book)) (now (e .args .first)) (now (e .args .second)) in
+    let m = lent (now (e .args .log)) (now (e .args .queued)) (now (e .args .done)) (now (e .args .book)) (now (e .args .lists)) in
     λ line h. turns-over (e .args .session) m _ _ (e .pre .0) (over-is (w .result) _ (w .ensures line h) (c .before .if1 .taken)) (c .refuse .ensures)
 
 array-share-prefix-bytes : tie.Need-array-share-prefix-bytes
 array-share-prefix-bytes c =
-    let e = c .before .before .before .before .before .before .before .before .before .before .before in
-    let w = c .before .before .before .before .before .before .before .before .with-bytes in
+    let e = c .before .before .before .before .before .before .before .before .before .before in
+    let w = c .before .before .before .before .before .before .before .with-bytes in
     let l = some-line (e .args .b) (e .pre .1) in
     let x = w .ensures (l .line) (l .begins) in
     omega (arith, x .few, x .long)
 
 slice-aggregate-turn : tie.Need-slice-aggregate-turn
 slice-aggregate-turn c =
-    let e = c .before .before .before .before .before .before .before .before .before .before .before .before in
-    let w = c .before .before .before .before .before .before .before .before .before .with-bytes in
+    let e = c .before .before .before .before .before .before .before .before .before .before .before in
+    let w = c .before .before .before .before .before .before .before .before .with-bytes in
     let l = some-line (e .args .b) (e .pre .1) in
     let x = w .ensures (l .line) (l .begins) in
     sym (length-take-le _ _ (omega (arith, x .few, x .long)))
 
 turn-requires : tie.Need-turn-requires
-turn-requires c κs = c .before .before .before .before .before .before .before .before .before .before .before .before .pre .0
+turn-requires c κs = c .before .before .before .before .before .before .before .before .before .before .before .pre .0
 
 same-length : tie.Need-same-length
 same-length c = search needs
 
 returns-2 : tie.Need-returns-2
 returns-2 c =
-    let e = c .before .before .before .before .before .before .before .before .before .before .before .before .before .before .before in
-    let w = c .before .before .before .before .before .before .before .before .before .before .before .before .with-bytes in
-    let m = lent (now (e .args .log)) (now (e .args .queued)) (now (e .args .done)) (now (e .args .book)) (now (e .args .first)) (now (e .args .second)) in
-    let held = c .before .before .before .before .before .before .before .before .before .before .if1 .left in
+    let e = c .before .before .before .before .before .before .before .before .before .before .before .before .before .before in
+    let w = c .before .before .before .before .before .before .before .before .before .before .before .with-bytes in
+    let m = lent (now (e .args .log)) (now (e .args .queued)) (now (e .args .done)) (now (e .args .book)) (now (e .args .lists)) in
+    let held = c .before .before .before .before .before .before .before .before .before .if1 .left in
     λ line h. turns-as (e .args .session) m _ _ _ _ (held-is (w .result) _ (w .ensures line h) held) (c .before .before .turn .ensures)
 
 pub take-begun-spec : {M : Type 1} → statement M

@@ -40,8 +40,8 @@ returns c =
     let bytes = now (e .args .log) in
     let r = c .before .before .before .before .before .before .before .before .restart in
     let w = c .before .before .before .write-reply in
-    puts-reply blankSite (lent bytes [] [] bs [] []) (restart bytes (e .args .k)) (r .result) bytes (r .last .1 .0) (now (e .args .out)) (w .last .0)
-    (w .result) (c .code .result) (r .ensures [] [] [] []) (w .ensures .0) (c .code .ensures)
+    puts-reply blankSite (lent bytes [] [] bs []) (restart bytes (e .args .k)) (r .result) bytes (r .last .1 .0) (now (e .args .out)) (w .last .0)
+    (w .result) (c .code .result) (r .ensures [] [] []) (w .ensures .0) (c .code .ensures)
 
 pub site-restart-spec : {M : Type 1} → statement M
 site-restart-spec =

@@ -19,12 +19,12 @@ add-requires c κs = c .before .before .before .before .before .before .before .
 
 finish-requires : tie.Need-finish-requires
 finish-requires c κs =
-    let e = c .before .before .before .before .before .before .before .before .before .before .before .before .before .before .before in
-    let asked = c .before .before .before .before .before .before .before .before .before .before .before .before .before .asked-inc in
-    let add = c .before .before .before .before .before .before .before .add in
-    let m = lent (now (e .args .log)) (now (e .args .queued)) (now (e .args .done)) (now (e .args .book)) (now (e .args .first)) (now (e .args .second)) in
-    let mid = lent (now (e .args .log)) (add .last .1 .1 .0) (now (e .args .done)) (now (e .args .book)) (add .last .1 .1 .1 .1 .1 .0) (now (e .args .second)) in
-    let valid = call-reaches (e .args .site) m (Call.Add (e .args .id) (updatesHeld (asked .result))) (add .result) mid (e .pre) (add .ensures (now (e .args .second))) .valid in
+    let e = c .before .before .before .before .before .before .before .before .before .before .before .before .before .before in
+    let asked = c .before .before .before .before .before .before .before .before .before .before .before .before .asked-inc in
+    let add = c .before .before .before .before .before .before .add in
+    let m = lent (now (e .args .log)) (now (e .args .queued)) (now (e .args .done)) (now (e .args .book)) (now (e .args .lists)) in
+    let mid = lent (now (e .args .log)) (add .last .1 .1 .0) (now (e .args .done)) (now (e .args .book)) (add .last .1 .1 .1 .1 .1 .0) in
+    let valid = call-reaches (e .args .site) m (Call.Add (e .args .id) (updatesHeld (asked .result))) (add .result) mid (e .pre) (add .ensures) .valid in
     valid
 
 same-length : tie.Need-same-length
@@ -32,15 +32,15 @@ same-length c = search needs
 
 returns : tie.Need-returns
 returns c =
-    let e = c .before .before .before .before .before .before .before .before .before .before .before .before .before .before .before .before .before .before .before in
-    let asked = c .before .before .before .before .before .before .before .before .before .before .before .before .before .before .before .before .before .asked-inc in
-    let add = c .before .before .before .before .before .before .before .before .before .before .before .add in
+    let e = c .before .before .before .before .before .before .before .before .before .before .before .before .before .before .before .before .before .before in
+    let asked = c .before .before .before .before .before .before .before .before .before .before .before .before .before .before .before .before .asked-inc in
+    let add = c .before .before .before .before .before .before .before .before .before .before .add in
     let finish = c .before .before .before .finish in
-    let m = lent (now (e .args .log)) (now (e .args .queued)) (now (e .args .done)) (now (e .args .book)) (now (e .args .first)) (now (e .args .second)) in
-    let mid = lent (now (e .args .log)) (add .last .1 .1 .0) (now (e .args .done)) (now (e .args .book)) (add .last .1 .1 .1 .1 .1 .0) (now (e .args .second)) in
+    let m = lent (now (e .args .log)) (now (e .args .queued)) (now (e .args .done)) (now (e .args .book)) (now (e .args .lists)) in
+    let mid = lent (now (e .args .log)) (add .last .1 .1 .0) (now (e .args .done)) (now (e .args .book)) (add .last .1 .1 .1 .1 .1 .0) in
     two-reach (e .args .site) m _ (add .result) mid (Call.Finish (e .args .id)) (finish .result)
-    (lent (finish .last .1 .0) (finish .last .1 .1 .0) (finish .last .1 .1 .1 .0) (finish .last .1 .1 .1 .1 .0) (finish .last .1 .1 .1 .1 .1 .0) (finish .last .1 .1 .1 .1 .1 .1 .0)) (e .pre)
-    (adds-updates (e .args .site) m (e .args .id) (updatesHeld (asked .result)) _ (add .result) mid (asked .ensures) (add .ensures (now (e .args .second)))) (finish .ensures)
+    (lent (finish .last .1 .0) (finish .last .1 .1 .0) (finish .last .1 .1 .1 .0) (finish .last .1 .1 .1 .1 .0) (finish .last .1 .1 .1 .1 .1 .0)) (e .pre)
+    (adds-updates (e .args .site) m (e .args .id) (updatesHeld (asked .result)) _ (add .result) mid (asked .ensures) (add .ensures)) (finish .ensures)
 
 pub one-operation-spec : {M : Type 1} → statement M
 one-operation-spec =

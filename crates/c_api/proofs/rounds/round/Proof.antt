@@ -22,24 +22,24 @@ same-length c = search needs
 
 returns : tie.Need-returns
 returns c =
-    let e = c .before .before .before .before .before .before .before .before .before .before .before .before .before .before .before .before .before .before in
-    let o = c .before .before .before .before .before .before .before .before .before .before .one-operation in
-    let m = lent (now (e .args .log)) (now (e .args .queued)) (now (e .args .done)) (now (e .args .book)) (now (e .args .first)) (now (e .args .second)) in
-    let mid = lent (o .last .1 .0) (o .last .1 .1 .0) (o .last .1 .1 .1 .0) (o .last .1 .1 .1 .1 .0) (o .last .1 .1 .1 .1 .1 .0) (o .last .1 .1 .1 .1 .1 .1 .0) in
-    let new = lent (o .last .1 .0) (o .last .1 .1 .0) (c .mark .last .1 .1 .1 .0) (c .mark .last .1 .1 .1 .1 .0) (c .mark .last .1 .1 .1 .1 .1 .0) (c .mark .last .1 .1 .1 .1 .1 .1 .0) in
+    let e = c .before .before .before .before .before .before .before .before .before .before .before .before .before .before .before .before in
+    let o = c .before .before .before .before .before .before .before .before .before .one-operation in
+    let m = lent (now (e .args .log)) (now (e .args .queued)) (now (e .args .done)) (now (e .args .book)) (now (e .args .lists)) in
+    let mid = lent (o .last .1 .0) (o .last .1 .1 .0) (o .last .1 .1 .1 .0) (o .last .1 .1 .1 .1 .0) (o .last .1 .1 .1 .1 .1 .0) in
+    let new = lent (o .last .1 .0) (o .last .1 .1 .0) (c .mark .last .1 .1 .1 .0) (c .mark .last .1 .1 .1 .1 .0) (c .mark .last .1 .1 .1 .1 .1 .0) in
     marked-reach (e .args .site) m (e .args .id) (o .result) mid (c .mark .result) new _
-    (eq-eqb (e .args .id % 32) 31 (c .before .before .before .before .before .before .before .if1 .taken)) (o .ensures) (c .mark .ensures)
+    (eq-eqb (e .args .id % 32) 31 (c .before .before .before .before .before .before .if1 .taken)) (o .ensures) (c .mark .ensures)
 
 same-length-2 : tie.Need-same-length-2
 same-length-2 c = search needs
 
 returns-2 : tie.Need-returns-2
 returns-2 c =
-    let e = c .before .before .before .before .before .before .before .before .before .before .before in
+    let e = c .before .before .before .before .before .before .before .before .before .before in
     let o = c .before .before .before .one-operation in
-    let m = lent (now (e .args .log)) (now (e .args .queued)) (now (e .args .done)) (now (e .args .book)) (now (e .args .first)) (now (e .args .second)) in
+    let m = lent (now (e .args .log)) (now (e .args .queued)) (now (e .args .done)) (now (e .args .book)) (now (e .args .lists)) in
     unmarked-reach (e .args .site) m (e .args .id) (o .result)
-    (lent (o .last .1 .0) (o .last .1 .1 .0) (o .last .1 .1 .1 .0) (o .last .1 .1 .1 .1 .0) (o .last .1 .1 .1 .1 .1 .0) (o .last .1 .1 .1 .1 .1 .1 .0)) _ (ne-eqb (e .args .id % 32) 31 (c .if1 .left)) (o .ensures)
+    (lent (o .last .1 .0) (o .last .1 .1 .0) (o .last .1 .1 .1 .0) (o .last .1 .1 .1 .1 .0) (o .last .1 .1 .1 .1 .1 .0)) _ (ne-eqb (e .args .id % 32) 31 (c .if1 .left)) (o .ensures)
 
 pub round-spec : {M : Type 1} → statement M
 round-spec =

@@ -33,15 +33,15 @@ ds = replicate 640 0
 abbrev bs : List ℕ
 bs = replicate 80 0
 
--- the words of each list of a reply before the first round
+-- the words of the lists of a reply before the first round
 abbrev ws : List ℕ
-ws = replicate 64 0
+ws = replicate 68 0
 
 abbrev Inv-loop : tie.InvT-loop
-Inv-loop log₀ n book₀ site₀ queued₀ done₀ first₀ second₀ id₀ log book site queued done first second id = Serving n site₀ (lent log₀ queued₀ done₀ book₀ first₀ second₀) id site (lent log queued done book first second)
+Inv-loop log₀ n book₀ site₀ queued₀ done₀ lists₀ id₀ log book site queued done lists id = Serving n site₀ (lent log₀ queued₀ done₀ book₀ lists₀) id site (lent log queued done book lists)
 
 abbrev μ-loop : tie.MeasureT-loop
-μ-loop log₀ n book₀ site₀ queued₀ done₀ first₀ second₀ id₀ log book site queued done first second id = n - id
+μ-loop log₀ n book₀ site₀ queued₀ done₀ lists₀ id₀ log book site queued done lists id = n - id
 
 open-requires : tie.Need-open-requires Inv-loop μ-loop
 open-requires c κs = search needs
@@ -53,39 +53,39 @@ returns : tie.Need-returns Inv-loop μ-loop
 returns c =
     let log = now (c .before .before .before .before .before .before .before .before .before .args .log) in
     let o = c .before .before .before .before .before .«open» in
-    not-opened (openSite 4 (length log)) _ (lent log [] [] bs [] []) (o .result) (lent (o .last .0) [] [] (o .last .1 .0) [] []) (o .ensures [] [] [] []) (c .if1 .taken)
+    not-opened (openSite 4 (length log)) _ (lent log [] [] bs []) (o .result) (lent (o .last .0) [] [] (o .last .1 .0) []) (o .ensures [] [] []) (c .if1 .taken)
 
 loop-holds : tie.Need-loop-holds Inv-loop μ-loop
 loop-holds c =
     let log = now (c .before .before .before .before .before .before .before .before .before .args .log) in
     let o = c .before .before .before .before .before .«open» in
-    let mid = lent (o .last .0) qs ds (o .last .1 .0) ws ws in
-    let v = opened-valid (openSite 4 (length log)) (lent log qs ds bs ws ws) (o .result) mid (o .ensures qs ds ws ws) (c .if1 .left) in
+    let mid = lent (o .last .0) qs ds (o .last .1 .0) ws in
+    let v = opened-valid (openSite 4 (length log)) (lent log qs ds bs ws) (o .result) mid (o .ensures qs ds ws) (c .if1 .left) in
     record { reaches = no-round _ _ v; below = omega arith; room = refl }
 
 round-requires : tie.Need-round-requires Inv-loop μ-loop
 round-requires c κs =
-    let l = c .before .before .before .before .before .before .before in (
+    let l = c .before .before .before .before .before .before in (
       l .loop .inv .reaches .valid,
-      omega (arith, c .before .before .before .before .before .before .loop-test .taken, l .before .before .before .before .before .before .before .before .before .before .fits .n),
+      omega (arith, c .before .before .before .before .before .loop-test .taken, l .before .before .before .before .before .before .before .before .before .before .fits .n),
     )
 
 add-id : tie.Need-add-id Inv-loop μ-loop
 add-id c =
-    let l = c .before .before .before .before .before .before .before .before .before in
+    let l = c .before .before .before .before .before .before .before .before in
     omega (arith, l .loop-test .taken, l .before .before .before .before .before .before .before .before .before .before .before .fits .n)
 
 loop-less : tie.Need-loop-less Inv-loop μ-loop
-loop-less c = omega (arith, c .before .before .before .before .before .before .before .before .before .loop-test .taken)
+loop-less c = omega (arith, c .before .before .before .before .before .before .before .before .loop-test .taken)
 
 loop-again : tie.Need-loop-again Inv-loop μ-loop
 loop-again c =
-    let l = c .before .before .before .before .before .before .before .before .before .before .loop in
+    let l = c .before .before .before .before .before .before .before .before .before .loop in
     let r = c .before .before .round in
     let a : length (r .last .1 .0) ≡ length (l .log) = search needs in
     record {
-      reaches = round-more _ _ (l .id) _ (l .site) (lent (l .log) (l .queued) (l .done) (l .book) (l .first) (l .second)) (r .result) _ (omega arith) (l .inv .reaches) (r .ensures);
-      below = omega (arith, c .before .before .before .before .before .before .before .before .before .loop-test .taken);
+      reaches = round-more _ _ (l .id) _ (l .site) (lent (l .log) (l .queued) (l .done) (l .book) (l .lists)) (r .result) _ (omega arith) (l .inv .reaches) (r .ensures);
+      below = omega (arith, c .before .before .before .before .before .before .before .before .loop-test .taken);
       room = a ∙ l .inv .room;
     }
 
@@ -100,8 +100,8 @@ returns-2 c =
     let log = now (c .before .before .before .before .before .before .before .before .before .before .before .args .log) in
     let o = c .before .before .before .before .before .before .before .«open» in
     let l = c .before .loop in
-    rounds-stand (openSite 4 (length log)) _ (l .id) (lent log qs ds bs ws ws) (o .result) (lent (o .last .0) qs ds (o .last .1 .0) ws ws) (l .site)
-    (lent (l .log) (l .queued) (l .done) (l .book) (l .first) (l .second)) (o .ensures qs ds ws ws) (c .before .before .if1 .left) (omega (arith, l .inv .below, c .loop-test .left)) (l .inv .reaches)
+    rounds-stand (openSite 4 (length log)) _ (l .id) (lent log qs ds bs ws) (o .result) (lent (o .last .0) qs ds (o .last .1 .0) ws) (l .site)
+    (lent (l .log) (l .queued) (l .done) (l .book) (l .lists)) (o .ensures qs ds ws) (c .before .before .if1 .left) (omega (arith, l .inv .below, c .loop-test .left)) (l .inv .reaches)
 
 pub site-add-and-finish-spec : {M : Type 1} → statement M
 site-add-and-finish-spec =

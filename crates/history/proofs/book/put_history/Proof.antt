@@ -10,6 +10,9 @@ use Rattle.history.proofs.book.put_history.Tie as tie
 known-length-requires : tie.Need-known-length-requires
 known-length-requires c κs = search needs
 
+mul-at : tie.Need-mul-at
+mul-at c = search needs
+
 cast-words : tie.Need-cast-words
 cast-words c = search needs
 
@@ -49,6 +52,7 @@ put-history-spec =
     tie.close
     (tie.spec
     known-length-requires
+    mul-at
     cast-words
     mul-words
     element-write-words

@@ -9,7 +9,7 @@ turn-requires : tie.Need-turn-requires
 turn-requires c κs = search needs
 
 write-turn-requires : tie.Need-write-turn-requires
-write-turn-requires c κs = c .before .before .before .before .before .before .before .before .before .turn .ensures .answer .printable
+write-turn-requires c κs = c .before .before .before .before .before .before .before .turn .ensures .answer .printable
 
 same-length : tie.Need-same-length
 same-length c = search needs
@@ -19,9 +19,9 @@ same-length-2 c = search needs
 
 returns : tie.Need-returns
 returns c =
-    let t = c .before .before .before .before .before .before .before .before .before .before .before .before in
-    let e = t .before .before .before .before .before .before .before .before .before .before in
-    answers-turn (e .args .self) (lent (now (e .args .log)) (now (e .args .queued)) (now (e .args .done)) (now (e .args .book)) (now (e .args .first)) (now (e .args .second))) _ (t .turn .result) _ _ (now (e .args .out)) _
+    let t = c .before .before .before .before .before .before .before .before .before .before in
+    let e = t .before .before .before .before .before .before .before .before .before in
+    answers-turn (e .args .self) (lent (now (e .args .log)) (now (e .args .queued)) (now (e .args .done)) (now (e .args .book)) (now (e .args .lists))) _ (t .turn .result) _ _ (now (e .args .out)) _
     (t .turn .ensures) (c .before .before .write-turn .ensures .text)
 
 pub answer-spec : {M : Type 1} → statement M

@@ -34,7 +34,7 @@ no-site room CommandForm.Redo o = refl
 no-site room CommandForm.End o = refl
 
 call-requires : tie.Need-call-requires
-call-requires c κs = c .before .before .before .before .before .before .before .before .before .pre .site (c .before .before .before .before .before .before .before .if1 .taken)
+call-requires c κs = c .before .before .before .before .before .before .before .before .pre .site (c .before .before .before .before .before .before .if1 .taken)
 
 called-requires : tie.Need-called-requires
 called-requires c κs = search needs
@@ -44,9 +44,9 @@ same-length c = search needs
 
 returns : tie.Need-returns
 returns c =
-    let e = c .before .before .before .before .before .before .before .before .before .before .before .before .before in
-    form-called (e .args .self) (lent (now (e .args .log)) (now (e .args .queued)) (now (e .args .done)) (now (e .args .book)) (now (e .args .first)) (now (e .args .second))) (e .args .c) _ _ _
-    (c .before .before .before .before .before .before .before .before .before .before .before .if1 .taken) (e .pre) (c .before .before .before .call .ensures) (c .called .ensures)
+    let e = c .before .before .before .before .before .before .before .before .before .before .before .before in
+    form-called (e .args .self) (lent (now (e .args .log)) (now (e .args .queued)) (now (e .args .done)) (now (e .args .book)) (now (e .args .lists))) (e .args .c) _ _ _
+    (c .before .before .before .before .before .before .before .before .before .before .if1 .taken) (e .pre) (c .before .before .before .call .ensures) (c .called .ensures)
 
 enum-told : tie.Need-enum-told
 enum-told c = search needs
@@ -67,7 +67,7 @@ returns-2 : tie.Need-returns-2
 unfolding closedReply
 returns-2 c =
     let e = c .before .before .before .before .before in
-    form-refused (e .args .self) (lent (now (e .args .log)) (now (e .args .queued)) (now (e .args .done)) (now (e .args .book)) (now (e .args .first)) (now (e .args .second))) (e .args .c) _ Unreadable _
+    form-refused (e .args .self) (lent (now (e .args .log)) (now (e .args .queued)) (now (e .args .done)) (now (e .args .book)) (now (e .args .lists))) (e .args .c) _ Unreadable _
     (c .before .before .before .if1 .left) (c .before .enum-told .given .1) refl (e .pre) (c .refuse .ensures)
 
 same-length-2 : tie.Need-same-length-2
@@ -76,14 +76,14 @@ same-length-2 c = search needs
 returns-3 : tie.Need-returns-3
 returns-3 c =
     let e = c .before .before .before .before .before .before .before .before .before .before in
-    form-opens (e .args .self) (lent (now (e .args .log)) (now (e .args .queued)) (now (e .args .done)) (now (e .args .book)) (now (e .args .first)) (now (e .args .second))) (e .args .c) _ _ _
+    form-opens (e .args .self) (lent (now (e .args .log)) (now (e .args .queued)) (now (e .args .done)) (now (e .args .book)) (now (e .args .lists))) (e .args .c) _ _ _
     (c .before .before .before .before .before .before .before .before .if1 .left) (c .before .before .before .before .before .before .form .given .1)
-    (c .before .before .open-site .ensures (now (e .args .queued)) (now (e .args .done)) (now (e .args .first)) (now (e .args .second)))
+    (c .before .before .open-site .ensures (now (e .args .queued)) (now (e .args .done)) (now (e .args .lists)))
 
 returns-4 : tie.Need-returns-4
 returns-4 c =
     let e = c .before .before .before .before in
-    form-refused (e .args .self) (lent (now (e .args .log)) (now (e .args .queued)) (now (e .args .done)) (now (e .args .book)) (now (e .args .first)) (now (e .args .second))) (e .args .c) (e .args .c .form) OutOfTurn _
+    form-refused (e .args .self) (lent (now (e .args .log)) (now (e .args .queued)) (now (e .args .done)) (now (e .args .book)) (now (e .args .lists))) (e .args .c) (e .args .c .form) OutOfTurn _
     (c .before .before .if1 .left) refl (no-site (length (now (e .args .log))) (e .args .c .form) (c .before .match .keys3))
     (e .pre) (c .refuse2 .ensures)
 

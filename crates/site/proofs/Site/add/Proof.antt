@@ -12,6 +12,7 @@ use Rattle.table.specs.Slots.{stored}
 use Rattle.site.specs.Representation.{Sound}
 use Rattle.site.specs.Model.{lent, represented, view}
 use Rattle.site.specs.ModelLaws.{refuses, does}
+use Rattle.site.specs.ReplyLaws.{means-one, past-one}
 use Rattle.site.specs.ShowLaws.{count-most}
 use Rattle.site.specs.Trim.{updatesHeld}
 use Rattle.site.specs.TrimLaws.{updates-writable}
@@ -25,14 +26,14 @@ use Rattle.site.proofs.Site.add.Tie as tie
 abbrev ruled : tie.After-add-refusal → Option Refusal
 ruled r =
     let a = r .before .before .before .before .before .before .before .before .before .before .args in
-    addRefusal (a .id) (updatesHeld (a .asked)) (view (a .self) (lent (now (a .log)) (now (a .queued)) (now (a .done)) (now (a .book)) [] []))
+    addRefusal (a .id) (updatesHeld (a .asked)) (view (a .self) (lent (now (a .log)) (now (a .queued)) (now (a .done)) (now (a .book)) []))
 
 -- what the checks said is what the specification says
 said : (r : tie.After-add-refusal) → r .add-refusal .result ≡ verdictOf (ruled r)
 said r =
     let e = r .before .before .before .before .before .before .before .before .before .before in
     let a = e .args in
-    let s = represented (a .self) (lent (now (a .log)) (now (a .queued)) (now (a .done)) (now (a .book)) [] []) in
+    let s = represented (a .self) (lent (now (a .log)) (now (a .queued)) (now (a .done)) (now (a .book)) []) in
     let waits = r .before .before .has-id .ensures in
     let stands = r .before .has-id2 .ensures in
     r .add-refusal .ensures _ (r .before .before .before .before .before .before .before .before .trimmed-asked .ensures .is)
@@ -79,7 +80,7 @@ entry-of-asked-requires : tie.Need-entry-of-asked-requires
 entry-of-asked-requires c κs =
     let e = c .before .before .before .before .before .before .before .before .before .before .before .before .before in
     let a = e .args in
-    let s = represented (a .self) (lent (now (a .log)) (now (a .queued)) (now (a .done)) (now (a .book)) [] []) in
+    let s = represented (a .self) (lent (now (a .log)) (now (a .queued)) (now (a .done)) (now (a .book)) []) in
     let t = c .before .before .before .before .before .before .before .before .before .before .before .trimmed-asked .ensures in
     passed-usable s (now (a .log)) (e .pre) (a .id) _ (free (c .before)) _ (t .is)
 
@@ -88,33 +89,31 @@ unfolding Sound
 push-requires c κs =
     let e = c .before .before .before .before .before .before .before .before .before .before .before .before .before .before in
     let a = e .args in
-    let s = represented (a .self) (lent (now (a .log)) (now (a .queued)) (now (a .done)) (now (a .book)) [] []) in
+    let s = represented (a .self) (lent (now (a .log)) (now (a .queued)) (now (a .done)) (now (a .book)) []) in
     let room = add-room s (now (a .log)) (e .pre) (a .id) _ (free (c .before .before)) in
     (e .pre .carries .usable, (room, (c .entry-of-asked .ensures .usable)))
 
 try-all-requires : tie.Need-try-all-requires
-try-all-requires c κs = c .before .before .push .ensures .usable
+try-all-requires c κs = (c .before .before .push .ensures .usable, omega arith)
 
 returns : tie.Need-returns
 returns c =
-    λ ys.
     let r = c .before .before .before .before in
     let e = r .before .before .before .before .before .before .before .before .before .before in
     let a = e .args in
-    let m = lent (now (a .log)) (now (a .queued)) (now (a .done)) (now (a .book)) (now (a .first)) ys in
+    let m = lent (now (a .log)) (now (a .queued)) (now (a .done)) (now (a .book)) (now (a .lists)) in
     let t = r .before .before .before .before .before .before .before .before .trimmed-asked .ensures in
     let le : a .id ≤ top = omega (arith, e .fits .id) in
     refuses (a .self) m _ _ _
     (add-refused (a .id) _ (view (a .self) m) le (updates-writable _ (t .writable)) _
-    (refused-is _ _ (sym (c .before .before .q .given .1) ∙ said r))) (c .refusal .ensures (now (a .first)) ys) refl
+    (refused-is _ _ (sym (c .before .before .q .given .1) ∙ said r))) (c .refusal .ensures (now (a .lists))) refl
 
 returns-2 : tie.Need-returns-2
 returns-2 c =
-    λ ys.
     let r = c .before .before .before .before .before .before .before .before in
     let e = r .before .before .before .before .before .before .before .before .before .before in
     let a = e .args in
-    let m = lent (now (a .log)) (now (a .queued)) (now (a .done)) (now (a .book)) (now (a .first)) ys in
+    let m = lent (now (a .log)) (now (a .queued)) (now (a .done)) (now (a .book)) (now (a .lists)) in
     let s = represented (a .self) m in
     let t = r .before .before .before .before .before .before .before .before .trimmed-asked .ensures in
     let le : a .id ≤ top = omega (arith, e .fits .id) in
@@ -123,10 +122,11 @@ returns-2 c =
     let pushed = push .last .1 .0 in
     let try = c .try-all in
     let words = try .last .1 .0 in
-    does (a .self) m _ _ (lent (now (a .log)) words (now (a .done)) (now (a .book)) (try .last .1 .1 .1 .0) ys)
+    does (a .self) m _ _ (lent (now (a .log)) words (now (a .done)) (now (a .book)) (try .last .1 .1 .1 .0))
     (add-does s (now (a .log)) (e .pre) (a .id) _ le (updates-writable _ (t .writable)) f _
     (passed-enters s (now (a .log)) (e .pre) (a .id) _ f _ (t .is) _ (c .before .before .before .before .entry-of-asked .ensures))
-    (stored (push .result) pushed) (push .ensures) (stored (push .result) words) _ (try .ensures) ys)
+    (stored (push .result) pushed) (push .ensures) (stored (push .result) words) (try .ensures .usable) (try .ensures .queue) _
+    (means-one (try .ensures .ready)) _) refl (past-one (try .ensures .ready))
 
 pub add-spec : {M : Type 1} → statement M
 add-spec =

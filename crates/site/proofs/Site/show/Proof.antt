@@ -4,7 +4,7 @@ use Prim.Native.Nat.{_≤_, _<_}
 use native.Mathlib.Omega.{arith}
 use Rattle.forms.specs.Decimal.{top}
 use Rattle.forms.specs.declared.Refusal.the-variants.{NoSuchHistory}
-use Rattle.history.specs.WordLaws.{row-in}
+use Rattle.history.specs.WordLaws.{column-in}
 use Rattle.site.specs.Model.{lent, represented}
 use Rattle.site.specs.ModelLaws.{refuses, does}
 use Rattle.site.specs.ShowLaws.{count-most, show-refused, show-does}
@@ -17,13 +17,13 @@ refusal-requires c κs = search needs
 
 returns : tie.Need-returns
 returns c =
-    λ xs ys.
+    λ ns.
     let e = c .before .before .before in
     let a = e .args in
-    let m = lent (now (a .log)) (now (a .queued)) (now (a .done)) (now (a .book)) xs ys in
+    let m = lent (now (a .log)) (now (a .queued)) (now (a .done)) (now (a .book)) ns in
     let le : a .h ≤ top = omega (arith, e .fits .h) in
     refuses (a .self) m _ NoSuchHistory _ (show-refused (represented (a .self) m) (now (a .log)) (a .h) le (c .before .if1 .taken))
-    (c .refusal .ensures xs ys) refl
+    (c .refusal .ensures ns) refl
 
 -- A history that there is, is one of sixteen.
 few : (e : tie.Else1) → e .before .before .args .h < 16
@@ -33,40 +33,46 @@ history-at-requires : tie.Need-history-at-requires
 history-at-requires c κs =
     few c
 
-add-t17 : tie.Need-add-t17
-add-t17 c = omega (arith, few (c .before .before .before))
+mul-t17 : tie.Need-mul-t17
+mul-t17 c = omega (arith, few (c .before .before .before))
 
-mul-t18 : tie.Need-mul-t18
-mul-t18 c = omega (arith, few (c .before .before .before))
+add-t18 : tie.Need-add-t18
+add-t18 c = omega (arith, few (c .before .before .before))
+
+mul-t19 : tie.Need-mul-t19
+mul-t19 c = omega (arith, few (c .before .before .before))
 
 element-copy-out-t13 : tie.Need-element-copy-out-t13
 element-copy-out-t13 c = omega (arith, few (c .before .before .before))
 
-add-t22 : tie.Need-add-t22
-add-t22 c = omega (arith, few (c .before .before .before .before))
-
 mul-t23 : tie.Need-mul-t23
 mul-t23 c = omega (arith, few (c .before .before .before .before))
 
-element-copy-out-t26 : tie.Need-element-copy-out-t26
-element-copy-out-t26 c = omega (arith, few (c .before .before .before .before))
+add-t24 : tie.Need-add-t24
+add-t24 c = omega (arith, few (c .before .before .before .before))
 
-cast-t28 : tie.Need-cast-t28
-cast-t28 c = search needs
+mul-t25 : tie.Need-mul-t25
+mul-t25 c = omega (arith, few (c .before .before .before .before))
+
+element-copy-out-t28 : tie.Need-element-copy-out-t28
+element-copy-out-t28 c = omega (arith, few (c .before .before .before .before))
+
+cast-t30 : tie.Need-cast-t30
+cast-t30 c = search needs
 
 returns-2 : tie.Need-returns-2
 returns-2 c =
-    λ xs ys.
+    λ ns.
     let i = c .before .before .before .before .before .before in
     let e = i .before .before in
     let a = e .args in
     let book = now (a .book) in
-    let m = lent (now (a .log)) (now (a .queued)) (now (a .done)) book xs ys in
+    let m = lent (now (a .log)) (now (a .queued)) (now (a .done)) book ns in
     let few-h = few i in
     does (a .self) m _ _ m
     (show-does (represented (a .self) m) (now (a .log)) (a .h) (e .pre) (omega (arith, e .fits .h)) (i .if1 .left)
-    _ (c .before .before .before .before .before .history-at .ensures) _ (sym (row-in 48 book (a .h) few-h))
-    _ (sym (row-in 64 book (a .h) few-h)) xs ys)
+    _ (c .before .before .before .before .before .history-at .ensures) _ (sym (column-in 3 book (a .h) few-h))
+    _ (sym (column-in 4 book (a .h) few-h)) ns ns) refl refl
 
 pub show-spec : {M : Type 1} → statement M
 show-spec =
@@ -75,11 +81,13 @@ show-spec =
     refusal-requires
     returns
     history-at-requires
-    add-t17
-    mul-t18
+    mul-t17
+    add-t18
+    mul-t19
     element-copy-out-t13
-    add-t22
     mul-t23
-    element-copy-out-t26
-    cast-t28
+    add-t24
+    mul-t25
+    element-copy-out-t28
+    cast-t30
     returns-2)

@@ -8,6 +8,7 @@ use Rattle.table.specs.Slots.{stored}
 use Rattle.site.specs.Representation.{Sound}
 use Rattle.site.specs.Model.{lent, represented}
 use Rattle.site.specs.ModelLaws.{refuses, does}
+use Rattle.site.specs.ReplyLaws.{means-one, past-one}
 use Rattle.site.specs.MarkLaws.{marks-ordered}
 use Rattle.site.specs.WithdrawLaws.{withdraw-refused-turn, withdraw-refused-state, found-below, volatile-few, withdraw-does}
 use borrow.Author.Needs.{needs}
@@ -19,13 +20,12 @@ refusal-requires c κs = search needs
 
 returns : tie.Need-returns
 returns c =
-    λ ys.
     let e = c .before .before .before in
     let a = e .args in
-    let m = lent (now (a .log)) (now (a .queued)) (now (a .done)) (now (a .book)) (now (a .first)) ys in
+    let m = lent (now (a .log)) (now (a .queued)) (now (a .done)) (now (a .book)) (now (a .lists)) in
     refuses (a .self) m _ OutOfTurn _
     (withdraw-refused-turn (represented (a .self) m) (now (a .log)) (a .id) (omega (arith, e .fits .id)) (c .before .if1 .taken))
-    (c .refusal .ensures (now (a .first)) ys) refl
+    (c .refusal .ensures (now (a .lists))) refl
 
 find-requires : tie.Need-find-requires
 unfolding Sound
@@ -48,7 +48,7 @@ unfolding Sound
 busy-requires c κs =
     let e = c .before .before .before .before .before .before .before .before .before .before .before in
     let a = e .args in
-    let s = represented (a .self) (lent (now (a .log)) (now (a .queued)) (now (a .done)) (now (a .book)) [] []) in
+    let s = represented (a .self) (lent (now (a .log)) (now (a .queued)) (now (a .done)) (now (a .book)) []) in
     (e .pre .carries .usable, (e .pre .carries .finished .usable, volatile-few s (now (a .log)) (e .pre)))
 
 remove-requires : tie.Need-remove-requires
@@ -66,42 +66,40 @@ unfolding Sound
 busy-requires-2 c κs =
     let e = c .before .before .before .before .before .before .before .before .before .before .before .before .before .before .before in
     let a = e .args in
-    let s = represented (a .self) (lent (now (a .log)) (now (a .queued)) (now (a .done)) (now (a .book)) [] []) in
+    let s = represented (a .self) (lent (now (a .log)) (now (a .queued)) (now (a .done)) (now (a .book)) []) in
     (c .before .remove .ensures .usable, (e .pre .carries .finished .usable, volatile-few s (now (a .log)) (e .pre)))
 
 became-dry-requires : tie.Need-became-dry-requires
 became-dry-requires c κs =
-    marks-ordered _ _ (c .before .before .before .before .before .before .before .before .before .before .before .before .before .before .before .before .before .pre) .few
+    (marks-ordered _ _ (c .before .before .before .before .before .before .before .before .before .before .before .before .before .before .before .before .before .pre) .few, omega arith)
 
 returns-2 : tie.Need-returns-2
 returns-2 c =
-    λ ys.
     let f = c .before .before .before in
     let e = f .before .before .before .before .before in
     let a = e .args in
-    let m = lent (now (a .log)) (now (a .queued)) (now (a .done)) (now (a .book)) (now (a .first)) ys in
+    let m = lent (now (a .log)) (now (a .queued)) (now (a .done)) (now (a .book)) (now (a .lists)) in
     refuses (a .self) m _ WrongState _
     (withdraw-refused-state (represented (a .self) m) (now (a .log)) (a .id) (omega (arith, e .fits .id))
     (f .before .before .before .if1 .left) (sym (f .find .ensures) ∙ c .before .enum-told .given .1))
-    (c .refusal2 .ensures (now (a .first)) ys) refl
+    (c .refusal2 .ensures (now (a .lists))) refl
 
 returns-3 : tie.Need-returns-3
 returns-3 c =
-    λ ys.
     let b = c .before .before .before .before .before .before in
     let f = b .before .before .before .before .before in
     let e = f .before .before .before .before .before .before .before in
     let a = e .args in
-    let m = lent (now (a .log)) (now (a .queued)) (now (a .done)) (now (a .book)) (now (a .first)) ys in
+    let m = lent (now (a .log)) (now (a .queued)) (now (a .done)) (now (a .book)) (now (a .lists)) in
     let left = c .before .before .before .before .remove in
     let words = left .last .1 .0 in
     let dry = c .became-dry in
     let list = dry .last .1 .1 .1 .0 in
-    does (a .self) m _ _ (lent (m .log) words (m .done) (m .book) list ys)
+    does (a .self) m _ _ (lent (m .log) words (m .done) (m .book) list)
     (withdraw-does (represented (a .self) m) (now (a .log)) (a .id) (f .at .given .0 .0) (e .pre) (omega (arith, e .fits .id))
     (f .before .before .before .before .before .if1 .left) (sym (f .before .before .find .ensures) ∙ f .at .given .1)
-    (stored (left .result) words) _ _ _ ys (left .ensures) (b .busy .ensures) (c .before .before .busy2 .ensures)
-    (dry .ensures))
+    (stored (left .result) words) _ _ _ _ (left .ensures) (b .busy .ensures) (c .before .before .busy2 .ensures)
+    (means-one (dry .ensures))) refl (past-one (dry .ensures))
 
 pub withdraw-spec : {M : Type 1} → statement M
 withdraw-spec =

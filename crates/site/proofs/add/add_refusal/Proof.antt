@@ -78,7 +78,7 @@ returns-4 c =
     λ us h st s.
     let t = c .before .before .before .before .before .before .before in
     formed-then _ _ _ _ (add-refusal-is _ _ _ us st s) (t .before .before .before .if1 .left) (passed t us h) _
-    (conflict-is _ _ _ us st s (ap nothingOrders (sym (back t us h)) ∙ sym
+    (conflict-is _ _ _ us st s (passes-is _ (passed t us h)) (ap nothingOrders (sym (back t us h)) ∙ sym
     (c .before .before .before .before .before .before .nothing-orders .ensures) ∙ c .before .before .before .before .before .if2 .left)
     _ (asked-enters _ _ us (back t us h) _ (c .before .before .before .before .entry-of-asked .ensures)) _ _
     (c .before .before .either .ensures ∙ ap (_||_ (start t .args .seen .done)) (c .before .before .before .already-done .ensures))

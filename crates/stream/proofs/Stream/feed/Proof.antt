@@ -13,12 +13,12 @@ use Rattle.stream.proofs.Stream.feed.Statement.{statement}
 use Rattle.stream.proofs.Stream.feed.Tie as tie
 
 abbrev Inv-loop : tie.InvT-loop
-Inv-loop log₀ queued₀ done₀ book₀ first₀ second₀ chunk out₀ session₀ begun₀ at₀ n₀ log queued done book first second out session begun at n =
-    Along (record { session = session₀; begun = begun₀ }) (lent log₀ queued₀ done₀ book₀ first₀ second₀) chunk
-    (record { stream = record { session = session; begun = begun }; used = at; written = n }) (lent log queued done book first second) out₀ out
+Inv-loop log₀ queued₀ done₀ book₀ lists₀ chunk out₀ session₀ begun₀ at₀ n₀ log queued done book lists out session begun at n =
+    Along (record { session = session₀; begun = begun₀ }) (lent log₀ queued₀ done₀ book₀ lists₀) chunk
+    (record { stream = record { session = session; begun = begun }; used = at; written = n }) (lent log queued done book lists) out₀ out
 
 abbrev μ-loop : tie.MeasureT-loop
-μ-loop log₀ queued₀ done₀ book₀ first₀ second₀ chunk out₀ session₀ begun₀ at₀ n₀ log queued done book first second out session begun at n = length chunk - at
+μ-loop log₀ queued₀ done₀ book₀ lists₀ chunk out₀ session₀ begun₀ at₀ n₀ log queued done book lists out session begun at n = length chunk - at
 
 -- the line end that was found
 ended : (c : tie.After-known-told Inv-loop μ-loop) →
@@ -29,7 +29,7 @@ ended c = rw (c .before .e .given .1) at (c .before .before .before .find-end .e
 loop-holds : tie.Need-loop-holds Inv-loop μ-loop
 loop-holds c =
     let a = c .before .before .before .before .before .args in
-    let m = lent (now (a .log)) (now (a .queued)) (now (a .done)) (now (a .book)) (now (a .first)) (now (a .second)) in
+    let m = lent (now (a .log)) (now (a .queued)) (now (a .done)) (now (a .book)) (now (a .lists)) in
     along-start (a .self) m (now (a .chunk)) (now (a .out)) (c .before .before .before .before .before .pre)
 
 find-end-requires : tie.Need-find-end-requires Inv-loop μ-loop
@@ -83,59 +83,59 @@ returns-2 c =
     along-feeds _ _ _ _ _ _ _ i (λ lt. let l = i .long in let f = along-fits _ _ _ _ _ _ _ i in omega (arith, l, f, c .if1 .taken))
 
 sub-take-line : tie.Need-sub-take-line Inv-loop μ-loop
-sub-take-line c = ended (c .before .before .before .before .before .before .before) .from
+sub-take-line c = ended (c .before .before .before .before .before .before) .from
 
 part-take-line-start : tie.Need-part-take-line-start Inv-loop μ-loop
 part-take-line-start c =
-    let x = ended (c .before .before .before .before .before .before .before) in
+    let x = ended (c .before .before .before .before .before .before) in
     let f = x .from in
     let b = x .before in
     search needs
 
 part-take-line-end : tie.Need-part-take-line-end Inv-loop μ-loop
 part-take-line-end c =
-    let x = ended (c .before .before .before .before .before .before .before) in
+    let x = ended (c .before .before .before .before .before .before) in
     let f = x .from in
     let b = x .before in
     search needs
 
 take-line-requires : tie.Need-take-line-requires Inv-loop μ-loop
-take-line-requires c κs = let v = c .before .before .before .before .before .before .before .before .before .before .before .before .loop .inv .valid in (v .session, v .begun)
+take-line-requires c κs = let v = c .before .before .before .before .before .before .before .before .before .before .before .loop .inv .valid in (v .session, v .begun)
 
 no-line-requires : tie.Need-no-line-requires Inv-loop μ-loop
 no-line-requires c κs = search needs
 
 put-reply-requires : tie.Need-put-reply-requires Inv-loop μ-loop
 put-reply-requires c κs =
-    let found = c .before .before .before .before .before .before .before .before .before .before .before .before .before .before .before .before .before .before .before in
+    let found = c .before .before .before .before .before .before .before .before .before .before .before .before .before .before .before .before in
     let i = found .before .before .before .before .loop .inv in
-    let t = c .before .before .before .before .before .before .before .before .before .before .take-line in
-    let new = lent (t .last .1 .1 .0) (t .last .1 .1 .1 .0) (t .last .1 .1 .1 .1 .0) (t .last .1 .1 .1 .1 .1 .0) (t .last .1 .1 .1 .1 .1 .1 .0) (t .last .1 .1 .1 .1 .1 .1 .1 .0) in
+    let t = c .before .before .before .before .before .before .before .before .take-line in
+    let new = lent (t .last .1 .1 .0) (t .last .1 .1 .1 .0) (t .last .1 .1 .1 .1 .0) (t .last .1 .1 .1 .1 .1 .0) (t .last .1 .1 .1 .1 .1 .1 .0) in
     let f = along-fits _ _ _ _ _ _ _ i in
-    let room = c .before .before .before .before .before .before .before .before .before .before .before .before .before .before .before .before .before .before .if1 .left in
+    let room = c .before .before .before .before .before .before .before .before .before .before .before .before .before .before .before .if1 .left in
     (line-printable _ _ _ _ _ _ _ i (found .before .e .given .0 .0) (ended found) (t .result) new (t .ensures), omega (arith, i .long, f, room))
 
 add-at : tie.Need-add-at Inv-loop μ-loop
 add-at c =
-    let found = c .before .before .before .before .before .before .before .before .before .before .before .before .before .before .before .before .before .before .before .before .before .before in
+    let found = c .before .before .before .before .before .before .before .before .before .before .before .before .before .before .before .before .before .before .before in
     let entry = found .before .before .before .before .before .before .before .before .before .before in
     let b = ended found .before in
-    let g : length (now (entry .args .chunk)) < 18446744073709551616 = entry .good .1 .1 .1 .1 .1 .1 .1 .0 .0 in
+    let g : length (now (entry .args .chunk)) < 18446744073709551616 = entry .good .1 .1 .1 .1 .1 .1 .0 .0 in
     omega (arith, b, g)
 
 loop-less : tie.Need-loop-less Inv-loop μ-loop
 loop-less c =
-    let x = ended (c .before .before .before .before .before .before .before .before .before .before .before .before .before .before .before .before .before .before .before .before .before .before) in
+    let x = ended (c .before .before .before .before .before .before .before .before .before .before .before .before .before .before .before .before .before .before .before) in
     omega (arith, x .before, x .from)
 
 loop-again : tie.Need-loop-again Inv-loop μ-loop
 loop-again c =
-    let found = c .before .before .before .before .before .before .before .before .before .before .before .before .before .before .before .before .before .before .before .before .before .before in
+    let found = c .before .before .before .before .before .before .before .before .before .before .before .before .before .before .before .before .before .before .before in
     let l = found .before .before .before .before .loop in
-    let t = c .before .before .before .before .before .before .before .before .before .before .before .before .before .take-line in
-    let b = c .before .before .before .before .before .before .before .before .no-line in
+    let t = c .before .before .before .before .before .before .before .before .before .before .before .take-line in
+    let b = c .before .before .before .before .before .before .no-line in
     let p = c .before .before .put-reply in
-    let new = lent (t .last .1 .1 .0) (t .last .1 .1 .1 .0) (t .last .1 .1 .1 .1 .0) (t .last .1 .1 .1 .1 .1 .0) (t .last .1 .1 .1 .1 .1 .1 .0) (t .last .1 .1 .1 .1 .1 .1 .1 .0) in
+    let new = lent (t .last .1 .1 .0) (t .last .1 .1 .1 .0) (t .last .1 .1 .1 .1 .0) (t .last .1 .1 .1 .1 .1 .0) (t .last .1 .1 .1 .1 .1 .1 .0) in
     let same : length (t .last .1 .1 .0) ≡ length (l .log) = search needs in
     let long : length (p .last .0) ≡ length (l .out) = search needs in
     along-line _ _ _ _ _ _ _ (l .inv) (found .before .e .given .0 .0) (ended found) (t .result) new (t .ensures)
