@@ -35,7 +35,7 @@ refused-form ReplyForm.Persisted xs ys q e = no-refusal _ q e
 refused-form ReplyForm.Stabilised xs ys q e = no-refusal _ q e
 refused-form (ReplyForm.Shows s) xs ys q e = no-refusal _ q e
 refused-form (ReplyForm.Restarted lines used) xs ys q e = no-refusal _ q e
-refused-form (ReplyForm.Redone ran) xs ys q e = no-refusal _ q e
+refused-form (ReplyForm.Redone ran examined) xs ys q e = no-refusal _ q e
 refused-form ReplyForm.Ended xs ys q e = no-refusal _ q e
 
 says-refused : (r : Replied) (q : Refusal) → Says r (Refused q) → r .form ≡ ReplyForm.Refused q

@@ -15,7 +15,7 @@ ghost use Rattle.forms.specs.Limits.{liveLimit};
 ghost use Rattle.forms.specs.Decimal.{digits};
 ghost use Rattle.forms.specs.Forms.{fieldsText, changeText};
 ghost use Rattle.forms.specs.Held.{asChange};
-ghost use Rattle.forms.specs.Write.{Measured, heldText, shownNumbers, replySize};
+ghost use Rattle.forms.specs.Write.{Measured, heldText, shownNumbers, twoSize, replySize};
 ghost use Rattle.forms.specs.Write.{HeldInRange, ListsInRange, lineText, Short};
 
 // The number of digits of x.
@@ -97,6 +97,14 @@ fn shown_length(s: Shown) -> usize
     fields_length(&ns) + 10
 }
 
+// The length of a reply that is two numbers, with its end.
+fn two_length(x: u64, y: u64) -> usize
+    ensures { λ r. ⌜ r ≡ twoSize x y ⌝ }
+    ensures { λ r. ⌜ r ≤ 47 ⌝ }
+{
+    number_length(x) + number_length(y) + 7
+}
+
 // The length of a reply with its end, where a and b are the lengths of its lists of numbers.
 fn form_length(form: ReplyForm, a: usize, b: usize) -> usize
     requires { ⌜ (a ≤ 1344) × (b ≤ 1344) ⌝ }
@@ -112,8 +120,8 @@ fn form_length(form: ReplyForm, a: usize, b: usize) -> usize
         ReplyForm::Persisted => a + b + 22,
         ReplyForm::Stabilised => a + 17,
         ReplyForm::Shows(s) => shown_length(s),
-        ReplyForm::Restarted { lines, used } => number_length(lines) + number_length(used) + 7,
-        ReplyForm::Redone(n) => number_length(n) + 6,
+        ReplyForm::Restarted { lines, used } => two_length(lines, used),
+        ReplyForm::Redone { ran, examined } => two_length(ran, examined),
         ReplyForm::Ended => a + 15,
     }
 }

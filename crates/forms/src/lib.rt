@@ -114,7 +114,7 @@ pub enum ReplyForm {
     Stabilised,
     Shows(Shown),
     Restarted { lines: u64, used: u64 },
-    Redone(u64),
+    Redone { ran: u64, examined: u64 },
     Ended,
 }
 

@@ -15,7 +15,7 @@ ghost use lib.ListN.{length};
 ghost use Rattle.forms.specs.Words.{bytes};
 ghost use Rattle.forms.specs.Decimal.{digits};
 ghost use Rattle.forms.specs.Forms.{doneRuleText, fieldText, fieldsText, changeText, didText, numbersText};
-ghost use Rattle.forms.specs.Forms.{answerText, outcomeText, Finished, Persisted};
+ghost use Rattle.forms.specs.Forms.{twoText, answerText, outcomeText, Finished, Persisted};
 ghost use Rattle.forms.specs.Held.{asChange, didOf, outcomeWith};
 ghost use Rattle.forms.specs.Write.{Wrote, heldText, listedText, pairText};
 ghost use Rattle.forms.specs.Write.{HeldInRange, lineText};
@@ -188,12 +188,12 @@ fn write_shown(buf: &mut [u8], at: usize, s: Shown) -> usize
     write_numbers(buf, at, b"(history", &ns)
 }
 
-// Writes what cut replies.
-fn write_restarted(buf: &mut [u8], at: usize, lines: u64, used: u64) -> usize
-    requires { ⌜ at + length (numbersText (bytes "(ok") (lines ∷ used ∷ [])) ≤ length (now buf) ⌝ }
-    ensures { λ r. ⌜ Wrote (now (buf .entry)) at (numbersText (bytes "(ok") (lines ∷ used ∷ [])) r (now (buf .exit)) ⌝ }
+// Writes an accepted reply that is two numbers: what cut and redo reply.
+fn write_two(buf: &mut [u8], at: usize, a: u64, b: u64) -> usize
+    requires { ⌜ at + length (twoText a b) ≤ length (now buf) ⌝ }
+    ensures { λ r. ⌜ Wrote (now (buf .entry)) at (twoText a b) r (now (buf .exit)) ⌝ }
 {
-    let ns = [lines, used];
+    let ns = [a, b];
     write_numbers(buf, at, b"(ok", &ns)
 }
 
@@ -212,8 +212,8 @@ fn write_form(buf: &mut [u8], at: usize, form: ReplyForm, xs: &[u64], ys: &[u64]
         ReplyForm::Persisted => write_persisted(buf, at, xs, ys),
         ReplyForm::Stabilised => write_listed(buf, at, b"(histories", xs),
         ReplyForm::Shows(s) => write_shown(buf, at, s),
-        ReplyForm::Restarted { lines, used } => write_restarted(buf, at, lines, used),
-        ReplyForm::Redone(n) => write_one(buf, at, b"(ok", n),
+        ReplyForm::Restarted { lines, used } => write_two(buf, at, lines, used),
+        ReplyForm::Redone { ran, examined } => write_two(buf, at, ran, examined),
         ReplyForm::Ended => write_listed(buf, at, b"(waiting", xs),
     }
 }

@@ -2,7 +2,7 @@
 use mathlib.Core.Path.{_≡_, refl, ap₂}
 use mathlib.Core.Bool.{Bool, not}
 use mathlib.Core.List.{List, [], _∷_, _++_}
-use mathlib.Core.List.{List·Memᴰ as Mem, List·Memᴰ·head as here, List·Memᴰ·tail as there}
+use mathlib.Core.List.{List·Memᴰ as Mem, List·Memᴰ·head as here, List·Memᴰ·tail as there, Memᴰ·append-left, Memᴰ·append-right}
 use Prim.Native.Nat.{ℕ}
 use lib.Dec.{T, eqb, eqb→eq}
 use Rattle.forms.specs.Lists.{all, below}
@@ -50,7 +50,7 @@ abbrev pub whole : Row
 whole =
     row
     (toCut ++ bytes "(cut 60)\n(show 1)\n(redo (did 6 (set 1 4 2 1000)))\n(redo (did 6 (set 1 4 2 1000)))\n(end)\n(show 1)\n")
-    (toCutReplies ++ bytes "(ok 1 46)\n(history 1 0 0 0 1 0)\n(ok 1)\n(refused 8)\n(ok (waiting))\n(history 1 4 0 0 2 1000)\n")
+    (toCutReplies ++ bytes "(ok 1 46)\n(history 1 0 0 0 1 0)\n(ok 1 1)\n(refused 8)\n(ok (waiting))\n(history 1 4 0 0 2 1000)\n")
 
 -- That session's 71 bytes of log, and more calls.
 abbrev on71 : List ℕ → List ℕ → Row
@@ -75,10 +75,10 @@ edges =
     ∷ on71 (bytes "(cut 46)\n") (bytes "(ok 1 46)\n")
     ∷ on71 (bytes "(cut 71)\n") (bytes "(ok 2 71)\n")
     ∷ on71 (bytes "(cut 72)\n") (bytes "(refused 13)\n")
-    -- P7: "cut 9, redo of 6 `(ok 0)`, redo of 5 `(ok 2)`"
+    -- P7: "cut 9, redo of 6", and 02: "P7 reads `(ok 0 1)` and `(ok 2 3)`"
     ∷ on71
     (bytes "(cut 9)\n(redo (did 6 (set 1 4 2 1000)))\n(redo (did 5 (inc 0 1 1 513)(not 1 0 1 0)))\n")
-    (bytes "(ok 0 9)\n(ok 0)\n(ok 2)\n")
+    (bytes "(ok 0 9)\n(ok 0 1)\n(ok 2 3)\n")
     -- P8: "inc at C = 0: 1 runs, 2 waits, 0 refused 8"
     ∷ at0 (bytes "(add 5 (inc 0 1 0))\n") (bytes "(ok (ready 5))\n")
     ∷ at0 (bytes "(add 5 (inc 0 2 0))\n") (bytes "(ok (ready))\n")
@@ -92,6 +92,29 @@ edges =
     -- P10: "profile 65536 with operand 255 becomes 65791; profile 0 with 1023 becomes 4278190080"
     ∷ at4 (bytes "(add 5 (inc 0 5 255))\n(finish 5)\n") (bytes "(ok (ready 5))\n(ok 2 (values 65791)(ready))\n")
     ∷ at0 (bytes "(add 5 (inc 0 1 1023))\n(finish 5)\n") (bytes "(ok (ready 5))\n(ok 1 (values 4278190080)(ready))\n")
+    ∷ []
+
+-- A site of two histories, cut to its site line, and more calls.
+abbrev bare : List ℕ → List ℕ → Row
+bare calls answers = row (bytes "(site 2)\n(cut 9)\n" ++ calls) (bytes "(ok)\n(ok 0 9)\n" ++ answers)
+
+-- 02, "S is the count of the written rule's own examinations": what redo replies beside the lines run.
+abbrev pub looks : List Row
+looks =
+    -- the one that waits is looked at, then the new one, which runs, and then the one that waits again
+    bare (bytes "(redo (did 1 (inc 0 2 2 0)))\n(redo (did 2 (inc 1 1 1 0)))\n") (bytes "(ok 0 1)\n(ok 1 3)\n")
+    -- each round begins at the earliest delivered line, whatever runs: 1 2 3, 1 2, 1
+    ∷ bare
+    (bytes "(redo (did 1 (inc 0 3 3 0)))\n(redo (did 2 (inc 0 2 2 0)))\n(redo (did 3 (inc 0 1 1 0)))\n")
+    (bytes "(ok 0 1)\n(ok 0 2)\n(ok 3 6)\n")
+    -- the new line is the last of them: 1 2 3, 1, 2
+    ∷ bare
+    (bytes "(redo (did 1 (inc 0 2 2 0)))\n(redo (did 2 (inc 0 3 3 0)))\n(redo (did 3 (inc 0 1 1 0)))\n")
+    (bytes "(ok 0 1)\n(ok 0 2)\n(ok 3 5)\n")
+    -- a round in which none can run looks at all that wait; one over no lines at none
+    ∷ bare
+    (bytes "(redo (did 1 (inc 0 3 3 0)))\n(redo (did 2 (inc 1 2 2 0)))\n(redo (did 3 (inc 0 1 1 0)))\n(redo (did 4 (inc 0 2 2 0)))\n")
+    (bytes "(ok 0 1)\n(ok 0 2)\n(ok 1 5)\n(ok 2 5)\n")
     ∷ []
 
 -- The test of a row: the replies are these, byte for byte.
@@ -111,7 +134,7 @@ unfolding holds
 holds-is r t = same-bytes (session (r .input)) (r .replies) t
 
 -- The one computed test, over the session and the whole table.
-computed : T (all holds (whole ∷ edges))
+computed : T (all holds (whole ∷ edges ++ looks))
 computed =
     unfold holds sameBytes below word digitsWithin digits more number numberOf in
     unfold fieldText fieldsText itemsText tailText listText updateText changeText oneText siteText didText redoText numbersText answerText outcomeText in
@@ -130,8 +153,12 @@ computed =
 
 -- "A session, whole": that input gives these replies.
 pub whole-session : session (whole .input) ≡ whole .replies
-whole-session = holds-is whole (all-at holds (whole ∷ edges) computed whole (here refl))
+whole-session = holds-is whole (all-at holds (whole ∷ edges ++ looks) computed whole (here refl))
 
 -- P1 to P10 hold.
 pub edges-hold : (r : Row) → Mem r edges → session (r .input) ≡ r .replies
-edges-hold r m = holds-is r (all-at holds (whole ∷ edges) computed r (there m))
+edges-hold r m = holds-is r (all-at holds (whole ∷ edges ++ looks) computed r (there (Memᴰ·append-left looks m)))
+
+-- .. and what redo says of how often it looks.
+pub looks-hold : (r : Row) → Mem r looks → session (r .input) ≡ r .replies
+looks-hold r m = holds-is r (all-at holds (whole ∷ edges ++ looks) computed r (there (Memᴰ·append-right edges m)))

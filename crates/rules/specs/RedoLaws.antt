@@ -4,26 +4,27 @@ use mathlib.Core.Logic.{_⊎_, inl, inr}
 use mathlib.Core.Bool.{true, false}
 use mathlib.Core.List.{List, [], _∷_, _++_, map, map-append, append-assoc}
 use mathlib.Core.List.{List·Memᴰ as Mem, List·Memᴰ·not-nil, Memᴰ·append-right}
-use Prim.Native.Nat.{ℕ, suc, _+_, _≤_, _<_}
+use Prim.Native.Nat.{ℕ, suc, _+_, _-_, _*_, _≤_, _<_}
 use native.Mathlib.Omega.{arith}
+use native.Mathlib.Numerals.{add-one}
 use lib.Dec.{T}
 use lib.ListN.{length, length-append, length-drop, drop}
 use Rattle.forms.specs.Decimal.{Step}
 use Rattle.forms.specs.Decimal.Step.{got, bad}
 use Rattle.forms.specs.Lists.{any, sum}
 use Rattle.forms.specs.ListLaws.{Nodup, nodup-right, nodup-sub, nodup-move, mem-at, mem-along, mem-snoc, mem-widen, sum-mid, sum-append}
-use Rattle.forms.specs.Forms.{Did, Answer}
+use Rattle.forms.specs.Forms.{Did, Answer, Redone}
 use Rattle.forms.specs.Reading.{readDid}
 use Rattle.forms.specs.DidLaws.{readDid-read}
 use Rattle.forms.specs.declared.Refusal.the-variants.{Unreadable, IdPending, AlreadyDone, TableFull, NoRoom, OutOfTurn}
 use Rattle.rules.specs.Book.{canRun}
 use Rattle.rules.specs.State.{State, ok, liveLimit, logBytes, liveDone, live, lineBytes, withLog, withWaiting}
-use Rattle.rules.specs.Calls.{idPending, idDone, tableFull, logFull, stale, redoRefusal, drain, delivered, redoRead, redo, end}
+use Rattle.rules.specs.Calls.{idPending, idDone, tableFull, logFull, stale, redoRefusal, drain, delivered, redoRead, redo, end, Call, perform, step}
 use Rattle.rules.specs.Good.{Good, FormedDid, Ran, didIds, operationIds}
 use Rattle.rules.specs.FitLaws.{length-log}
 use Rattle.rules.specs.CheckLaws.{refused-not-ok, check-none, andThen-none, unless-ok, unless-check, not-lt, not-le, not-false, or-false-right}
 use Rattle.rules.specs.BookLaws.{ran-snoc}
-use Rattle.rules.specs.DrainLaws.{drain-keeps, drain-quiet}
+use Rattle.rules.specs.DrainLaws.{drain-keeps, drain-quiet, drain-longer, drain-examines}
 use Rattle.rules.specs.IdLaws.{fresh-tested, ids-snoc, ids-wait}
 use Rattle.rules.specs.WorkLaws.{good-ok, true-not-false}
 
@@ -148,6 +149,29 @@ good-redo line st st′ a G e = go (readDid line) refl e
         good-ok _ st′ _ a (r .1)
         (redo-good d st G F (not-false (st .restoring) (r14 .0)) (r7 .0) (or-false-right (any (stale st) (d .changes)) (idDone (d .id) st) (r8 .0))
         (not-le liveLimit (live st) (r10 .0)) (not-lt (st .room) _ (r12 .0)))
+
+-- ### How often redo looks
+
+-- 02: "With w lines waiting, the new one included, S is at most (R + 1) × w."
+pub redo-examines : (line : List ℕ) (st st′ : State) (ran examined : ℕ) → step (Call.Redo line) st ≡ ok st′ (Redone ran examined) →
+    examined ≤ (ran + 1) * (length (st .waiting) + 1)
+unfolding step perform redo redoRead delivered
+redo-examines line st st′ ran examined e = go (readDid line) (unless-ok _ _ st′ _ e .1)
+  where
+    go : (s : Step Did) → redoRead s st ≡ ok st′ (Redone ran examined) → examined ≤ (ran + 1) * (length (st .waiting) + 1)
+    go bad q = absurd (refused-not-ok Unreadable st′ _ q)
+    go (got d rest) q =
+        let k = suc (length (st .waiting)) in
+        let lines = st .waiting ++ d ∷ [] in
+        let out = drain k (st .log) lines in
+        let r : ok (withLog (out .log) (withWaiting (out .waiting) st)) (Redone (length (out .log) - length (st .log)) (out .examined))
+            ≡ ok st′ (Redone ran examined) = unless-ok _ _ st′ _ q .1 in
+        let runs : length (out .log) - length (st .log) ≡ ran = cc in
+        let looks : out .examined ≡ examined = cc in
+        let most : out .examined ≤ suc ran * length lines =
+        drain-examines k (st .log) lines ran (omega (arith, runs, drain-longer k (st .log) lines)) in
+        let w : length lines ≡ length (st .waiting) + 1 = length-append (st .waiting) (d ∷ []) in
+        rw (sym looks, sym w, add-one ran) most
 
 -- ### End
 

@@ -103,11 +103,11 @@ redoing change answers after =
 
 -- Redo of the change runs, and then `show` has version, persistent and stable version, place and profile.
 abbrev reruns : String → String → Case
-reruns change shown = redoing change (bytes "(ok 1)\n(history 0 " ++ bytes shown ++ bytes ")\n") (at4 ++ did2 change)
+reruns change shown = redoing change (bytes "(ok 1 1)\n(history 0 " ++ bytes shown ++ bytes ")\n") (at4 ++ did2 change)
 
 -- .. or waits
 abbrev staysBack : String → Case
-staysBack change = redoing change (bytes "(ok 0)\n(history 0 4 4 4 1 67305985)\n") at4
+staysBack change = redoing change (bytes "(ok 0 1)\n(history 0 4 4 4 1 67305985)\n") at4
 
 -- .. or is refused
 abbrev redoRefused : String → String → Case

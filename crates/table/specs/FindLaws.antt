@@ -8,8 +8,8 @@ use mathlib.Core.List.{List·Memᴰ as Mem, Memᴰ·append-left, Memᴰ·append-
 use mathlib.Core.Option.{none, some}
 use borrow.Author.Tests.{ne-eqb, eqb-true}
 use lib.Dec.{eqb, T}
-use lib.ListN.{length, getD, take, drop}
-use lib.Seq.{split-at}
+use lib.ListN.{length, getD, take, drop, length-map}
+use lib.Seq.{split-at, length-take-le}
 use Rattle.forms.specs.Lists.{any, keep, find}
 use Rattle.forms.specs.ListLaws.{Nodup, nodup-mid, keep-append, keep-all, true-T, mem-at, mem-along}
 use Rattle.forms.specs.Forms.{Did, Change}
@@ -179,16 +179,17 @@ without-is i running l k once e =
 
 -- what is picked of a line and those behind it
 picked : List Did → Did → List Did → Bool → Pick
-picked log w ws b = elim b [ true ↦ this w ws | false ↦ behind w (pick log ws) ]
+picked log w ws b = elim b [ true ↦ this 1 w ws | false ↦ behind w (pick log ws) ]
 
-pick-mid : (log a : List Did) (d : Did) (b : List Did) → any (canRun log) a ≡ false → canRun log d ≡ true → pick log (a ++ d ∷ b) ≡ this d (a ++ b)
+pick-mid : (log a : List Did) (d : Did) (b : List Did) → any (canRun log) a ≡ false → canRun log d ≡ true →
+    pick log (a ++ d ∷ b) ≡ this (suc (length a)) d (a ++ b)
 unfolding picked pick behind
 pick-mid log [] d b e h = ap (picked log d b) h
 pick-mid log (w ∷ a) d b e h =
     ap (picked log w (a ++ d ∷ b)) (or-false-left (canRun log w) (any (canRun log) a) e)
     ∙ ap (behind w) (pick-mid log a d b (or-false-right (canRun log w) (any (canRun log) a) e) h)
 
-pick-none : (log l : List Did) → any (canRun log) l ≡ false → pick log l ≡ nobody
+pick-none : (log l : List Did) → any (canRun log) l ≡ false → pick log l ≡ nobody (length l)
 unfolding picked pick behind
 pick-none log [] e = refl
 pick-none log (w ∷ l) e =
@@ -204,19 +205,24 @@ module _ (n : ℕ) (log : List Did) (hs : List History) (l : List Entry) (same :
 
   -- The first line that can run is the one that the specification picks, and the queue without it holds the others.
   pub pick-is : (k : ℕ) → firstAt (canRunEntry (cellsOf hs)) l ≡ At k
-      → pick log (map didOfEntry l) ≡ this (didOfEntry (getD l k pastEntry)) (map didOfEntry (take k l ++ drop (k + 1) l))
+      → pick log (map didOfEntry l) ≡ this (k + 1) (didOfEntry (getD l k pastEntry)) (map didOfEntry (take k l ++ drop (k + 1) l))
   pick-is k e =
       ap (pick log) (map-split didOfEntry l pastEntry k (f .lt))
       ∙ pick-mid log (map didOfEntry (take k l)) (didOfEntry (getD l k pastEntry)) (map didOfEntry (drop (suc k) l))
       (agree (take k l) (λ x m. whole x (Memᴰ·append-left (getD l k pastEntry ∷ drop (suc k) l) m)) ∙ f .miss)
       (sym (can-run-is n log hs (getD l k pastEntry) same (low (getD l k pastEntry) (whole (getD l k pastEntry) (mem-at (getD l k pastEntry) (take k l) (drop (suc k) l))))) ∙ f .hit)
-      ∙ ap (this (didOfEntry (getD l k pastEntry))) (sym (map-rest didOfEntry l pastEntry k (f .lt)))
+      ∙ ap₂ (λ (n : ℕ) (rest : List Did). this n (didOfEntry (getD l k pastEntry)) rest) looked (sym (map-rest didOfEntry l pastEntry k (f .lt)))
     where
       f : First (canRunEntry (cellsOf hs)) pastEntry l k
       f = first-found (canRunEntry (cellsOf hs)) pastEntry l k e
 
+      looked : suc (length (map didOfEntry (take k l))) ≡ k + 1
+      looked = omega (arith, length-map (take k l) didOfEntry, length-take-le k l (omega (arith, f .lt)))
+
       whole : (x : Entry) → Mem x (take k l ++ getD l k pastEntry ∷ drop (suc k) l) → Mem x l
       whole x m = mem-along (sym (split-at l k pastEntry (f .lt))) m
 
-  pub pick-nobody : firstAt (canRunEntry (cellsOf hs)) l ≡ Nothing → pick log (map didOfEntry l) ≡ nobody
-  pick-nobody e = pick-none log (map didOfEntry l) (agree l (λ x m. m) ∙ first-missed (canRunEntry (cellsOf hs)) pastEntry l e)
+  pub pick-nobody : firstAt (canRunEntry (cellsOf hs)) l ≡ Nothing → pick log (map didOfEntry l) ≡ nobody (length l)
+  pick-nobody e =
+      pick-none log (map didOfEntry l) (agree l (λ x m. m) ∙ first-missed (canRunEntry (cellsOf hs)) pastEntry l e)
+      ∙ ap nobody (length-map l didOfEntry)
