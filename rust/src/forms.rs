@@ -145,7 +145,7 @@ pub enum Reply {
     Stable { rose: HistorySet },
     Shown { number: u64, history: History },
     Restarted { lines: u64, bytes: usize },
-    Redone { lines: u64 },
+    Redone { lines: u64, examined: u64 },
     Ended { waiting: Vec<u64> },
 }
 

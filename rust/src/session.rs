@@ -55,7 +55,10 @@ fn perform(command: Command, site: &mut Site, log: &mut [u8]) -> Answer {
             let (lines, bytes) = site.cut(kept, log)?;
             Reply::Restarted { lines, bytes }
         }
-        Command::Redo(did) => Reply::Redone { lines: site.redo(did, log)? },
+        Command::Redo(did) => {
+            let (lines, examined) = site.redo(did, log)?;
+            Reply::Redone { lines, examined }
+        }
         Command::End => Reply::Ended { waiting: site.end()? },
     })
 }

@@ -63,7 +63,7 @@ fn the_session_of_the_paper() {
     );
     let expected = "(ok)\n(ok (ready 5))\n(ok (ready))\n(ok 1 (values 65536 0)(ready 6))\n\
                     (ok 2 (values 1000)(ready))\n(ok (histories 0)(dry 0))\n\
-                    (history 0 1 1 0 1 65536)\n(ok 1 46)\n(history 1 0 0 0 1 0)\n(ok 1)\n\
+                    (history 0 1 1 0 1 65536)\n(ok 1 46)\n(history 1 0 0 0 1 0)\n(ok 1 1)\n\
                     (refused 8)\n(ok (waiting))\n(history 1 4 0 0 2 1000)\n";
     assert_eq!(replies(&input), expected);
 }
@@ -95,10 +95,22 @@ fn cuts_of_the_71_bytes() {
 #[test]
 fn p7_redo_waits_for_its_place() {
     let cut = format!("{FIRST}(cut 9)\n(redo (did 6 (set 1 4 2 1000)))\n");
-    assert_eq!(last_reply(&cut), "(ok 0)");
+    assert_eq!(last_reply(&cut), "(ok 0 1)");
     let redone = format!("{cut}(redo (did 5 (inc 0 1 1 513)(not 1 0 1 0)))\n");
-    assert_eq!(last_reply(&redone), "(ok 2)");
+    assert_eq!(last_reply(&redone), "(ok 2 3)");
     assert_eq!(last_reply(&format!("{redone}(cut 71)\n")), "(ok 2 71)");
+}
+
+/// Each round looks from the earliest delivered line to the one that runs, the last at all.
+#[test]
+fn redo_counts_how_often_it_looks() {
+    let redo = |lines: &[&str]| {
+        let redos: String = lines.iter().map(|line| format!("(redo (did {line}))\n")).collect();
+        last_reply(&format!("(site 2)\n(cut 9)\n{redos}"))
+    };
+    assert_eq!(redo(&["1 (inc 0 2 2 0)", "2 (inc 1 1 1 0)"]), "(ok 1 3)");
+    assert_eq!(redo(&["1 (inc 0 3 3 0)", "2 (inc 0 2 2 0)", "3 (inc 0 1 1 0)"]), "(ok 3 6)");
+    assert_eq!(redo(&["1 (inc 0 2 2 0)", "2 (inc 0 3 3 0)", "3 (inc 0 1 1 0)"]), "(ok 3 5)");
 }
 
 #[test]

@@ -69,7 +69,10 @@ pub fn say_paper() {
     say_shown(0, 1, 1, 0, 1, 65536);
     say_plain(ReplyForm::Restarted { lines: 1, used: 46 });
     say_shown(1, 0, 0, 0, 1, 0);
-    say_plain(ReplyForm::Redone(1));
+    say_plain(ReplyForm::Redone {
+        ran: 1,
+        examined: 1,
+    });
     say_plain(ReplyForm::Ended);
     say_shown(1, 4, 0, 0, 2, 1000);
     say_reply(ReplyForm::Withdrawn, &[0, 1], &[]);
@@ -94,7 +97,13 @@ pub fn say_edges() {
         lines: MOST,
         used: MOST,
     });
-    say_plain(ReplyForm::Redone(MOST));
-    say_plain(ReplyForm::Redone(0));
+    say_plain(ReplyForm::Redone {
+        ran: MOST,
+        examined: MOST,
+    });
+    say_plain(ReplyForm::Redone {
+        ran: 0,
+        examined: 1,
+    });
     say_reply(ReplyForm::Ended, &all, &two);
 }

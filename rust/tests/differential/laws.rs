@@ -1,6 +1,6 @@
 //! What holds of every session of this program after every line, whatever it was.
 
-use second::forms::{Answer, Update};
+use second::forms::{Answer, Reply, Update};
 use second::rules::Rules;
 use second::session::Session;
 use second::site::Site;
@@ -22,10 +22,15 @@ pub fn check(trial: &SessionTrial) {
     }
 }
 
-/// A refused call changes nothing; an accepted one no byte past those in use.
+/// A refused call changes nothing; an accepted one no byte past those in use. With w lines
+/// waiting, the new one included, a redo that runs R of them examines at most (R + 1) × w.
 fn check_change(before: &(Session, Vec<u8>), after: (&Session, &Vec<u8>), answer: &Answer) {
     if answer.is_err() {
         assert_eq!((&before.0, &before.1), after, "a refused call changed something");
+    }
+    if let Ok(Reply::Redone { lines, examined }) = answer {
+        let waiting = 1 + before.0.site().map_or(0, Site::waiting) as u64;
+        assert!((1..=(lines + 1) * waiting).contains(examined), "{examined} of {waiting}");
     }
     let used = after.0.site().map_or(0, Site::used);
     assert_eq!(before.1[used..], after.1[used..], "a byte past those in use changed");

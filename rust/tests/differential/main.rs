@@ -273,8 +273,11 @@ fn the_trials_reach_everything() {
     }
 }
 
+/// Replies to a redo that are kept as they are: no log has so few bytes that a cut replies them.
+const LOOKS: [&str; 5] = ["(ok 0 1)", "(ok 0 2)", "(ok 1 1)", "(ok 1 3)", "(ok 2 3)"];
+
 /// The kinds of replies, refusals aside.
-const KINDS: [&str; 26] = [
+const KINDS: [&str; 28] = [
     "(ok)",
     "(ok (ready N))",
     "(ok (ready))",
@@ -289,9 +292,11 @@ const KINDS: [&str; 26] = [
     "(ok (histories N))",
     "(ok (histories))",
     "(ok N N)",
-    "(ok 0)",
-    "(ok 1)",
-    "(ok N)",
+    "(ok 0 1)",
+    "(ok 0 2)",
+    "(ok 1 1)",
+    "(ok 1 3)",
+    "(ok 2 3)",
     "(ok (waiting N))",
     "(ok (waiting))",
     "(history N)",
@@ -305,7 +310,7 @@ const KINDS: [&str; 26] = [
 
 /// A reply with N for its numbers and lists of them, but for refusals and few lines run.
 fn kind_of(reply: &str) -> String {
-    if reply.contains("refused ") || ["(ok 0)", "(ok 1)"].contains(&reply) {
+    if reply.contains("refused ") || LOOKS.contains(&reply) {
         return reply.to_string();
     }
     let mut kind = String::new();
