@@ -12,7 +12,6 @@ use super::writer::write_word;
 ghost use Prim.Native.Nat.{_+_, _≤_};
 ghost use mathlib.Core.List.{[], _∷_};
 ghost use lib.ListN.{length};
-ghost use Rattle.forms.specs.Words.{bytes};
 ghost use Rattle.forms.specs.Decimal.{digits};
 ghost use Rattle.forms.specs.Forms.{doneRuleText, fieldText, fieldsText, changeText, didText, numbersText};
 ghost use Rattle.forms.specs.Forms.{twoText, answerText, outcomeText, Finished, Persisted};

@@ -19,7 +19,8 @@ use Rattle.forms.specs.DidLaws.{readDid-read}
 use Rattle.forms.specs.declared.Refusal.the-variants.{Unreadable, IdPending, AlreadyDone, TableFull, NoRoom, OutOfTurn}
 use Rattle.rules.specs.Book.{canRun}
 use Rattle.rules.specs.State.{State, ok, liveLimit, logBytes, liveDone, live, lineBytes, withLog, withWaiting}
-use Rattle.rules.specs.Calls.{idPending, idDone, tableFull, logFull, stale, redoRefusal, drain, delivered, redoRead, redo, end, Call, perform, step}
+use Rattle.rules.specs.Calls.{idPending, idDone, tableFull, logFull, stale, redoRefusal, drain, delivered, redoRead, redo}
+use Rattle.rules.specs.Calls.{end, Call, perform, step}
 use Rattle.rules.specs.Good.{Good, FormedDid, Ran, didIds, operationIds}
 use Rattle.rules.specs.FitLaws.{length-log}
 use Rattle.rules.specs.CheckLaws.{refused-not-ok, check-none, andThen-none, unless-ok, unless-check, not-lt, not-le, not-false, or-false-right}
@@ -165,7 +166,7 @@ redo-examines line st st′ ran examined e = go (readDid line) (unless-ok _ _ st
         let lines = st .waiting ++ d ∷ [] in
         let out = drain k (st .log) lines in
         let r : ok (withLog (out .log) (withWaiting (out .waiting) st)) (Redone (length (out .log) - length (st .log)) (out .examined))
-            ≡ ok st′ (Redone ran examined) = unless-ok _ _ st′ _ q .1 in
+        ≡ ok st′ (Redone ran examined) = unless-ok _ _ st′ _ q .1 in
         let runs : length (out .log) - length (st .log) ≡ ran = cc in
         let looks : out .examined ≡ examined = cc in
         let most : out .examined ≤ suc ran * length lines =

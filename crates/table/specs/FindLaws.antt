@@ -211,7 +211,8 @@ module _ (n : ℕ) (log : List Did) (hs : List History) (l : List Entry) (same :
       ∙ pick-mid log (map didOfEntry (take k l)) (didOfEntry (getD l k pastEntry)) (map didOfEntry (drop (suc k) l))
       (agree (take k l) (λ x m. whole x (Memᴰ·append-left (getD l k pastEntry ∷ drop (suc k) l) m)) ∙ f .miss)
       (sym (can-run-is n log hs (getD l k pastEntry) same (low (getD l k pastEntry) (whole (getD l k pastEntry) (mem-at (getD l k pastEntry) (take k l) (drop (suc k) l))))) ∙ f .hit)
-      ∙ ap₂ (λ (n : ℕ) (rest : List Did). this n (didOfEntry (getD l k pastEntry)) rest) looked (sym (map-rest didOfEntry l pastEntry k (f .lt)))
+      ∙ ap₂ (λ (n : ℕ) (rest : List Did). this n (didOfEntry (getD l k pastEntry)) rest) looked
+      (sym (map-rest didOfEntry l pastEntry k (f .lt)))
     where
       f : First (canRunEntry (cellsOf hs)) pastEntry l k
       f = first-found (canRunEntry (cellsOf hs)) pastEntry l k e
