@@ -31,6 +31,10 @@ use Rattle.compact.specs.Fits.{fits-made}
 use Rattle.compact.specs.FitsLaws.{fits-next}
 use Rattle.compact.specs.Claim.{siteOr, inSlot, SlotList, beforeCut, atEnd}
 use Rattle.compact.specs.ClaimLaws.{slot-arrival}
+use Rattle.rules.specs.Rules.{profileOf, replacedWith}
+use Rattle.rules.specs.Book.{canRunWith, cellFromWith, cellWith, enterAllWith, enterWith, enteredWith}
+use Rattle.rules.specs.Checks.{changeMisfitsWith, changesRefusalWith}
+use Rattle.rules.specs.Log.{acceptsWith, readFirstWith, readLinesWith, readLogWith}
 
 abbrev raise : List Update
 raise = record { rule = Inc; history = 0; version = 1; operand = 7 } ∷ []
@@ -72,7 +76,7 @@ record Computed : Type 0 where
   final : siteOr (slotAt 0 (runIn (inSlot 0) (xs ++ x ∷ ys) start) .site) .log ≡ one ∷ []
 
 computed : Computed
-unfolding replaced entered enter enterAll cellFrom cell touches runsAt canRun unless openFull openRefusal opened openSite blockedBy blocked mayRunNow ready attempt tryFrom madeReady nothingOrders idPending idDone alreadyDone readOvertaken tableFull addRefusal arrived add changeOf lineOf valuesAfter inProgress future without logFull finished finishFound finish restarted restartAs restart cutAbove cut stale redoRefusal behind pick drain delivered redoRead redo writableUpdate writable perform step check andThen wrongCount noSuchHistory historyTwice updateMisfits changeMisfits formRefusal updatesRefusal changesRefusal ended didsText logText linesFrom restFrom historiesFit accepts readLines readFirst readLog logBytes versionAt liveDone live asks dry becameDry rose lineBytes settle below digitsWithin digits more number word fieldText fieldsText itemsText tailText listText changeText oneText siteText didText reading.field reading.doneRule reading.change reading.one reading.did reading.items reading.tail readWhole readDid readSite countedAfter comesAfter lostBy addWhen redoReadWhen redoWhen lastly cutWhen performWhen stepWhen runIn countedIn cameIn slotAt withSlot others liveOf lacks free taken uncovered meetsTen promisedAgain replyOf promiseOf nextOf
+unfolding replacedWith profileOf enteredWith enterWith enterAllWith cellFromWith cellWith touches runsAt canRunWith unless openFull openRefusal opened openSite blockedBy blocked mayRunNow ready attempt tryFrom madeReady nothingOrders idPending idDone alreadyDone readOvertaken tableFull addRefusal arrived add changeOf lineOf valuesAfter inProgress future without logFull finished finishFound finish restarted restartAs restart cutAbove cut stale redoRefusal behind pick drain delivered redoRead redo writableUpdate writable perform step check andThen wrongCount noSuchHistory historyTwice updateMisfits changeMisfitsWith formRefusal updatesRefusal changesRefusalWith ended didsText logText linesFrom restFrom historiesFit acceptsWith readLinesWith readFirstWith readLogWith logBytes versionAt liveDone live asks dry becameDry rose lineBytes settle below digitsWithin digits more number word fieldText fieldsText itemsText tailText listText changeText oneText siteText didText reading.field reading.doneRule reading.change reading.one reading.did reading.items reading.tail readWhole readDid readSite countedAfter comesAfter lostBy addWhen redoReadWhen redoWhen lastly cutWhen performWhen stepWhen runIn countedIn cameIn slotAt withSlot others liveOf lacks free taken uncovered meetsTen promisedAgain replyOf promiseOf nextOf
 computed = record { opens = refl; isOpen = refl; counts = refl; cuts = refl; room = refl; lost = refl; came = refl; final = refl }
 
 two : (a : List Move) (y : Move) (b : List Move) → ys ≡ a ++ y ∷ b → (y ≡ p) ⊎ (y ≡ q)

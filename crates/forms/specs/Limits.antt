@@ -1,4 +1,4 @@
--- The limits of document 01, each once. The code has the same numbers in src/limits.rt.
+-- The limits of documents 01 and 02, each once. The code has the same numbers in src/limits.rt.
 use Prim.Native.Nat.{ℕ}
 
 -- "A site has 1 to 16 histories, numbered from 0."
@@ -17,9 +17,13 @@ updateLimit = 4
 abbrev pub lineLimit : ℕ
 lineLimit = 1024
 
--- "A did line has at most 272 bytes", its end among them.
+-- 02 (c): "A profile becomes 64 bits and parts run 0 to 7": how many parts a profile has, a byte each.
+abbrev pub partLimit : ℕ
+partLimit = 8
+
+-- 02 (c): "A did line has at most 312 bytes", its end among them.
 abbrev pub didLimit : ℕ
-didLimit = 272
+didLimit = 312
 
 -- "a log buffer at most 65,536"
 abbrev pub logLimit : ℕ

@@ -1,4 +1,4 @@
-// The limits of document 01, each once. The definitions have the same numbers in specs/Limits.antt.
+// The limits of documents 01 and 02, each once. The definitions have the same numbers in specs/Limits.antt.
 
 // "A site has 1 to 16 histories, numbered from 0."
 pub const HISTORIES: usize = 16;
@@ -12,8 +12,11 @@ pub const UPDATES: usize = 4;
 // "unreadable line, or above 1,024 bytes without its end"
 pub const LINE_BYTES: usize = 1024;
 
-// "A did line has at most 272 bytes", its end among them.
-pub const DID_BYTES: usize = 272;
+// 02 (c): "A profile becomes 64 bits and parts run 0 to 7": how many parts a profile has, a byte each.
+pub const PARTS: u64 = 8;
+
+// 02 (c): "A did line has at most 312 bytes", its end among them.
+pub const DID_BYTES: usize = 312;
 
 // "a log buffer at most 65,536"
 pub const LOG_BYTES: usize = 65536;

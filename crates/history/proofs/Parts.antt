@@ -6,6 +6,7 @@ use mathlib.Core.Path.{_≡_, refl, sym, ap, ap₂, _∙_}
 use lib.Bits.{bitAnd, bitOr, and-block, and-mask, or-block, or-zero-r, or-shifted-r}
 use lib.Pow.{shr-shr, shr-mod, mod-mod-pow, mod-pow-add}
 use Rattle.rules.specs.Rules.{replaced, partAfter, part}
+use Rattle.rules.specs.Rules.{profileOf, replacedWith}
 
 -- at a part of k bits below and j bits above
 swap : (n b k j K : ℕ) → 2 ^ k ≤ 2 ^ K → 0 < 2 ^ K → 0 < 2 ^ k → b * 2 ^ k < 2 ^ K
@@ -57,7 +58,7 @@ sum3 b x r a0 a1 a2 e f = omega arith
 
 pub replaces : (n o : ℕ) → n < 2 ^ 32 → o ≤ 1023
     → bitOr (bitAnd n (4294967295 - 255 * 2 ^ (o / 256 * 8) % 4294967296)) (bitAnd o 255 * 2 ^ (o / 256 * 8) % 4294967296) ≡ replaced n o
-unfolding replaced
+unfolding replacedWith profileOf
 replaces n o h l = rw (and-mask o 8) (go (o / 256) refl)
   where
     e1 : n / 256 / 256 ≡ n / 65536

@@ -35,6 +35,7 @@ use Rattle.history.specs.Asking.{verdictOf, askedTest, askedPasses, noAs
 use Rattle.history.specs.Entries.{itemUpdate, itemChange, operationOf, didOfEntry, UsableItem}
 use Rattle.history.specs.EntryLaws.{usable-four, items-four}
 use Rattle.history.specs.Tests.{or-false-parts, and-true-parts, any-get, length-part, part-in, part-out, four-at, any-snoc, any-mid, any-map, map-map, map-same, four-held, four-eq, four-map, take-split}
+use Rattle.rules.specs.Checks.{changeMisfitsWith, changesRefusalWith}
 
 -- ### A history twice
 
@@ -199,7 +200,7 @@ form-map f history misfits n xs =
     (check (sym (any-map f misfits xs) i) OperandRange none)))
 
 pub changes-refusal : (n : ℕ) (xs : List Change) → updatesRefusal n (map changeUpdate xs) ≡ changesRefusal n xs
-unfolding updatesRefusal changesRefusal updateMisfits changeMisfits
+unfolding updatesRefusal changesRefusalWith updateMisfits changeMisfitsWith
 changes-refusal n xs = sym (form-map changeUpdate (λ (u : Update). u .history) (λ (u : Update). updateMisfits u) n xs)
 
 -- what is held of the changes, as held updates
@@ -263,7 +264,7 @@ unfolding updatesRefusal updateMisfits
 updates-passed n us e = passed (λ (u : Update). u) n us e
 
 pub changes-passed : (n : ℕ) (xs : List Change) → changesRefusal n xs ≡ none → Passed changeUpdate n xs
-unfolding changesRefusal updateMisfits changeMisfits
+unfolding changesRefusalWith updateMisfits changeMisfitsWith
 changes-passed n xs e = passed changeUpdate n xs e
 
 -- updates and did lines that passed can be entered

@@ -26,6 +26,7 @@ use Rattle.history.specs.declared.ItemTest.the-variants.{Waits, Stale, R
 use Rattle.history.specs.Entries.{noHistory, cellOf, cellsOf, noItem, itemUpdate, itemChange, itemsOf, operationOf, didOfEntry, canRunIn, mayRunIn}
 use Rattle.history.specs.Cells.{itemTest, testIn, staleIn, alreadyDoneIn, readOvertakenIn, changeIn, lineIn, valuesIn}
 use Rattle.history.specs.Tests.{none-fails, all-map, any-map}
+use Rattle.rules.specs.Book.{canRunWith, enterAllWith, enterWith, enteredWith}
 
 -- ### The book of a log
 
@@ -34,7 +35,7 @@ abbrev pub logCells : List Did → ℕ → Cell
 logCells log h = cell h log
 
 pub can-run-log : (log : List Did) (d : Did) → canRunIn (logCells log) d ≡ canRun log d
-unfolding canRunIn canRun
+unfolding canRunIn canRunWith
 can-run-log log d = refl
 
 pub may-run-log : (log : List Did) (u : Update) → mayRunIn (logCells log) u ≡ mayRunNow log u
@@ -65,7 +66,7 @@ values-log log us = refl
 
 pub entered-by : (r : Rule) (v o : ℕ) (c : Cell)
     → entered (loggedAs r) v o c ≡ record { profile = profileAfter r o (c .profile); version = cond (strong r) v (c .version); place = c .place + 1 }
-unfolding entered
+unfolding enteredWith
 entered-by Inc v o c = refl
 entered-by Set v o c = refl
 entered-by Not v o c = refl
@@ -77,13 +78,13 @@ entered-cell r v o c p w e f =
     ap₂ {C = Cell} (λ (x y : ℕ). record { profile = x; version = y; place = c .place + 1 }) e f ∙ sym (entered-by r v o c)
 
 enter-all-snoc : (h : ℕ) (xs : List Change) (x : Change) (c : Cell) → enterAll h (xs ++ (x ∷ [])) c ≡ enter h x (enterAll h xs c)
-unfolding enterAll
+unfolding enterAllWith
 enter-all-snoc h [] x c = refl
 enter-all-snoc h (y ∷ xs) x c = enter-all-snoc h xs x (enter h y c)
 
 -- each change adds at most 1 to a place
 enter-place : (h : ℕ) (x : Change) (c : Cell) → enter h x c .place ≤ c .place + 1
-unfolding enter entered
+unfolding enterWith enteredWith
 enter-place h x c = go (eqb (x .history) h)
   where
     up : (r : DoneRule) (v o : ℕ) → entered r v o c .place ≡ c .place + 1
@@ -96,7 +97,7 @@ enter-place h x c = go (eqb (x .history) h)
     go false = omega arith
 
 pub place-rises : (h : ℕ) (xs : List Change) (c : Cell) → enterAll h xs c .place ≤ c .place + length xs
-unfolding enterAll
+unfolding enterAllWith
 place-rises h [] c = omega arith
 place-rises h (x ∷ xs) c = let p = place-rises h xs (enter h x c) in let q = enter-place h x c in omega arith
 
@@ -163,7 +164,7 @@ module _ (hs₀ hs : List History) (items : List Item) (i : ℕ) (inv : Entered 
 
     pub entered-next : cellOf y ≡ entered (loggedAs (itemNow .rule)) (itemNow .version .0) (itemNow .operand) (cellsOf hs (itemNow .history))
         → Entered hs₀ (set hs (itemNow .history) y) items (i + 1)
-    unfolding enter
+    unfolding enterWith
     entered-next e h lt =
         go (eqb t h) refl
         ∙ sym (ap (λ (l : List Change). enterAll h l (cellsOf hs₀ h)) more ∙ enter-all-snoc h (changesTo i items) (itemChange itemNow) (cellsOf hs₀ h))

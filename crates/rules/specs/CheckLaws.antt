@@ -17,6 +17,7 @@ use Rattle.rules.specs.Checks.{check, andThen, wrongCount, noSuchHistory
 use Rattle.rules.specs.Checks.{changesRefusal, passes}
 use Rattle.rules.specs.State.{State, Reply, refused, ok}
 use Rattle.rules.specs.Calls.{unless}
+use Rattle.rules.specs.Checks.{changesRefusalWith}
 
 -- ### Refusals in their order
 
@@ -178,11 +179,11 @@ unfolding updatesRefusal
 updates-none n us F = formed-none (λ (u : Update). u .history) updateMisfits n us F
 
 pub formed-changes : (n : ℕ) (xs : List Change) → changesRefusal n xs ≡ none → FormedChanges n xs
-unfolding changesRefusal
+unfolding changesRefusalWith
 formed-changes n xs e = formed-of (λ (x : Change). x .history) changeMisfits n xs e
 
 pub changes-none : (n : ℕ) (xs : List Change) → FormedChanges n xs → changesRefusal n xs ≡ none
-unfolding changesRefusal
+unfolding changesRefusalWith
 changes-none n xs F = formed-none (λ (x : Change). x .history) changeMisfits n xs F
 
 pub passes-none : (o : Option Refusal) → T (passes o) → o ≡ none

@@ -9,7 +9,8 @@ use Rattle.forms.specs.Lists.{any}
 use Rattle.forms.specs.Forms.{Update, Change}
 use Rattle.forms.specs.declared.Refusal.{Refusal}
 use Rattle.forms.specs.declared.Refusal.the-variants.{WrongCount, NoSuchHistory, HistoryTwice, OperandRange}
-use Rattle.rules.specs.Rules.{operandFits, ruleOf}
+use Rattle.forms.specs.Limits.{partLimit}
+use Rattle.rules.specs.Rules.{operandFits, operandFitsWith, ruleOf}
 
 -- "Checked in the order 1, 14, then rising": the first test that holds gives the refusal.
 unfoldable pub check : Bool → Refusal → Option Refusal → Option Refusal
@@ -38,8 +39,12 @@ historyTwice (h ∷ hs) = any (eqb h) hs || historyTwice hs
 unfoldable pub updateMisfits : Update → Bool
 updateMisfits u = not (operandFits (u .rule) (u .version) (u .operand))
 
-unfoldable pub changeMisfits : Change → Bool
-changeMisfits x = not (operandFits (ruleOf (x .rule)) (x .version) (x .operand))
+-- .. of a line, where a profile has so many parts
+unfoldable pub changeMisfitsWith : ℕ → Change → Bool
+changeMisfitsWith parts x = not (operandFitsWith parts (ruleOf (x .rule)) (x .version) (x .operand))
+
+abbrev pub changeMisfits : Change → Bool
+changeMisfits = changeMisfitsWith partLimit
 
 -- 2 to 5, of items that each have a history, in a site of n histories.
 unfoldable pub formRefusal : {A : Type 0} → (A → ℕ) → (A → Bool) → ℕ → List A → Option Refusal
@@ -52,8 +57,11 @@ formRefusal history misfits n xs =
 unfoldable pub updatesRefusal : ℕ → List Update → Option Refusal
 updatesRefusal n us = formRefusal (λ (u : Update). u .history) updateMisfits n us
 
-unfoldable pub changesRefusal : ℕ → List Change → Option Refusal
-changesRefusal n xs = formRefusal (λ (x : Change). x .history) changeMisfits n xs
+unfoldable pub changesRefusalWith : ℕ → ℕ → List Change → Option Refusal
+changesRefusalWith parts n xs = formRefusal (λ (x : Change). x .history) (changeMisfitsWith parts) n xs
+
+abbrev pub changesRefusal : ℕ → List Change → Option Refusal
+changesRefusal = changesRefusalWith partLimit
 
 -- "pass 2 to 5"
 abbrev pub passes : Option Refusal → Bool

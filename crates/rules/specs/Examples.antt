@@ -27,6 +27,10 @@ use Rattle.rules.specs.Calls.{stable, show, restarted, restartAs, restar
 use Rattle.rules.specs.Calls.{redoRead, redo, end, writableUpdate, writable, perform, step}
 use Rattle.rules.specs.Keeper.{sameBytes}
 use Rattle.rules.specs.Session.{turnOf, opening, calling, obey, onCommand, turn, replies, restReply, sessionIn, session}
+use Rattle.rules.specs.Rules.{profileOf, replacedWith}
+use Rattle.rules.specs.Book.{canRunWith, cellFromWith, cellWith, enterAllWith, enterWith, enteredWith}
+use Rattle.rules.specs.Checks.{changeMisfitsWith, changesRefusalWith}
+use Rattle.rules.specs.Log.{acceptsWith, readFirstWith, readLinesWith, readLogWith}
 
 -- A session: the text of its input, and the text of all its replies.
 pub record Row : Type 0 where
@@ -92,6 +96,14 @@ edges =
     -- P10: "profile 65536 with operand 255 becomes 65791; profile 0 with 1023 becomes 4278190080"
     ∷ at4 (bytes "(add 5 (inc 0 5 255))\n(finish 5)\n") (bytes "(ok (ready 5))\n(ok 2 (values 65791)(ready))\n")
     ∷ at0 (bytes "(add 5 (inc 0 1 1023))\n(finish 5)\n") (bytes "(ok (ready 5))\n(ok 1 (values 4278190080)(ready))\n")
+    -- 02 (c), P10 at the two ends of part 7: profile 0 with 2047 becomes 18374686479671623680, profile 2^64 − 1 with 1792 becomes 2^56 − 1
+    ∷ at0 (bytes "(add 5 (inc 0 1 2047))\n(finish 5)\n") (bytes "(ok (ready 5))\n(ok 1 (values 18374686479671623680)(ready))\n")
+    ∷ at0
+    (bytes "(add 5 (set 0 4 18446744073709551615))\n(finish 5)\n(add 6 (inc 0 5 1792))\n(finish 6)\n")
+    (bytes "(ok (ready 5))\n(ok 1 (values 18446744073709551615)(ready))\n(ok (ready 6))\n(ok 2 (values 72057594037927935)(ready))\n")
+    -- 02 (c): "01's refused 1024 is accepted and 2048 is refused 5"
+    ∷ at0 (bytes "(add 5 (inc 0 1 1024))\n") (bytes "(ok (ready 5))\n")
+    ∷ at0 (bytes "(add 5 (inc 0 1 2048))\n") (bytes "(refused 5)\n")
     ∷ []
 
 -- A site of two histories, cut to its site line, and more calls.
@@ -140,9 +152,9 @@ computed =
     unfold fieldText fieldsText itemsText tailText listText updateText changeText oneText siteText didText redoText numbersText answerText outcomeText in
     unfold reading.field reading.rule reading.doneRule reading.update reading.change reading.one reading.items reading.tail reading.did reading.addForm in
     unfold reading.redoForm reading.numbered reading.command readDid readSite readCommand readWhole in
-    unfold replaced entered enter enterAll cellFrom cell touches runsAt canRun in
-    unfold check andThen wrongCount noSuchHistory historyTwice updateMisfits changeMisfits formRefusal updatesRefusal changesRefusal in
-    unfold ended didsText logText linesFrom restFrom historiesFit accepts readLines readFirst readLog in
+    unfold replacedWith profileOf enteredWith enterWith enterAllWith cellFromWith cellWith touches runsAt canRunWith in
+    unfold check andThen wrongCount noSuchHistory historyTwice updateMisfits changeMisfitsWith formRefusal updatesRefusal changesRefusalWith in
+    unfold ended didsText logText linesFrom restFrom historiesFit acceptsWith readLinesWith readFirstWith readLogWith in
     unfold logBytes versionAt liveDone live asks dry becameDry rose lineBytes in
     unfold unless openFull openRefusal opened openSite blockedBy blocked mayRunNow ready attempt tryFrom madeReady nothingOrders idPending idDone in
     unfold alreadyDone readOvertaken tableFull addRefusal arrived add changeOf lineOf valuesAfter inProgress future without logFull finished in

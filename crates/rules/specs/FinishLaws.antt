@@ -3,9 +3,10 @@ use mathlib.Core.Path.{_≡_, refl, ap, _∙_, subst}
 use mathlib.Core.Bool.{Bool, true, false, cond, not, _&&_}
 use mathlib.Core.List.{List, [], _∷_, _++_, map, Memᴰ·of-map}
 use mathlib.Core.List.{List·Memᴰ as Mem, List·Memᴰ·head as here, List·Memᴰ·tail as there}
-use Prim.Native.Nat.{ℕ, _+_, _≤_, _<_}
+use Prim.Native.Nat.{ℕ, _+_, _*_, _≤_, _<_}
 use native.Mathlib.Omega.{arith}
-use lib.Dec.{T, leb, eqb, eqb→eq, eqb-refl, leb→le, ltb→lt}
+use Rattle.forms.specs.Limits.{partLimit}
+use lib.Dec.{T, leb, ltb, eqb, eqb→eq, eqb-refl, leb→le, ltb→lt}
 use lib.ListN.{length, length-map}
 use Rattle.forms.specs.Decimal.{top}
 use Rattle.forms.specs.ListLaws.{T-true, true-T, and-left, and-right, or-left, all-at, all-of}
@@ -22,6 +23,8 @@ use Rattle.rules.specs.Good.{FormedDid, FormedOperation}
 use Rattle.rules.specs.CheckLaws.{FormedUpdates, FormedChanges, formed-updates, changes-none, not-false}
 use Rattle.rules.specs.BookLaws.{EachOnce, cell-snoc, can-run-of, runs-of, place-below-length}
 use Rattle.rules.specs.PendingLaws.{MayRun, Apart}
+use Rattle.rules.specs.Checks.{changeMisfitsWith}
+use Rattle.rules.specs.Book.{enterAllWith, enterWith, enteredWith}
 
 -- ### It can run
 
@@ -47,10 +50,10 @@ logged-fits : (r : Rule) (u v o : ℕ) → T (operandFits r u o) → T (operandF
 logged-fits Inc u v o t = t
 logged-fits Set u v o t = t
 logged-fits Not u v o t = t
-logged-fits Unk u v o t = and-left (leb o 1023) (eqb u 0) t
+logged-fits Unk u v o t = and-left (ltb o (256 * partLimit)) (eqb u 0) t
 
 change-fits : (log : List Did) (u : Update) → updateMisfits u ≡ false → changeMisfits (changeOf log u) ≡ false
-unfolding updateMisfits changeMisfits changeOf
+unfolding updateMisfits changeMisfitsWith changeOf
 change-fits log u e =
     let v = versionAfter (u .rule) (cell (u .history) log .version) (u .version) in
     let before = operandFits (u .rule) (u .version) (u .operand) in
@@ -116,7 +119,7 @@ line-good n log x once short F may =
 -- ### Others behind it
 
 weak-keeps : (r : Rule) → (T (strong r) → ⊥) → (v o : ℕ) (c : Cell) → entered (loggedAs r) v o c .version ≡ c .version
-unfolding entered
+unfolding enteredWith
 weak-keeps Inc out v o c = absurd (out tt)
 weak-keeps Set out v o c = absurd (out tt)
 weak-keeps Not out v o c = refl
@@ -125,7 +128,7 @@ weak-keeps Unk out v o c = absurd (out tt)
 -- Changes of which none in h is strong keep its version.
 enterAll-weak : (h : ℕ) (log : List Did) (us : List Update) (c : Cell) → ((u : Update) → Mem u us → u .history ≡ h → T (strong (u .rule)) → ⊥) →
     enterAll h (map (changeOf log) us) c .version ≡ c .version
-unfolding enterAll enter changeOf
+unfolding enterAllWith enterWith changeOf
 enterAll-weak h log [] c out = refl
 enterAll-weak h log (u ∷ us) c out = enterAll-weak h log us _ (λ w m. out w (there m)) ∙ go (eqb (u .history) h) refl
   where

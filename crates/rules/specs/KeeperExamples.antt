@@ -18,6 +18,7 @@ use Rattle.rules.specs.Log.{ended, didsText}
 use Rattle.rules.specs.State.{lineBytes}
 use Rattle.rules.specs.Keeper.{Keeper, KeeperReply, refused, ok, keptBytes, unlessRefused, sameBytes, held, samePlace, placedAmong, samePlaces, agrees, inConflict, conflicts}
 use Rattle.rules.specs.Keeper.{keeperFull, tooLong, keepRefusal, keepRead, keepLine, coveredBy, dropLines}
+use Rattle.rules.specs.Checks.{changeMisfitsWith, changesRefusalWith}
 
 -- A call with the number that it is refused with, 0 where it is accepted.
 pub data KeeperAsked : Type 0 where
@@ -93,7 +94,9 @@ rows =
     -- 20 before 12: the buffer has room for one line; without a conflict it is full
     ∷ row 37 (kept line ∷ keeping other-operand 20 ∷ keeping other-id 12 ∷ [])
     -- 5 before 20
-    ∷ row 100 (kept line ∷ keeping (bytes "(did 5 (inc 0 1 1 1024)(not 1 0 1 0))") 5 ∷ [])
+    ∷ row 100 (kept line ∷ keeping (bytes "(did 5 (inc 0 1 1 2048)(not 1 0 1 0))") 5 ∷ [])
+    -- 02 (c): operands up to 2047 of inc, and any number of set
+    ∷ row 200 (kept (bytes "(did 5 (inc 0 1 1 2047))") ∷ kept (bytes "(did 6 (set 1 1 1 18446744073709551615))") ∷ [])
     ∷ []
 
 unfoldable holds : KeeperRow → Bool
@@ -104,7 +107,7 @@ computed =
     unfold holds asExpected sameBytes word digitsWithin digits more number numberOf in
     unfold fieldText itemsText tailText listText changeText didText in
     unfold reading.field reading.doneRule reading.change reading.items reading.tail reading.did readDid readWhole in
-    unfold check andThen wrongCount noSuchHistory historyTwice changeMisfits formRefusal changesRefusal in
+    unfold check andThen wrongCount noSuchHistory historyTwice changeMisfitsWith formRefusal changesRefusalWith in
     unfold ended didsText lineBytes keptBytes unlessRefused held samePlace placedAmong samePlaces agrees inConflict conflicts in
     unfold keeperFull tooLong keepRefusal keepRead keepLine coveredBy dropLines in
     tt

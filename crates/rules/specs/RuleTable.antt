@@ -35,6 +35,10 @@ use Rattle.rules.specs.Calls.{redoRead, redo, end, writableUpdate, writa
 use Rattle.rules.specs.Keeper.{sameBytes}
 use Rattle.rules.specs.Session.{Session, Turn, turnOf, calling, obey, onCommand, turn, replies, afterLines}
 use Rattle.rules.specs.Examples.{same-bytes}
+use Rattle.rules.specs.Rules.{profileOf, replacedWith}
+use Rattle.rules.specs.Book.{canRunWith, cellFromWith, cellWith, enterAllWith, enterWith, enteredWith}
+use Rattle.rules.specs.Checks.{changeMisfitsWith, changesRefusalWith}
+use Rattle.rules.specs.Log.{acceptsWith, readFirstWith, readLinesWith, readLogWith}
 
 -- ### Cases: a log that restart reads, and then lines of a session
 
@@ -69,9 +73,9 @@ leaves log input = logOf (afterLines 0 (linesOf input) (begins log .after))
 unfoldable caseHolds : Case → Bool
 caseHolds c = sameBytes (answers (c .log) (c .input)) (c .replies) && sameBytes (leaves (c .log) (c .input)) (c .after)
 
--- Version C = 4, place 1, and the parts 1, 2, 3 and 4, in history 0 of two.
+-- Version C = 4, place 1, and the parts 1 to 8, in history 0 of two.
 abbrev at4 : List ℕ
-at4 = bytes "(site 2)\n(did 1 (set 0 4 1 67305985))\n"
+at4 = bytes "(site 2)\n(did 1 (set 0 4 1 578437695752307201))\n"
 
 -- lines of a session, each with its end
 unfoldable pub lines : List (List ℕ) → List ℕ
@@ -97,7 +101,7 @@ redoing change answers after =
     record {
       log = at4;
       input = bytes "(redo (did 2 " ++ bytes change ++ bytes "))\n(show 0)\n";
-      replies = bytes "(ok 1 38)\n" ++ answers;
+      replies = bytes "(ok 1 48)\n" ++ answers;
       after = after;
     }
 
@@ -107,11 +111,11 @@ reruns change shown = redoing change (bytes "(ok 1 1)\n(history 0 " ++ bytes sho
 
 -- .. or waits
 abbrev staysBack : String → Case
-staysBack change = redoing change (bytes "(ok 0 1)\n(history 0 4 4 4 1 67305985)\n") at4
+staysBack change = redoing change (bytes "(ok 0 1)\n(history 0 4 4 4 1 578437695752307201)\n") at4
 
 -- .. or is refused
 abbrev redoRefused : String → String → Case
-redoRefused change n = redoing change (bytes "(refused " ++ bytes n ++ bytes ")\n(history 0 4 4 4 1 67305985)\n") at4
+redoRefused change n = redoing change (bytes "(refused " ++ bytes n ++ bytes ")\n(history 0 4 4 4 1 578437695752307201)\n") at4
 
 -- An add of an operation, its finish, and `show`.
 abbrev adding : List ℕ → String → List ℕ → List ℕ → Case
@@ -127,42 +131,42 @@ adding log updates answers after =
 abbrev runs : String → String → String → String → Case
 runs updates values changes shown =
     adding at4 updates
-    (bytes "(ok 1 38)\n(ok (waiting))\n(ok (ready 2))\n(ok 2 (values " ++ bytes values
+    (bytes "(ok 1 48)\n(ok (waiting))\n(ok (ready 2))\n(ok 2 (values " ++ bytes values
     ++ bytes ")(ready))\n(history 0 " ++ bytes shown ++ bytes ")\n")
     (at4 ++ did2 changes)
 
 -- .. waits (finishing it is refused 11)
 abbrev waits : String → Case
 waits updates =
-    adding at4 updates (bytes "(ok 1 38)\n(ok (waiting))\n(ok (ready))\n(refused 11)\n(history 0 4 4 4 1 67305985)\n") at4
+    adding at4 updates (bytes "(ok 1 48)\n(ok (waiting))\n(ok (ready))\n(refused 11)\n(history 0 4 4 4 1 578437695752307201)\n") at4
 
 -- .. or is refused
 abbrev addRefused : String → String → Case
 addRefused updates n =
     adding at4 updates
-    (bytes "(ok 1 38)\n(ok (waiting))\n(refused " ++ bytes n ++ bytes ")\n(refused 11)\n(history 0 4 4 4 1 67305985)\n")
+    (bytes "(ok 1 48)\n(ok (waiting))\n(refused " ++ bytes n ++ bytes ")\n(refused 11)\n(history 0 4 4 4 1 578437695752307201)\n")
     at4
 
 -- "may run if", at C = 4 and U = 3, 4, 5 and 6: of a line that restart reads, of a redo, and of an added operation.
 abbrev pub versions : List Case
 versions =
     -- inc: "U = C + 1"; "version U"
-    bad "(inc 0 3 2 0)" ∷ bad "(inc 0 4 2 0)" ∷ taken "(inc 0 5 2 0)" "60" ∷ bad "(inc 0 6 2 0)"
-    ∷ staysBack "(inc 0 3 2 0)" ∷ staysBack "(inc 0 4 2 0)" ∷ reruns "(inc 0 5 2 0)" "5 4 4 2 67305984" ∷ staysBack "(inc 0 6 2 0)"
+    bad "(inc 0 3 2 0)" ∷ bad "(inc 0 4 2 0)" ∷ taken "(inc 0 5 2 0)" "70" ∷ bad "(inc 0 6 2 0)"
+    ∷ staysBack "(inc 0 3 2 0)" ∷ staysBack "(inc 0 4 2 0)" ∷ reruns "(inc 0 5 2 0)" "5 4 4 2 578437695752307200" ∷ staysBack "(inc 0 6 2 0)"
     ∷ addRefused "(inc 0 3 0)" "8" ∷ addRefused "(inc 0 4 0)" "8"
-    ∷ runs "(inc 0 5 0)" "67305984" "(inc 0 5 2 0)" "5 4 4 2 67305984" ∷ waits "(inc 0 6 0)"
+    ∷ runs "(inc 0 5 0)" "578437695752307200" "(inc 0 5 2 0)" "5 4 4 2 578437695752307200" ∷ waits "(inc 0 6 0)"
     -- set: "U > C"; "version U"
-    ∷ bad "(set 0 3 2 7)" ∷ bad "(set 0 4 2 7)" ∷ taken "(set 0 5 2 7)" "60" ∷ taken "(set 0 6 2 7)" "60"
+    ∷ bad "(set 0 3 2 7)" ∷ bad "(set 0 4 2 7)" ∷ taken "(set 0 5 2 7)" "70" ∷ taken "(set 0 6 2 7)" "70"
     ∷ staysBack "(set 0 3 2 7)" ∷ staysBack "(set 0 4 2 7)" ∷ reruns "(set 0 5 2 7)" "5 4 4 2 7" ∷ reruns "(set 0 6 2 7)" "6 4 4 2 7"
     ∷ addRefused "(set 0 3 7)" "8" ∷ addRefused "(set 0 4 7)" "8"
     ∷ runs "(set 0 5 7)" "7" "(set 0 5 2 7)" "5 4 4 2 7" ∷ runs "(set 0 6 7)" "7" "(set 0 6 2 7)" "6 4 4 2 7"
     -- not: "U = C"; "version kept"
-    ∷ bad "(not 0 3 2 0)" ∷ taken "(not 0 4 2 0)" "60" ∷ bad "(not 0 5 2 0)" ∷ bad "(not 0 6 2 0)"
-    ∷ staysBack "(not 0 3 2 0)" ∷ reruns "(not 0 4 2 0)" "4 4 4 2 67305985" ∷ staysBack "(not 0 5 2 0)" ∷ staysBack "(not 0 6 2 0)"
-    ∷ addRefused "(not 0 3 0)" "9" ∷ runs "(not 0 4 0)" "67305985" "(not 0 4 2 0)" "4 4 4 2 67305985"
+    ∷ bad "(not 0 3 2 0)" ∷ taken "(not 0 4 2 0)" "70" ∷ bad "(not 0 5 2 0)" ∷ bad "(not 0 6 2 0)"
+    ∷ staysBack "(not 0 3 2 0)" ∷ reruns "(not 0 4 2 0)" "4 4 4 2 578437695752307201" ∷ staysBack "(not 0 5 2 0)" ∷ staysBack "(not 0 6 2 0)"
+    ∷ addRefused "(not 0 3 0)" "9" ∷ runs "(not 0 4 0)" "578437695752307201" "(not 0 4 2 0)" "4 4 4 2 578437695752307201"
     ∷ waits "(not 0 5 0)" ∷ waits "(not 0 6 0)"
     -- unk: "U is written 0"; "as inc; version C + 1", and recorded as inc
-    ∷ runs "(inc 1 1 0)(unk 0 0 7)" "0 67305991" "(inc 1 1 1 0)(inc 0 5 2 7)" "5 4 4 2 67305991"
+    ∷ runs "(inc 1 1 0)(unk 0 0 7)" "0 578437695752307207" "(inc 1 1 1 0)(inc 0 5 2 7)" "5 4 4 2 578437695752307207"
     ∷ addRefused "(inc 1 1 0)(unk 0 1 7)" "5" ∷ addRefused "(inc 1 1 0)(unk 0 4 7)" "5" ∷ addRefused "(inc 1 1 0)(unk 0 5 7)" "5"
     ∷ []
 
@@ -173,27 +177,34 @@ places =
     ∷ redoRefused "(inc 0 5 1 0)" "8" ∷ staysBack "(inc 0 5 3 0)" ∷ redoRefused "(set 0 6 1 7)" "8" ∷ staysBack "(set 0 6 3 7)"
     ∷ redoRefused "(not 0 4 1 0)" "8" ∷ staysBack "(not 0 4 3 0)" ∷ []
 
--- Operands at both ends of their range, and one behind it: 5, and 15 of a line that restart reads.
+-- Operands at both ends of their range, and one behind it: 5, and 15 of a line that restart reads. 2^64 is no number of a line: 1.
 abbrev pub operands : List Case
 operands =
-    taken "(inc 0 5 2 1023)" "63" ∷ bad "(inc 0 5 2 1024)"
-    ∷ reruns "(inc 0 5 2 1023)" "5 4 4 2 4278387201" ∷ redoRefused "(inc 0 5 2 1024)" "5"
-    ∷ runs "(inc 0 5 1023)" "4278387201" "(inc 0 5 2 1023)" "5 4 4 2 4278387201" ∷ addRefused "(inc 0 5 1024)" "5"
-    ∷ taken "(set 0 5 2 0)" "60" ∷ taken "(set 0 5 2 4294967295)" "69" ∷ bad "(set 0 5 2 4294967296)"
-    ∷ reruns "(set 0 5 2 4294967295)" "5 4 4 2 4294967295" ∷ redoRefused "(set 0 5 2 4294967296)" "5"
-    ∷ runs "(set 0 5 0)" "0" "(set 0 5 2 0)" "5 4 4 2 0"
-    ∷ runs "(set 0 5 4294967295)" "4294967295" "(set 0 5 2 4294967295)" "5 4 4 2 4294967295" ∷ addRefused "(set 0 5 4294967296)" "5"
+    taken "(inc 0 5 2 1023)" "73" ∷ taken "(inc 0 5 2 1024)" "73" ∷ taken "(inc 0 5 2 2047)" "73" ∷ bad "(inc 0 5 2 2048)"
+    ∷ reruns "(inc 0 5 2 2047)" "5 4 4 2 18376663423120507393" ∷ redoRefused "(inc 0 5 2 2048)" "5"
+    ∷ runs "(inc 0 5 1024)" "578437674277470721" "(inc 0 5 2 1024)" "5 4 4 2 578437674277470721"
+    ∷ runs "(inc 0 5 2047)" "18376663423120507393" "(inc 0 5 2 2047)" "5 4 4 2 18376663423120507393" ∷ addRefused "(inc 0 5 2048)" "5"
+    ∷ taken "(set 0 5 2 0)" "70" ∷ taken "(set 0 5 2 4294967296)" "79" ∷ taken "(set 0 5 2 18446744073709551615)" "89" ∷ bad "(set 0 5 2 18446744073709551616)"
+    ∷ reruns "(set 0 5 2 4294967295)" "5 4 4 2 4294967295" ∷ reruns "(set 0 5 2 4294967296)" "5 4 4 2 4294967296"
+    ∷ reruns "(set 0 5 2 18446744073709551615)" "5 4 4 2 18446744073709551615" ∷ redoRefused "(set 0 5 2 18446744073709551616)" "1"
+    ∷ runs "(set 0 5 0)" "0" "(set 0 5 2 0)" "5 4 4 2 0" ∷ runs "(set 0 5 4294967296)" "4294967296" "(set 0 5 2 4294967296)" "5 4 4 2 4294967296"
+    ∷ runs "(set 0 5 18446744073709551615)" "18446744073709551615" "(set 0 5 2 18446744073709551615)" "5 4 4 2 18446744073709551615"
+    ∷ addRefused "(set 0 5 18446744073709551616)" "1"
     ∷ bad "(not 0 4 2 1)" ∷ redoRefused "(not 0 4 2 1)" "5" ∷ addRefused "(not 0 4 1)" "5"
-    ∷ runs "(inc 1 1 0)(unk 0 0 1023)" "0 4278387201" "(inc 1 1 1 0)(inc 0 5 2 1023)" "5 4 4 2 4278387201"
-    ∷ addRefused "(inc 1 1 0)(unk 0 0 1024)" "5" ∷ []
+    ∷ runs "(inc 1 1 0)(unk 0 0 2047)" "0 18376663423120507393" "(inc 1 1 1 0)(inc 0 5 2 2047)" "5 4 4 2 18376663423120507393"
+    ∷ addRefused "(inc 1 1 0)(unk 0 0 2048)" "5" ∷ []
 
 -- "one part replaced: operand = part × 256 + byte": each part with the bytes 0 and 255.
 abbrev pub parts : List Case
 parts =
-    reruns "(inc 0 5 2 0)" "5 4 4 2 67305984" ∷ reruns "(inc 0 5 2 255)" "5 4 4 2 67306239"
-    ∷ reruns "(inc 0 5 2 256)" "5 4 4 2 67305473" ∷ reruns "(inc 0 5 2 511)" "5 4 4 2 67370753"
-    ∷ reruns "(inc 0 5 2 512)" "5 4 4 2 67109377" ∷ reruns "(inc 0 5 2 767)" "5 4 4 2 83821057"
-    ∷ reruns "(inc 0 5 2 768)" "5 4 4 2 197121" ∷ reruns "(inc 0 5 2 1023)" "5 4 4 2 4278387201" ∷ []
+    reruns "(inc 0 5 2 0)" "5 4 4 2 578437695752307200" ∷ reruns "(inc 0 5 2 255)" "5 4 4 2 578437695752307455"
+    ∷ reruns "(inc 0 5 2 256)" "5 4 4 2 578437695752306689" ∷ reruns "(inc 0 5 2 511)" "5 4 4 2 578437695752371969"
+    ∷ reruns "(inc 0 5 2 512)" "5 4 4 2 578437695752110593" ∷ reruns "(inc 0 5 2 767)" "5 4 4 2 578437695768822273"
+    ∷ reruns "(inc 0 5 2 768)" "5 4 4 2 578437695685198337" ∷ reruns "(inc 0 5 2 1023)" "5 4 4 2 578437699963388417"
+    ∷ reruns "(inc 0 5 2 1024)" "5 4 4 2 578437674277470721" ∷ reruns "(inc 0 5 2 1279)" "5 4 4 2 578438769494131201"
+    ∷ reruns "(inc 0 5 2 1280)" "5 4 4 2 578431098682540545" ∷ reruns "(inc 0 5 2 1535)" "5 4 4 2 578711474147623425"
+    ∷ reruns "(inc 0 5 2 1536)" "5 4 4 2 576467370915332609" ∷ reruns "(inc 0 5 2 1791)" "5 4 4 2 648243489976549889"
+    ∷ reruns "(inc 0 5 2 1792)" "5 4 4 2 1976943448883713" ∷ reruns "(inc 0 5 2 2047)" "5 4 4 2 18376663423120507393" ∷ []
 
 -- A version C near the highest in history 0.
 abbrev atHigh : String → List ℕ
@@ -232,7 +243,7 @@ calls input answers =
     record {
       log = at4;
       input = bytes "(end)\n" ++ lines input;
-      replies = bytes "(ok 1 38)\n(ok (waiting))\n" ++ lines answers;
+      replies = bytes "(ok 1 48)\n(ok (waiting))\n" ++ lines answers;
       after = at4;
     }
 
@@ -265,11 +276,11 @@ pub record RuleRow : Type 0 where
   pub may : List ℕ
   -- the version after, at these
   pub version : List ℕ
-  -- the profile of the parts 1, 2, 3 and 4 after the operand 513
+  -- the profile of the parts 1 to 8 after the operand 1537
   pub profile : ℕ
   -- strong, ordered
   pub is : List ℕ
-  -- profile, version and place that the book holds after its logged rule with V = 6 and the operand 513, from C = 4 and place 1
+  -- profile, version and place that the book holds after its logged rule with V = 6 and the operand 1537, from C = 4 and place 1
   pub booked : List ℕ
 
 -- 1 for true, 0 for false
@@ -282,7 +293,7 @@ around4 = 3 ∷ 4 ∷ 5 ∷ 6 ∷ []
 
 -- a history at C = 4 and place 1, as the book holds it
 abbrev pub cell4 : Cell
-cell4 = record { profile = 67305985; version = 4; place = 1 }
+cell4 = record { profile = 578437695752307201; version = 4; place = 1 }
 
 -- profile, version and place
 abbrev pub numbersIn : Cell → List ℕ
@@ -293,9 +304,9 @@ unfoldable pub ruleRowHolds : RuleRow → Bool
 ruleRowHolds c =
     sameBytes (map (λ u. flag (mayRun (c .rule) 4 u)) around4) (c .may)
     && sameBytes (map (versionAfter (c .rule) 4) around4) (c .version)
-    && eqb (profileAfter (c .rule) 513 67305985) (c .profile)
+    && eqb (profileAfter (c .rule) 1537 578437695752307201) (c .profile)
     && sameBytes (flag (strong (c .rule)) ∷ flag (ordered (c .rule)) ∷ []) (c .is)
-    && sameBytes (numbersIn (entered (loggedAs (c .rule)) 6 513 cell4)) (c .booked)
+    && sameBytes (numbersIn (entered (loggedAs (c .rule)) 6 1537 cell4)) (c .booked)
 
 -- 01's table, with strong and ordered.
 abbrev pub ruleRows : List RuleRow
@@ -304,33 +315,33 @@ ruleRows =
       rule = Inc;
       may = 0 ∷ 0 ∷ 1 ∷ 0 ∷ [];
       version = 3 ∷ 4 ∷ 5 ∷ 6 ∷ [];
-      profile = 67174913;
+      profile = 576748845892043265;
       is = 1 ∷ 1 ∷ [];
-      booked = 67174913 ∷ 6 ∷ 2 ∷ [];
+      booked = 576748845892043265 ∷ 6 ∷ 2 ∷ [];
     }
     ∷ record {
       rule = Set;
       may = 0 ∷ 0 ∷ 1 ∷ 1 ∷ [];
       version = 3 ∷ 4 ∷ 5 ∷ 6 ∷ [];
-      profile = 513;
+      profile = 1537;
       is = 1 ∷ 1 ∷ [];
-      booked = 513 ∷ 6 ∷ 2 ∷ [];
+      booked = 1537 ∷ 6 ∷ 2 ∷ [];
     }
     ∷ record {
       rule = Not;
       may = 0 ∷ 1 ∷ 0 ∷ 0 ∷ [];
       version = 4 ∷ 4 ∷ 4 ∷ 4 ∷ [];
-      profile = 67305985;
+      profile = 578437695752307201;
       is = 0 ∷ 1 ∷ [];
-      booked = 67305985 ∷ 4 ∷ 2 ∷ [];
+      booked = 578437695752307201 ∷ 4 ∷ 2 ∷ [];
     }
     ∷ record {
       rule = Unk;
       may = 1 ∷ 1 ∷ 1 ∷ 1 ∷ [];
       version = 5 ∷ 5 ∷ 5 ∷ 5 ∷ [];
-      profile = 67174913;
+      profile = 576748845892043265;
       is = 1 ∷ 0 ∷ [];
-      booked = 67174913 ∷ 6 ∷ 2 ∷ [];
+      booked = 576748845892043265 ∷ 6 ∷ 2 ∷ [];
     }
     ∷ []
 
@@ -348,9 +359,9 @@ computed =
     unfold numbersText answerText outcomeText in
     unfold reading.field reading.rule reading.doneRule reading.update reading.change reading.one reading.items reading.tail in
     unfold reading.did reading.addForm reading.redoForm reading.numbered reading.command readDid readSite readCommand readWhole in
-    unfold replaced entered enter enterAll cellFrom cell touches runsAt canRun in
-    unfold check andThen wrongCount noSuchHistory historyTwice updateMisfits changeMisfits formRefusal updatesRefusal changesRefusal in
-    unfold ended didsText logText linesFrom restFrom historiesFit accepts readLines readFirst readLog in
+    unfold replacedWith profileOf enteredWith enterWith enterAllWith cellFromWith cellWith touches runsAt canRunWith in
+    unfold check andThen wrongCount noSuchHistory historyTwice updateMisfits changeMisfitsWith formRefusal updatesRefusal changesRefusalWith in
+    unfold ended didsText logText linesFrom restFrom historiesFit acceptsWith readLinesWith readFirstWith readLogWith in
     unfold logBytes versionAt liveDone live asks dry becameDry rose lineBytes in
     unfold unless blockedBy blocked mayRunNow ready attempt tryFrom madeReady nothingOrders idPending idDone in
     unfold alreadyDone readOvertaken tableFull addRefusal arrived add changeOf lineOf valuesAfter inProgress future without in

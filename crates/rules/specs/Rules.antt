@@ -1,7 +1,8 @@
 -- The four rules: when an update may run, what it does, and what blocks it ("A site").
 use mathlib.Core.Bool.{Bool, true, false, cond, _&&_}
-use Prim.Native.Nat.{ℕ, _+_, _*_, _/_, _%_, _^_}
-use lib.Dec.{leb, ltb, eqb}
+use Prim.Native.Nat.{ℕ, zero, suc, _+_, _*_, _/_, _%_, _^_}
+use lib.Dec.{ltb, eqb}
+use Rattle.forms.specs.Limits.{partLimit}
 use Rattle.forms.specs.Decimal.{top}
 use Rattle.forms.specs.declared.Rule.{Rule}
 use Rattle.forms.specs.declared.Rule.the-variants.{Inc, Set, Not, Unk}
@@ -49,14 +50,19 @@ versionAfter Set c u = u
 versionAfter Not c u = c
 versionAfter Unk c u = c + 1
 
--- The operand's range: "0 to 1023" of inc and unk, "0 to 4294967295" of set, "operand 0" of not; "U is written 0" of unk.
-abbrev pub operandFits : Rule → ℕ → ℕ → Bool
-operandFits Inc u o = leb o 1023
-operandFits Set u o = leb o 4294967295
-operandFits Not u o = eqb o 0
-operandFits Unk u o = leb o 1023 && eqb u 0
+-- The operand's range where a profile has so many parts: a part × 256 + a byte of inc and unk, a whole profile of set, "operand 0" of not; "U is
+-- written 0" of unk.
+abbrev pub operandFitsWith : ℕ → Rule → ℕ → ℕ → Bool
+operandFitsWith parts Inc u o = ltb o (256 * parts)
+operandFitsWith parts Set u o = ltb o (256 ^ parts)
+operandFitsWith parts Not u o = eqb o 0
+operandFitsWith parts Unk u o = ltb o (256 * parts) && eqb u 0
 
--- "part p (0 to 3) is the byte worth 256 to the power p"
+-- 02 (c): "The inc operand runs to 2047 and the set operand to 2^64 − 1".
+abbrev pub operandFits : Rule → ℕ → ℕ → Bool
+operandFits = operandFitsWith partLimit
+
+-- "part p is the byte worth 256 to the power p"
 abbrev pub part : ℕ → ℕ → ℕ
 part p profile = profile / 256 ^ p % 256
 
@@ -64,9 +70,18 @@ part p profile = profile / 256 ^ p % 256
 abbrev pub partAfter : ℕ → ℕ → ℕ → ℕ
 partAfter profile o p = cond (eqb p (o / 256)) (o % 256) (part p profile)
 
--- The profile whose parts these are.
-unfoldable pub replaced : ℕ → ℕ → ℕ
-replaced profile o = partAfter profile o 0 + partAfter profile o 1 * 256 + partAfter profile o 2 * 256 ^ 2 + partAfter profile o 3 * 256 ^ 3
+-- The profile that has these parts: each times its worth, summed over the parts from the lowest up.
+unfoldable pub profileOf : ℕ → (ℕ → ℕ) → ℕ
+profileOf zero byte = 0
+profileOf (suc p) byte = profileOf p byte + byte p * 256 ^ p
+
+-- A profile of so many parts after "one part replaced".
+unfoldable pub replacedWith : ℕ → ℕ → ℕ → ℕ
+replacedWith parts profile o = profileOf parts (partAfter profile o)
+
+-- 02 (c): "parts run 0 to 7".
+abbrev pub replaced : ℕ → ℕ → ℕ
+replaced = replacedWith partLimit
 
 -- The table's column "effect", on the profile.
 abbrev pub profileAfter : Rule → ℕ → ℕ → ℕ

@@ -24,6 +24,7 @@ use Rattle.rules.specs.CheckLaws.{refused-not-ok, some-not-none, unless-
 use Rattle.rules.specs.When.{addWhen, redoReadWhen, redoWhen, lastly, cutWhen, performWhen, stepWhen, meets}
 use Rattle.rules.specs.Good.{Good}
 use Rattle.rules.specs.GoodLaws.{good-step}
+use Rattle.rules.specs.Checks.{changesRefusalWith}
 
 -- ### Checks before 10
 
@@ -103,7 +104,7 @@ redoBefore d st o =
     (check (any (stale st) (d .changes) || idDone (d .id) st) AlreadyDone o)))
 
 redo-settles : (d : Did) (st : State) → Settles (redoBefore d st)
-unfolding changesRefusal isTenth numberOf
+unfolding changesRefusalWith isTenth numberOf
 redo-settles d st =
     then-settles (check (not (st .restoring)) OutOfTurn) _ (check-settles (not (st .restoring)) OutOfTurn refl)
     (then-settles (andThen (changesRefusal (st .histories) (d .changes))) _

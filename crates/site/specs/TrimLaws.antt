@@ -28,6 +28,7 @@ use Rattle.rules.specs.State.{State, Reply, refused}
 use Rattle.rules.specs.Calls.{Call, writableUpdate, unless, step, add, addRefusal, redoRefusal, delivered}
 use Rattle.site.specs.Trim.{padded, updatesHeld, changesHeld, didHeld, redoOf, Stands}
 use Rattle.site.specs.AddLaws.{add-performs}
+use Rattle.rules.specs.Checks.{changesRefusalWith}
 
 -- ### What stands in the places
 
@@ -202,7 +203,7 @@ unfolding add addRefusal updatesRefusal
 many-add i us st h = second-refuses (st .restoring) _ _ _ (many-refused _ _ (st .histories) us h)
 
 many-redo : (did : Did) (st : State) → 4 < length (did .changes) → redoOf did st ≡ refused (cond (not (st .restoring)) OutOfTurn WrongCount)
-unfolding redoRefusal changesRefusal
+unfolding redoRefusal changesRefusalWith
 many-redo did st h = second-refuses (not (st .restoring)) _ _ (delivered did st) (many-refused _ _ (st .histories) (did .changes) h)
 
 -- what is held of updates that can be written can be written

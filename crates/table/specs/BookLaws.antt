@@ -27,6 +27,7 @@ use Rattle.history.specs.Tests.{any-map, any-agree, four-held}
 use Rattle.table.specs.Arrays.{Tabulates, rises, ceases}
 use Rattle.table.specs.Dones.{UsableDone, doneHasId, doneTouches, stampedTo, versionFrom}
 use Rattle.table.specs.ArrayLaws.{says-like}
+use Rattle.rules.specs.Book.{enterAllWith, enterWith}
 
 -- ### On lists
 
@@ -111,7 +112,7 @@ stamped-other h v (x ∷ xs) out =
 
 stamped-entered : (h : ℕ) (xs : List Change) (c : Cell) → Nodup (map (λ (x : Change). x .history) xs)
     → ((x : Change) → Mem x xs → x .history ≡ h → T (runsAt c x)) → stampedBy h (c .version) xs ≡ enterAll h xs c .version
-unfolding stampedBy enterAll enter
+unfolding stampedBy enterAllWith enterWith
 stamped-entered h [] c once runs = refl
 stamped-entered h (x ∷ xs) c once runs = go (stamped-entered h xs c (once .1) (λ y m. runs y (there m))) (eqb (x .history) h) refl
   where

@@ -17,6 +17,7 @@ use Rattle.history.specs.Entries.{noHistory, cellOf, cellsOf, noItem, itemUpdat
 use Rattle.history.specs.Tests.{all-agree}
 use Rattle.table.specs.Queues.{canRunEntry}
 use Rattle.table.specs.Tries.{entryUpdates}
+use Rattle.rules.specs.Book.{canRunWith}
 
 -- what is made of the items of a usable entry keeps their histories
 item-low : {B : Type 0} (f : Item → B) (history : B → ℕ) → ((x : Item) → history (f x) ≡ x .history) → (e : Entry) → UsableEntry e
@@ -40,7 +41,7 @@ usable-history e w u m = item-low itemUpdate (λ (v : Update). v .history) (λ x
 -- An entry can run against the cells of the first n histories where it can against the log that they stand for.
 pub can-run-is : (n : ℕ) (log : List Did) (hs : List History) (e : Entry) → ((h : ℕ) → h < n → cellsOf hs h ≡ cell h log)
     → ((x : Change) → Mem x (didOfEntry e .changes) → x .history < n) → canRunEntry (cellsOf hs) e ≡ canRun log (didOfEntry e)
-unfolding canRunIn canRun
+unfolding canRunIn canRunWith
 can-run-is n log hs e same low = all-agree _ _ (didOfEntry e .changes) (λ x m. ap (λ (c : Cell). runsAt c x) (same (x .history) (low x m)))
 
 -- What is found for an item and its history, as they were read, holds of the item against the cells of the histories.

@@ -14,6 +14,7 @@ use Rattle.history.specs.Words.{historiesIn, PastKept, MarksKept}
 use Rattle.history.specs.WordLaws.{histories-long, marks-same, marks-then}
 use Rattle.history.proofs.apply.Statement.{statement}
 use Rattle.history.proofs.apply.Tie as tie
+use Rattle.rules.specs.Book.{enterAllWith}
 
 -- the words past the first m histories are as they were, if those of the items are among these
 abbrev Past : ℕ → List Item → List ℕ → List ℕ → Type 0
@@ -26,7 +27,7 @@ abbrev μ-loop : tie.MeasureT-loop
 μ-loop book₀ n items i₀ book i = n - i
 
 loop-holds : tie.Need-loop-holds Inv-loop μ-loop
-unfolding enterAll
+unfolding enterAllWith
 loop-holds c = (omega arith, (λ h lt. refl), marks-same _, (λ m w. refl))
 
 mul-x : tie.Need-mul-x Inv-loop μ-loop
