@@ -9,6 +9,7 @@ pub mod Session
 pub mod Good
 pub mod LineSplitLaws
 pub mod FitLaws
+pub mod PartLaws
 pub mod LogLaws
 pub mod CheckLaws
 pub mod BookLaws
