@@ -11,6 +11,7 @@ pub mod LineSplitLaws
 pub mod FitLaws
 pub mod PartLaws
 pub mod LogLaws
+pub mod OlderLogs
 pub mod CheckLaws
 pub mod BookLaws
 pub mod DrainLaws
