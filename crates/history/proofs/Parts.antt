@@ -1,12 +1,14 @@
--- One part of a profile replaced by shift and mask is the stated sum.
-use Prim.Native.Nat.{ℕ, zero, suc, _+_, _-_, _*_, _/_, _%_, _^_, _≤_, _<_}
-use native.Mathlib.Nat.{div-add-mod', zero-mul, zero-add, mod-lt}
+-- One part of a profile replaced by shift and mask is the stated sum: one law over the part. With k = 8 p bits below part p and j above it, the mask is
+-- j ones, eight zeros and k ones, so the three sums that shift and mask leave are those of `replaced-at`.
+use Prim.Native.Nat.{ℕ, suc, _+_, _-_, _*_, _/_, _%_, _^_, _≤_, _<_, zero}
+use native.Mathlib.Nat.{div-add-mod', zero-mul, zero-add, mod-lt, pow-suc}
 use native.Mathlib.Omega.{arith}
 use mathlib.Core.Path.{_≡_, refl, sym, ap, ap₂, _∙_}
 use lib.Bits.{bitAnd, bitOr, and-block, and-mask, or-block, or-zero-r, or-shifted-r}
-use lib.Pow.{shr-shr, shr-mod, mod-mod-pow, mod-pow-add}
-use Rattle.rules.specs.Rules.{replaced, partAfter, part}
-use Rattle.rules.specs.Rules.{profileOf, replacedWith}
+use lib.Pow.{pow-add, pow-pos, pow-mono, shl-lt, shl-exact, mod-mod-pow, ones-split}
+use Rattle.forms.specs.Limits.{partLimit}
+use Rattle.rules.specs.Rules.{replaced, replacedWith}
+use Rattle.rules.specs.PartLaws.{replaced-at}
 
 -- at a part of k bits below and j bits above
 swap : (n b k j K : ℕ) → 2 ^ k ≤ 2 ^ K → 0 < 2 ^ K → 0 < 2 ^ k → b * 2 ^ k < 2 ^ K
@@ -32,69 +34,55 @@ swap n b k j K le pK pk lt =
         ∙ or-block K (n / 2 ^ K % 2 ^ j) 0 (n % 2 ^ K % 2 ^ k) (b * 2 ^ k) (omega (arith, lower)) lt
         ∙ ap₂ (λ (x y : ℕ). x * 2 ^ K + y) (or-zero-r (n / 2 ^ K % 2 ^ j)) (or-shifted-r b k (n % 2 ^ K % 2 ^ k) lower)
 
--- a shift that loses nothing
-fit : (b k : ℕ) → b * 2 ^ k < 4294967296 → b * 2 ^ k % 4294967296 ≡ b * 2 ^ k
-fit b k h = omega arith
+-- the worth of a part is a power of two
+worth : (p : ℕ) → 256 ^ p ≡ 2 ^ (p * 8)
+worth zero = refl
+worth (suc p) =
+    pow-suc 256 p ∙ ap (λ (x : ℕ). x * 256) (worth p) ∙ sym (pow-add 2 (p * 8) 8) ∙ ap (λ (x : ℕ). 2 ^ x) (let z : p * 8 + 8 ≡ suc p * 8 = omega arith in z)
 
--- a number of two or three bytes, by its bytes
-two : (x y : ℕ) → x / 256 ≡ y → y < 256 → x ≡ x % 256 + y % 256 * 256
-two x y e h = omega arith
+-- all ones but eight: with the powers as unknowns, and then
+ones-but : (x w : ℕ) → 0 < w → (x + (256 * w - 1)) - 255 * w ≡ x + (w - 1)
+ones-but x w h = omega arith
 
-three : (x y z : ℕ) → x / 256 ≡ y → y / 256 ≡ z → z < 256 → x ≡ x % 256 + y % 256 * 256 + z % 256 * 65536
-three x y z e f h = omega arith
+mask : (k j : ℕ) → j + (8 + k) ≡ 64 → 18446744073709551615 - 255 * 2 ^ k ≡ (2 ^ j - 1) * 2 ^ (8 + k) + (2 ^ k - 1)
+mask k j e =
+    ap (λ (x : ℕ). x - 255 * 2 ^ k) (sym (ap (λ (x : ℕ). 2 ^ x - 1) e) ∙ ones-split j (8 + k))
+    ∙ ap (λ (x : ℕ). ((2 ^ j - 1) * 2 ^ (8 + k) + (x - 1)) - 255 * 2 ^ k) (pow-add 2 8 k)
+    ∙ ones-but ((2 ^ j - 1) * 2 ^ (8 + k)) (2 ^ k) (pow-pos k)
 
--- the sums, with the bytes as unknowns
-sum0 : (b x r a1 a2 a3 : ℕ) → x ≡ a1 + a2 * 256 + a3 * 65536 → r ≡ 0 → x * 256 + (b * 1 + r) ≡ b + a1 * 256 + a2 * 65536 + a3 * 16777216
-sum0 b x r a1 a2 a3 e f = omega arith
+turned : (a b c : ℕ) → a + (b + c) ≡ c + b + a
+turned a b c = omega arith
 
-sum1 : (b x r a0 a2 a3 : ℕ) → x ≡ a2 + a3 * 256 → r ≡ a0 → x * 65536 + (b * 256 + r) ≡ a0 + b * 256 + a2 * 65536 + a3 * 16777216
-sum1 b x r a0 a2 a3 e f = omega arith
-
-sum2 : (b x r a0 a1 a3 : ℕ) → x ≡ a3 → r ≡ a0 + a1 * 256 → x * 16777216 + (b * 65536 + r) ≡ a0 + a1 * 256 + b * 65536 + a3 * 16777216
-sum2 b x r a0 a1 a3 e f = omega arith
-
-sum3 : (b x r a0 a1 a2 : ℕ) → x ≡ 0 → r ≡ a0 + a1 * 256 + a2 * 65536 → x * 4294967296 + (b * 16777216 + r) ≡ a0 + a1 * 256 + a2 * 65536 + b * 16777216
-sum3 b x r a0 a1 a2 e f = omega arith
-
-pub replaces : (n o : ℕ) → n < 2 ^ 32 → o ≤ 1023
-    → bitOr (bitAnd n (4294967295 - 255 * 2 ^ (o / 256 * 8) % 4294967296)) (bitAnd o 255 * 2 ^ (o / 256 * 8) % 4294967296) ≡ replaced n o
-unfolding replacedWith profileOf
-replaces n o h l = rw (and-mask o 8) (go (o / 256) refl)
+-- Part p, with m parts above it.
+shifted : (p m n o : ℕ) → suc p + m ≡ partLimit → o / 256 ≡ p
+    → bitOr (bitAnd n (18446744073709551615 - 255 * 2 ^ (p * 8) % 18446744073709551616)) (o % 256 * 2 ^ (p * 8) % 18446744073709551616) ≡ replaced n o
+shifted p m n o e q =
+    ap₂ (λ (x y : ℕ). bitOr (bitAnd n (18446744073709551615 - x)) y) (shl-exact 8 k 64 (omega arith) wide) (shl-exact 8 k 64 byte wide)
+    ∙ ap (λ (x : ℕ). bitOr (bitAnd n x) (b * 2 ^ k)) (mask k (m * 8) (omega (arith, e)))
+    ∙ swap n b k (m * 8) (8 + k) (pow-mono (omega arith)) (pow-pos (8 + k)) (pow-pos k) (shl-lt 8 k byte)
+    ∙ ap (λ (x : ℕ). (n / 2 ^ (8 + k) % 2 ^ (m * 8)) * 2 ^ (8 + k) + (b * 2 ^ k + x)) (mod-mod-pow n 8 k)
+    ∙ turned ((n / 2 ^ (8 + k) % 2 ^ (m * 8)) * 2 ^ (8 + k)) (b * 2 ^ k) (n % 2 ^ k)
+    ∙ ap₂ (λ (w u : ℕ). n % w + b * w + n / u % 2 ^ (m * 8) * u) (sym (worth p)) (sym (worth (suc p) ∙ ap (λ (x : ℕ). 2 ^ x) next))
+    ∙ ap (λ (v : ℕ). n % 256 ^ p + b * 256 ^ p + n / 256 ^ suc p % v * 256 ^ suc p) (sym (worth m))
+    ∙ sym (replaced-at p m n o q)
+    ∙ ap (λ (x : ℕ). replacedWith x n o) e
   where
-    e1 : n / 256 / 256 ≡ n / 65536
-    e1 = shr-shr n 8 8
+    k : ℕ
+    k = p * 8
 
-    e2 : n / 65536 / 256 ≡ n / 16777216
-    e2 = shr-shr n 16 8
+    b : ℕ
+    b = o % 256
 
-    top : n / 16777216 < 256
-    top = omega arith
+    byte : b < 2 ^ 8
+    byte = mod-lt o (omega arith)
 
-    low : n % 256 ≡ part 0 n
-    low = omega arith
+    wide : 8 + k ≤ 64
+    wide = omega (arith, e)
 
-    low2 : n % 65536 ≡ part 0 n + part 1 n * 256
-    low2 = omega (arith, mod-pow-add n 8 8, low)
+    next : suc p * 8 ≡ 8 + k
+    next = omega arith
 
-    low3 : n % 16777216 ≡ part 0 n + part 1 n * 256 + part 2 n * 65536
-    low3 = omega (arith, mod-pow-add n 8 16, low2)
-
-    go : (p : ℕ) → o / 256 ≡ p
-        → bitOr (bitAnd n (4294967295 - 255 * 2 ^ (o / 256 * 8) % 4294967296)) (o % 2 ^ 8 * 2 ^ (o / 256 * 8) % 4294967296)
-        ≡ partAfter n o 0 + partAfter n o 1 * 256 + partAfter n o 2 * 256 ^ 2 + partAfter n o 3 * 256 ^ 3
-    go zero e = rw e (rw (fit (o % 256) 0 (omega arith))
-        (swap n (o % 256) 0 24 8 (omega arith) (omega arith) (omega arith) (omega arith) ∙ sum0 (o % 256) (n / 256 % 16777216) (n % 256 % 1)
-        (part 1 n) (part 2 n) (part 3 n) (shr-mod 24 8 h ∙ three (n / 256) (n / 65536) (n / 16777216) e1 e2 top) (omega arith)))
-    go (suc zero) e = rw e
-        (rw (fit (o % 256) 8 (omega arith))
-        (swap n (o % 256) 8 16 16 (omega arith) (omega arith) (omega arith) (omega arith) ∙ sum1 (o % 256) (n / 65536 % 65536) (n % 65536 % 256)
-        (part 0 n) (part 2 n) (part 3 n) (shr-mod 16 16 h ∙ two (n / 65536) (n / 16777216) e2 top) (mod-mod-pow n 8 8 ∙ low)))
-    go (suc (suc zero)) e = rw e
-        (rw (fit (o % 256) 16 (omega arith))
-        (swap n (o % 256) 16 8 24 (omega arith) (omega arith) (omega arith) (omega arith) ∙ sum2 (o % 256) (n / 16777216 % 256) (n % 16777216 % 65536)
-        (part 0 n) (part 1 n) (part 3 n) refl (mod-mod-pow n 8 16 ∙ low2)))
-    go (suc (suc (suc zero))) e = rw e
-        (rw (fit (o % 256) 24 (omega arith))
-        (swap n (o % 256) 24 0 32 (omega arith) (omega arith) (omega arith) (omega arith) ∙ sum3 (o % 256) (n / 4294967296 % 1)
-        (n % 4294967296 % 16777216) (part 0 n) (part 1 n) (part 2 n) (omega arith) (mod-mod-pow n 8 24 ∙ low3)))
-    go (suc (suc (suc (suc p)))) e = absurd (omega arith)
+pub replaces : (n o : ℕ) → o < 256 * partLimit
+    → bitOr (bitAnd n (18446744073709551615 - 255 * 2 ^ (o / 256 * 8) % 18446744073709551616)) (bitAnd o 255 * 2 ^ (o / 256 * 8) % 18446744073709551616)
+    ≡ replaced n o
+replaces n o l = rw (and-mask o 8) (shifted (o / 256) (7 - o / 256) n o (omega (arith, l)) refl)

@@ -6,7 +6,7 @@ use mathlib.Core.List.{List, [], _∷_, _++_, map, map-append}
 use mathlib.Core.Option.{Option, none, some}
 use native.Mathlib.Omega.{arith}
 use native.Mathlib.Numerals.{add-one}
-use borrow.Author.Tests.{eq-eqb, ne-eqb, eqb-true, eqb-false, lt-ltb, le-ltb, ltb-false, leb-true, leb-false, not-false}
+use borrow.Author.Tests.{eq-eqb, ne-eqb, eqb-true, eqb-false, lt-ltb, le-ltb, ltb-false, leb-false, not-false}
 use lib.Dec.{leb, ltb, eqb}
 use lib.ListN.{length, getD, take, drop, length-map, List·getD-map}
 use lib.Seq.{take-suc}
@@ -20,12 +20,10 @@ use Rattle.forms.specs.declared.DoneHeld.{DoneHeld}
 use Rattle.forms.specs.declared.DidLine.{DidLine}
 use Rattle.forms.specs.declared.Refusal.{Refusal}
 use Rattle.forms.specs.declared.Refusal.the-variants.{WrongCount, NoSuchHistory, HistoryTwice, OperandRange}
-use Rattle.forms.specs.declared.Rule.{Rule}
-use Rattle.forms.specs.declared.Rule.the-variants.{Inc, Set, Not, Unk}
 use Rattle.forms.specs.declared.DoneRule.{DoneRule}
 use Rattle.forms.specs.declared.DoneRule.the-variants.{DidInc, DidSet, DidNot}
 use Rattle.rules.specs.Rules.{ruleOf, loggedAs, strong, ordered, operandFits}
-use Rattle.rules.specs.Checks.{check, wrongCount, noSuchHistory, historyTwice, updateMisfits, changeMisfits, formRefusal, updatesRefusal, changesRefusal}
+use Rattle.rules.specs.Checks.{check, wrongCount, noSuchHistory, historyTwice, updateMisfits, formRefusal, updatesRefusal, changesRefusal}
 use Rattle.rules.specs.State.{Operation}
 use Rattle.rules.specs.Calls.{nothingOrders}
 use Rattle.history.specs.declared.Item.{Item}
@@ -34,7 +32,7 @@ use Rattle.history.specs.declared.Verdict.the-variants.{Passes, Refused}
 use Rattle.history.specs.Asking.{verdictOf, askedTest, askedPasses, noAsked, noDoneUpdate, changeUpdate, updateItem, changeItem, UsableUpdate, UsableHeld, UsableDid, Enters, EntersDid}
 use Rattle.history.specs.Entries.{itemUpdate, itemChange, operationOf, didOfEntry, UsableItem}
 use Rattle.history.specs.EntryLaws.{usable-four, items-four}
-use Rattle.history.specs.Tests.{or-false-parts, and-true-parts, any-get, length-part, part-in, part-out, four-at, any-snoc, any-mid, any-map, map-map, map-same, four-held, four-eq, four-map, take-split}
+use Rattle.history.specs.Tests.{or-false-parts, any-get, length-part, part-in, part-out, four-at, any-snoc, any-mid, any-map, map-map, map-same, four-held, four-eq, four-map, take-split}
 use Rattle.rules.specs.Checks.{changeMisfitsWith, changesRefusalWith}
 
 -- ### A history twice
@@ -311,13 +309,6 @@ only-update held us e one =
     ∙ updates-held us few
 
 -- ### Held updates and did lines as entries
-
--- any operand that fits is a 32-bit number
-pub operand-low : (r : Rule) (u o : ℕ) → operandFits r u o ≡ true → o < 4294967296
-operand-low Inc u o h = let k = leb-true o 1023 h in omega (arith, k)
-operand-low Set u o h = let k = leb-true o 4294967295 h in omega (arith, k)
-operand-low Not u o h = let k = eqb-true o 0 h in omega (arith, k)
-operand-low Unk u o h = let k = leb-true o 1023 (and-true-parts (leb o 1023) (eqb u 0) h .0) in omega (arith, k)
 
 module _ {A B : Type 0} (f : A → B) (n : ℕ) (l : List A) (i : ℕ) (d : A) where
   pub mapped-in : i < n → f (getD l i d) ≡ getD (map f (take n l)) i (f d)

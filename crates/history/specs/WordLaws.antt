@@ -121,10 +121,11 @@ unfolding historiesIn
 history-in ws i h = made-at (historyFrom ws) 16 i noHistory h
 
 -- a history, read field by field
-pub history-read : (ws : List ℕ) (i : ℕ) {p : ℕ} → p ≡ within 4294967296 (getD ws (width * i) 0)
-    → record { profile = p; version = record { 0 = getD ws (width * i + 1) 0 }; place = record { 0 = getD ws (width * i + 2) 0 } } ≡ historyFrom ws i
+pub history-read : (ws : List ℕ) (i : ℕ)
+    → record { profile = getD ws (width * i) 0; version = record { 0 = getD ws (width * i + 1) 0 }; place = record { 0 = getD ws (width * i + 2) 0 } }
+    ≡ historyFrom ws i
 unfolding historyFrom
-history-read ws i e = rw e
+history-read ws i = refl
 
 -- the first three numbers of history i are the same
 pub history-same : (old new : List ℕ) (i : ℕ) → ((f : ℕ) → f < 3 → getD new (width * i + f) 0 ≡ getD old (width * i + f) 0) → historyFrom new i ≡ historyFrom old i
@@ -178,7 +179,7 @@ pub past-set : (n : ℕ) (old ws : List ℕ) (k v : ℕ) → k < width * n → P
 past-set n old ws k v h e = drop-set-lt (width * n) ws k v h ∙ e
 
 -- The three stores of a history.
-module _ (ws : List ℕ) (i : ℕ) (h : History) (low : i < 16) (long : length ws ≡ 80) (small : h .profile < 4294967296) where
+module _ (ws : List ℕ) (i : ℕ) (h : History) (low : i < 16) (long : length ws ≡ 80) where
   abbrev first : List ℕ
   first = set ws (width * i) (h .profile)
 
@@ -217,7 +218,7 @@ module _ (ws : List ℕ) (i : ℕ) (h : History) (low : i < 16) (long : length w
       getD-set-same second (width * i + 2) (h .place .0) 0
       (omega (arith, long, length-set ws (width * i) (h .profile), length-set first (width * i + 1) (h .version .0))) in
       λ t. record {
-        profile = (ap (within 4294967296) profile ∙ within-of 4294967296 (h .profile) small) t;
+        profile = profile t;
         version = record { 0 = version t };
         place = record { 0 = place t };
       }
@@ -305,6 +306,6 @@ first-column n f old new p g i l h le = column-in g new i (omega arith) ∙ p .w
 
 -- a cleared history
 pub cleared-history : (n : ℕ) (old new : List ℕ) → PutFirst n (λ (k : ℕ). 0) old new → (i : ℕ) → i < n → n ≤ 16 → getD (historiesIn new) i noHistory ≡ noHistory
-unfolding historyFrom within
+unfolding historyFrom
 cleared-history n old new p i l le =
     history-in new i (omega arith) ∙ first-history n (λ (k : ℕ). 0) old new [] p (λ k. refl) i l

@@ -30,7 +30,7 @@ width = 5
 unfoldable pub historyFrom : List ℕ → ℕ → History
 historyFrom ws i =
     record {
-      profile = within 4294967296 (getD ws (width * i) 0);
+      profile = getD ws (width * i) 0;
       version = record { 0 = getD ws (width * i + 1) 0 };
       place = record { 0 = getD ws (width * i + 2) 0 };
     }

@@ -3,7 +3,7 @@ ghost use mathlib.Core.Path.{_≡_};
 ghost use Prim.Native.Nat.{_≤_, _<_};
 ghost use lib.ListN.{getD};
 ghost use Rattle.history.specs.Entries.{noHistory};
-ghost use Rattle.history.specs.Words.{within, historiesIn, columnFrom, PutHistory, PutColumn, Cleared, Copied};
+ghost use Rattle.history.specs.Words.{historiesIn, columnFrom, PutHistory, PutColumn, Cleared, Copied};
 use super::History;
 use forms::Place;
 use forms::Version;
@@ -23,13 +23,6 @@ pub const PERSISTED: usize = 3;
 
 pub const STABILISED: usize = 4;
 
-// A number below 2^32, and 0 for any other.
-pub fn small_half(n: u64) -> u32
-    ensures { λ r. ⌜ r ≡ within 4294967296 n ⌝ }
-{
-    if n < 4294967296 { n as u32 } else { 0 }
-}
-
 // Words lent whole: there are as many as their type says.
 pub fn known_length(_words: &[u64]) {}
 
@@ -40,7 +33,7 @@ pub fn history_at(words: &BookWords, i: usize) -> History
 {
     let at = WIDTH * i;
     History {
-        profile: small_half(words[at]),
+        profile: words[at],
         version: Version(words[at + VERSION]),
         place: Place(words[at + PLACE]),
     }
@@ -53,7 +46,7 @@ pub fn put_history(words: &mut BookWords, i: usize, h: History)
 {
     known_length(words);
     let at = WIDTH * i;
-    words[at] = h.profile as u64;
+    words[at] = h.profile;
     words[at + VERSION] = h.version.0;
     words[at + PLACE] = h.place.0;
 }

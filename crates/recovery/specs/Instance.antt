@@ -15,10 +15,9 @@ use Rattle.forms.specs.declared.Rule.{Rule}
 use Rattle.forms.specs.declared.Rule.the-variants.{Inc, Set, Not}
 use Rattle.forms.specs.declared.DoneRule.{DoneRule}
 use Rattle.forms.specs.declared.DoneRule.the-variants.{DidInc, DidSet, DidNot}
-use Rattle.rules.specs.Rules.{replaced}
-use Rattle.rules.specs.Book.{Cell, entered, enter, enterAll, cellFrom, cell, touches, runsAt, canRun}
-use Rattle.rules.specs.Checks.{check, andThen, wrongCount, noSuchHistory, historyTwice, updateMisfits, changeMisfits, formRefusal, updatesRefusal, changesRefusal}
-use Rattle.rules.specs.Log.{ended, didsText, logText, linesFrom, restFrom, historiesFit, accepts, readLines, readFirst, readLog}
+use Rattle.rules.specs.Book.{Cell, cell, touches, runsAt}
+use Rattle.rules.specs.Checks.{check, andThen, wrongCount, noSuchHistory, historyTwice, updateMisfits, formRefusal, updatesRefusal}
+use Rattle.rules.specs.Log.{ended, didsText, logText, linesFrom, restFrom, historiesFit}
 use Rattle.rules.specs.State.{State, ok, withWaiting, withRestoring, logBytes, versionAt, liveDone, live, asks, dry, becameDry, rose, lineBytes, settle}
 use Rattle.rules.specs.Calls.{Call, Add, Finish, Persistent, Stable, Show, Cut, Redo, End, unless, openFull, openRefusal, opened, openSite, blockedBy, blocked, mayRunNow, ready, attempt, tryFrom, madeReady, nothingOrders, idPending, idDone, alreadyDone, readOvertaken, tableFull, addRefusal, arrived, add, changeOf, lineOf, valuesAfter, inProgress, future, without, logFull, finished, finishFound, finish, withdrawRefusal, withdraw, persistent, stable, show, restarted, restartAs, restart, cutAbove, cut, stale, redoRefusal, behind, pick, drain, delivered, redoRead, redo, end, writableUpdate, writable, perform, step}
 use Rattle.rules.specs.Good.{Good, didIds}

@@ -4,6 +4,7 @@ pub mod Ending
 pub mod Steps
 pub mod Counted
 pub mod Recovery
+pub mod Older
 pub mod Checking
 pub mod Instance
 pub mod Arrival

@@ -14,11 +14,9 @@ use Rattle.forms.specs.Forms.{fieldText, fieldsText, itemsText, tailText, listT
 use Rattle.forms.specs.Forms.{numbersText, answerText, outcomeText}
 use Rattle.forms.specs.Reading as reading
 use Rattle.forms.specs.Reading.{readDid, readSite, readCommand, readWhole}
-use Rattle.rules.specs.Rules.{replaced}
-use Rattle.rules.specs.Book.{entered, enter, enterAll, cellFrom, cell, touches, runsAt, canRun}
-use Rattle.rules.specs.Checks.{check, andThen, wrongCount, noSuchHistory, historyTwice, updateMisfits, changeMisfits, formRefusal, updatesRefusal}
-use Rattle.rules.specs.Checks.{changesRefusal}
-use Rattle.rules.specs.Log.{ended, didsText, logText, linesFrom, restFrom, historiesFit, accepts, readLines, readFirst, readLog}
+use Rattle.rules.specs.Book.{touches, runsAt}
+use Rattle.rules.specs.Checks.{check, andThen, wrongCount, noSuchHistory, historyTwice, updateMisfits, formRefusal, updatesRefusal}
+use Rattle.rules.specs.Log.{ended, didsText, logText, linesFrom, restFrom, historiesFit}
 use Rattle.rules.specs.State.{logBytes, versionAt, liveDone, live, asks, dry, becameDry, rose, lineBytes}
 use Rattle.rules.specs.Calls.{unless, openFull, openRefusal, opened, openSite, blockedBy, blocked, mayRunNow, ready, attempt, tryFrom, madeReady}
 use Rattle.rules.specs.Calls.{nothingOrders, idPending, idDone, alreadyDone, readOvertaken, tableFull, addRefusal, arrived, add, changeOf, lineOf}

@@ -15,7 +15,7 @@ use Rattle.forms.specs.Writable.{WritableChange}
 use Rattle.forms.specs.declared.Rule.{Rule}
 use Rattle.forms.specs.declared.Rule.the-variants.{Inc, Set, Not, Unk}
 use Rattle.rules.specs.Rules.{ruleOf, loggedAs, mayRun, strong, versionAfter, operandFits}
-use Rattle.rules.specs.Book.{Cell, entered, enter, enterAll, cell, canRun, runsAt}
+use Rattle.rules.specs.Book.{Cell, entered, enterAll, cell, canRun, runsAt}
 use Rattle.rules.specs.Checks.{updateMisfits, changeMisfits}
 use Rattle.rules.specs.State.{Operation}
 use Rattle.rules.specs.Calls.{mayRunNow, changeOf, lineOf, writableUpdate}

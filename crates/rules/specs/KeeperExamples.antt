@@ -13,7 +13,7 @@ use Rattle.forms.specs.Refusals.{numberOf}
 use Rattle.forms.specs.Forms.{fieldText, itemsText, tailText, listText, changeText, didText}
 use Rattle.forms.specs.Reading as reading
 use Rattle.forms.specs.Reading.{readDid, readWhole}
-use Rattle.rules.specs.Checks.{check, andThen, wrongCount, noSuchHistory, historyTwice, changeMisfits, formRefusal, changesRefusal}
+use Rattle.rules.specs.Checks.{check, andThen, wrongCount, noSuchHistory, historyTwice, formRefusal}
 use Rattle.rules.specs.Log.{ended, didsText}
 use Rattle.rules.specs.State.{lineBytes}
 use Rattle.rules.specs.Keeper.{Keeper, KeeperReply, refused, ok, keptBytes, unlessRefused, sameBytes, held, samePlace, placedAmong, samePlaces, agrees, inConflict, conflicts}

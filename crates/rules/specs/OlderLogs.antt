@@ -10,7 +10,7 @@ use Prim.Native.Nat.{ℕ, _+_, _*_, _^_, _≤_, _<_}
 use native.Mathlib.Nat.{pow-le-pow-right}
 use native.Mathlib.Omega.{arith}
 use borrow.Author.Tests.{ltb-true, lt-ltb}
-use lib.Dec.{T, ltb, eqb}
+use lib.Dec.{T, eqb}
 use Rattle.forms.specs.ListLaws.{T-true, true-T, mem-snoc, all-at, all-of}
 use Rattle.forms.specs.DecimalLaws.{and-true}
 use Rattle.forms.specs.Writable.{Each}
@@ -18,7 +18,7 @@ use Rattle.forms.specs.Forms.{Change, Did}
 use Rattle.forms.specs.Reading.{readDid, readSite}
 use Rattle.forms.specs.declared.DoneRule.{DoneRule}
 use Rattle.forms.specs.declared.DoneRule.the-variants.{DidInc, DidSet, DidNot}
-use Rattle.rules.specs.Rules.{ruleOf, operandFitsWith, replacedWith}
+use Rattle.rules.specs.Rules.{ruleOf, operandFitsWith}
 use Rattle.rules.specs.Book.{Cell, blankCell, runsAt, cell, enteredWith, enterWith, enterAllWith, cellFromWith, cellWith, canRunWith}
 use Rattle.rules.specs.Checks.{changeMisfitsWith, changesRefusalWith, passes}
 use Rattle.rules.specs.Log.{journal, linesOf, historiesFit, readLog, acceptsWith, readLinesWith, readFirstWith, readLogWith}

@@ -19,12 +19,12 @@ use Rattle.forms.specs.Reading as reading
 use Rattle.forms.specs.Reading.{readDid, readSite, readCommand, readWhole}
 use Rattle.forms.specs.declared.Rule.{Rule}
 use Rattle.forms.specs.declared.Rule.the-variants.{Inc, Set, Not, Unk}
-use Rattle.rules.specs.Rules.{replaced, loggedAs, mayRun, versionAfter, profileAfter, strong, ordered}
-use Rattle.rules.specs.Book.{Cell, entered, enter, enterAll, cellFrom, cell, touches, runsAt, canRun}
-use Rattle.rules.specs.Checks.{check, andThen, wrongCount, noSuchHistory, historyTwice, updateMisfits, changeMisfits}
-use Rattle.rules.specs.Checks.{formRefusal, updatesRefusal, changesRefusal}
+use Rattle.rules.specs.Rules.{loggedAs, mayRun, versionAfter, profileAfter, strong, ordered}
+use Rattle.rules.specs.Book.{Cell, entered, touches, runsAt}
+use Rattle.rules.specs.Checks.{check, andThen, wrongCount, noSuchHistory, historyTwice, updateMisfits}
+use Rattle.rules.specs.Checks.{formRefusal, updatesRefusal}
 use Rattle.rules.specs.Log.{ended, didsText, logText, linesFrom, linesOf, restFrom}
-use Rattle.rules.specs.Log.{historiesFit, accepts, readLines, readFirst, readLog}
+use Rattle.rules.specs.Log.{historiesFit}
 use Rattle.rules.specs.State.{logBytes, versionAt, liveDone, live, asks, dry, becameDry, rose, lineBytes}
 use Rattle.rules.specs.Calls.{unless, blockedBy, blocked, mayRunNow, ready, attempt, tryFrom, madeReady}
 use Rattle.rules.specs.Calls.{nothingOrders, idPending, idDone, alreadyDone, readOvertaken, tableFull, addRefusal, arrived}

@@ -14,7 +14,7 @@ use Rattle.forms.specs.Lists.{any, keep, below}
 use Rattle.forms.specs.ListLaws.{Nodup, Prefix, mem-at, mem-along, keep-append}
 use Rattle.forms.specs.Forms.{Change, Did}
 use Rattle.forms.specs.Held.{noChange, firstFour}
-use Rattle.rules.specs.Book.{Cell, cell, entered, enter, enterAll, touches, runsAt, canRun}
+use Rattle.rules.specs.Book.{Cell, cell, entered, enterAll, touches, runsAt, canRun}
 use Rattle.rules.specs.Checks.{changesRefusal}
 use Rattle.rules.specs.State.{State, asks, dry, becameDry, rose, versionAt}
 use Rattle.rules.specs.Good.{FormedDid, Ran}

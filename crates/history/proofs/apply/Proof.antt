@@ -5,7 +5,7 @@ use mathlib.Core.Path.{_≡_, refl, sym, ap, subst, _∙_}
 use mathlib.Core.List.{List}
 use lib.ListN.{getD}
 use Rattle.rules.specs.Rules.{loggedAs}
-use Rattle.rules.specs.Book.{entered, enterAll}
+use Rattle.rules.specs.Book.{entered}
 use Rattle.history.specs.declared.History.{History}
 use Rattle.history.specs.declared.Item.{Item}
 use Rattle.history.specs.Entries.{cellOf, noItem, didOfEntry}

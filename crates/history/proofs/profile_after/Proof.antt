@@ -1,6 +1,6 @@
 use mathlib.Core.Path.{_≡_, subst}
 use mathlib.Core.Bool.{true}
-use borrow.Author.Tests.{leb-true}
+use borrow.Author.Tests.{ltb-true}
 use Rattle.forms.specs.declared.Rule.{Rule}
 use Rattle.rules.specs.Rules.{operandFits}
 use Rattle.history.specs.Tests.{and-true-parts}
@@ -15,7 +15,7 @@ replace-part-requires : tie.Need-replace-part-requires
 replace-part-requires c κs =
     let a = c .before .before .args in
     let p = c .before .before .pre in
-    leb-true (a .operand) 1023 (subst (λ (r : Rule). operandFits r (p .0) (a .operand) ≡ true) (c .enum-told .given .1) (p .1))
+    ltb-true (a .operand) 2048 (subst (λ (r : Rule). operandFits r (p .0) (a .operand) ≡ true) (c .enum-told .given .1) (p .1))
 
 enum-told-2 : tie.Need-enum-told-2
 enum-told-2 c = search needs
@@ -30,7 +30,7 @@ replace-part-requires-2 : tie.Need-replace-part-requires-2
 replace-part-requires-2 c κs =
     let a = c .before .before .args in
     let p = c .before .before .pre in
-    leb-true (a .operand) 1023 (and-true-parts _ _ (subst (λ (r : Rule). operandFits r (p .0) (a .operand) ≡ true) (c .enum-told4 .given .1) (p .1)) .0)
+    ltb-true (a .operand) 2048 (and-true-parts _ _ (subst (λ (r : Rule). operandFits r (p .0) (a .operand) ≡ true) (c .enum-told4 .given .1) (p .1)) .0)
 
 returns : tie.Need-returns
 returns c = rw (c .before .enum-told .given .1) (c .replace-part .ensures)

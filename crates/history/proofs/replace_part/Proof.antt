@@ -1,3 +1,4 @@
+-- The part that the operand names is cleared by the mask and set by the shifted byte: the law over the part.
 use Rattle.history.proofs.Parts.{replaces}
 use borrow.Author.Needs.{needs}
 use Rattle.history.proofs.replace_part.Statement.{statement}
@@ -13,7 +14,7 @@ shl-result-2 : tie.Need-shl-result-2
 shl-result-2 c = search needs
 
 returns : tie.Need-returns
-returns c = replaces (c .args .profile) (c .args .operand) (c .fits .profile .fits) (c .pre)
+returns c = replaces (c .args .profile) (c .args .operand) (c .pre)
 
 pub replace-part-spec : {M : Type 1} → statement M
 replace-part-spec = tie.close (tie.spec mul-shift shl-result shl-result-2 returns)
