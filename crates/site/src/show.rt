@@ -50,7 +50,7 @@ impl Site {
             persistent: Version(book[WIDTH * i + PERSISTED]),
             stable: Version(book[WIDTH * i + STABILISED]),
             place,
-            profile: c.profile as u64,
+            profile: c.profile,
         };
         CallResult {
             site: self,

@@ -28,11 +28,11 @@ use Rattle.table.specs.Slots.{ruleNumber, ruleNamed, itemAt, PutItem, en
 
 -- ### Items and entries, read field by field
 
-pub item-read : (ws : List ℕ) (at : ℕ) {r : Rule} {h o : ℕ} → r ≡ ruleNamed (getD ws at 0) → h ≡ within 256 (getD ws (at + 1) 0)
-    → o ≡ within 4294967296 (getD ws (at + 4) 0)
-    → record { rule = r; history = h; version = record { 0 = getD ws (at + 2) 0 }; place = record { 0 = getD ws (at + 3) 0 }; operand = o } ≡ itemAt ws at
+pub item-read : (ws : List ℕ) (at : ℕ) {r : Rule} {h : ℕ} → r ≡ ruleNamed (getD ws at 0) → h ≡ within 256 (getD ws (at + 1) 0)
+    → record { rule = r; history = h; version = record { 0 = getD ws (at + 2) 0 }; place = record { 0 = getD ws (at + 3) 0 }; operand = getD ws (at + 4) 0 }
+    ≡ itemAt ws at
 unfolding itemAt
-item-read ws at e f g = rw (e, f, g)
+item-read ws at e f = rw (e, f)
 
 pub entry-read : (ws : List ℕ) (at : ℕ) {a b c d : Item} → a ≡ itemAt ws (at + 3) → b ≡ itemAt ws (at + 8) → c ≡ itemAt ws (at + 13) → d ≡ itemAt ws (at + 18)
     → record { id = getD ws at 0; running = eqb (getD ws (at + 1) 0) 1; count = getD ws (at + 2) 0; items = a ∷ b ∷ c ∷ d ∷ [] } ≡ entryFrom ws at
@@ -204,28 +204,28 @@ named-number Not = refl
 named-number Unk = refl
 
 -- the item of five words
-item-is : (ws : List ℕ) (at : ℕ) (x : Item) → x .history < 256 → x .operand < 4294967296 → getD ws at 0 ≡ ruleNumber (x .rule)
+item-is : (ws : List ℕ) (at : ℕ) (x : Item) → x .history < 256 → getD ws at 0 ≡ ruleNumber (x .rule)
     → getD ws (at + 1) 0 ≡ x .history → getD ws (at + 2) 0 ≡ x .version .0 → getD ws (at + 3) 0 ≡ x .place .0 → getD ws (at + 4) 0 ≡ x .operand
     → itemAt ws at ≡ x
 unfolding itemAt
-item-is ws at x low small r h v p o =
+item-is ws at x low r h v p o =
     λ i. record {
       rule = (ap ruleNamed r ∙ named-number (x .rule)) i;
       history = (ap (within 256) h ∙ within-of 256 (x .history) low) i;
       version = record { 0 = v i };
       place = record { 0 = p i };
-      operand = (ap (within 4294967296) o ∙ within-of 4294967296 (x .operand) small) i;
+      operand = o i;
     }
 
 -- The five stores of an item.
-pub item-put : (ws : List ℕ) (at : ℕ) (x : Item) (r : ℕ) → at + 5 ≤ length ws → x .history < 256 → x .operand < 4294967296 → r ≡ ruleNumber (x .rule)
+pub item-put : (ws : List ℕ) (at : ℕ) (x : Item) (r : ℕ) → at + 5 ≤ length ws → x .history < 256 → r ≡ ruleNumber (x .rule)
     → PutItem at x ws (puts (set ws at r) at 1 (x .history ∷ x .version .0 ∷ x .place .0 ∷ x .operand ∷ []))
-item-put ws at x r room low small e =
+item-put ws at x r room low e =
     let vs : List ℕ = x .history ∷ x .version .0 ∷ x .place .0 ∷ x .operand ∷ [] in
     let s = stores-at ws at r vs room in
     record {
       item =
-          item-is _ at x low small (stores-first ws at r vs room ∙ e) (s 0 (omega arith)) (s 1 (omega arith)) (s 2 (omega arith)) (s 3 (omega arith));
+          item-is _ at x low (stores-first ws at r vs room ∙ e) (s 0 (omega arith)) (s 1 (omega arith)) (s 2 (omega arith)) (s 3 (omega arith));
       rest = stores-kept ws at r vs room;
     }
 

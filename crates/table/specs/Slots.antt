@@ -35,7 +35,7 @@ itemAt ws at =
       history = within 256 (getD ws (at + 1) 0);
       version = record { 0 = getD ws (at + 2) 0 };
       place = record { 0 = getD ws (at + 3) 0 };
-      operand = within 4294967296 (getD ws (at + 4) 0);
+      operand = getD ws (at + 4) 0;
     }
 
 -- The item's five words begin at `at` now; the other words are as they were.

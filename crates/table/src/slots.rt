@@ -14,7 +14,6 @@ use history::DoneEntry;
 use history::Entry;
 use history::Item;
 use history::book::known_length;
-use history::book::small_half;
 
 // 64 entries that are not done, of 23 words: id, whether it is in progress, count, and for each of four updates rule, history,
 // version, place and operand.
@@ -63,7 +62,7 @@ fn item_at(words: &QueueWords, at: usize) -> Item
     Item {
         version: Version(words[at + 2]),
         place: Place(words[at + 3]),
-        operand: small_half(words[at + 4]),
+        operand: words[at + 4],
         history: small_byte(words[at + 1]),
         rule,
     }
@@ -131,7 +130,7 @@ fn put_item(words: &mut QueueWords, at: usize, x: Item)
     words[at + 1] = x.history as u64;
     words[at + 2] = x.version.0;
     words[at + 3] = x.place.0;
-    words[at + 4] = x.operand as u64;
+    words[at + 4] = x.operand;
 }
 
 // Writes the entry at `i`.

@@ -20,15 +20,12 @@ history-at-requires : tie.Need-history-at-requires
 history-at-requires c κs = subst (λ (x : Item). x .history < 16) (sym (c .before .item-at .ensures))
     (usable-at (c .before .before .args .e) (c .before .before .pre .0) (c .before .before .args .i) .history)
 
-cast-result : tie.Need-cast-result
-cast-result c = search needs
-
 returns : tie.Need-returns
 returns c =
-    let cells = cellsOf (historiesIn (now (c .before .before .before .before .args .book))) in
-    ap (λ (h : History). h .profile) (c .before .history-at .ensures)
-    ∙ ap (λ (x : Item). cells (x .history) .profile) (c .before .before .before .item-at .ensures)
+    let cells = cellsOf (historiesIn (now (c .before .before .before .args .book))) in
+    ap (λ (h : History). h .profile) (c .history-at .ensures)
+    ∙ ap (λ (x : Item). cells (x .history) .profile) (c .before .before .item-at .ensures)
 
 pub profile-at-spec : {M : Type 1} → statement M
 profile-at-spec =
-    tie.close (tie.spec item-at-requires cast-at history-at-requires cast-result returns)
+    tie.close (tie.spec item-at-requires cast-at history-at-requires returns)

@@ -13,9 +13,6 @@ known-length-requires c κs = search needs
 mul-at : tie.Need-mul-at
 mul-at c = search needs
 
-cast-words : tie.Need-cast-words
-cast-words c = search needs
-
 mul-words : tie.Need-mul-words
 mul-words c = search needs
 
@@ -42,10 +39,9 @@ element-write-words-3 c = search needs
 
 returns : tie.Need-returns
 returns c =
-    let e = c .before .before .before .before in
+    let e = c .before .before .before in
     let long : length (now (e .args .words)) ≡ 80 = search needs in
-    let small : e .args .h .profile < 4294967296 = search needs in
-    history-put (now (e .args .words)) (e .args .i) (e .args .h) (e .pre) long small
+    history-put (now (e .args .words)) (e .args .i) (e .args .h) (e .pre) long
 
 pub put-history-spec : {M : Type 1} → statement M
 put-history-spec =
@@ -53,7 +49,6 @@ put-history-spec =
     (tie.spec
     known-length-requires
     mul-at
-    cast-words
     mul-words
     element-write-words
     add-words

@@ -57,13 +57,10 @@ mul-t25 c = omega (arith, few (c .before .before .before .before))
 element-copy-out-t28 : tie.Need-element-copy-out-t28
 element-copy-out-t28 c = omega (arith, few (c .before .before .before .before))
 
-cast-t30 : tie.Need-cast-t30
-cast-t30 c = search needs
-
 returns-2 : tie.Need-returns-2
 returns-2 c =
     λ ns.
-    let i = c .before .before .before .before .before .before in
+    let i = c .before .before .before .before .before in
     let e = i .before .before in
     let a = e .args in
     let book = now (a .book) in
@@ -71,7 +68,7 @@ returns-2 c =
     let few-h = few i in
     does (a .self) m _ _ m
     (show-does (represented (a .self) m) (now (a .log)) (a .h) (e .pre) (omega (arith, e .fits .h)) (i .if1 .left)
-    _ (c .before .before .before .before .before .history-at .ensures) _ (sym (column-in 3 book (a .h) few-h))
+    _ (c .before .before .before .before .history-at .ensures) _ (sym (column-in 3 book (a .h) few-h))
     _ (sym (column-in 4 book (a .h) few-h)) ns ns) refl refl
 
 pub show-spec : {M : Type 1} → statement M
@@ -89,5 +86,4 @@ show-spec =
     add-t24
     mul-t25
     element-copy-out-t28
-    cast-t30
     returns-2)

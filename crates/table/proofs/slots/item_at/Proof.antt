@@ -1,6 +1,7 @@
+-- The five words that are read are those of the item in the words.
 use denote.Ref.{now}
-use borrow.Author.Needs.{needs}
 use Rattle.table.specs.SlotLaws.{item-read}
+use borrow.Author.Needs.{needs}
 use Rattle.table.proofs.slots.item_at.Statement.{statement}
 use Rattle.table.proofs.slots.item_at.Tie as tie
 
@@ -31,17 +32,14 @@ mul-t13 c = search needs
 element-copy-out-t16 : tie.Need-element-copy-out-t16
 element-copy-out-t16 c = search needs
 
-add-small-half : tie.Need-add-small-half
-add-small-half c = search needs
+add-t18 : tie.Need-add-t18
+add-t18 c = search needs
 
-mul-small-half : tie.Need-mul-small-half
-mul-small-half c = search needs
+mul-t19 : tie.Need-mul-t19
+mul-t19 c = search needs
 
-element-copy-out-small-half : tie.Need-element-copy-out-small-half
-element-copy-out-small-half c = search needs
-
-small-half-requires : tie.Need-small-half-requires
-small-half-requires c κs = search needs
+element-copy-out-t22 : tie.Need-element-copy-out-t22
+element-copy-out-t22 c = search needs
 
 add-small-byte : tie.Need-add-small-byte
 add-small-byte c = search needs
@@ -57,9 +55,8 @@ small-byte-requires c κs = search needs
 
 returns : tie.Need-returns
 returns c =
-    let e = c .before .before .before .before .before .before .before .before in
-    item-read (now (e .args .words)) (e .args .at) (c .before .before .before .before .before .before .rule-named .ensures) (c .small-byte .ensures)
-    (c .before .before .small-half .ensures)
+    let e = c .before .before .before .before .before .before .before in
+    item-read (now (e .args .words)) (e .args .at) (c .before .before .before .before .before .rule-named .ensures) (c .small-byte .ensures)
 
 pub item-at-spec : {M : Type 1} → statement M
 item-at-spec =
@@ -74,10 +71,9 @@ item-at-spec =
     add-t12
     mul-t13
     element-copy-out-t16
-    add-small-half
-    mul-small-half
-    element-copy-out-small-half
-    small-half-requires
+    add-t18
+    mul-t19
+    element-copy-out-t22
     add-small-byte
     mul-small-byte
     element-copy-out-small-byte

@@ -50,9 +50,6 @@ mul-words-4 c = search needs
 element-write-words-4 : tie.Need-element-write-words-4
 element-write-words-4 c = search needs
 
-cast-words-2 : tie.Need-cast-words-2
-cast-words-2 c = search needs
-
 add-words-4 : tie.Need-add-words-4
 add-words-4 c = search needs
 
@@ -64,12 +61,11 @@ element-write-words-5 c = search needs
 
 returns : tie.Need-returns
 returns c =
-    let e = c .before .before .before .before .before .before in
+    let e = c .before .before .before .before .before in
     let long : length (now (e .args .words)) ≡ 1472 = search needs in
     let room : e .args .at + 5 ≤ length (now (e .args .words)) = omega (arith, long, e .pre) in
     let low : e .args .x .history < 256 = search needs in
-    let small : e .args .x .operand < 4294967296 = search needs in
-    item-put (now (e .args .words)) (e .args .at) (e .args .x) _ room low small (c .before .before .rule-number .ensures)
+    item-put (now (e .args .words)) (e .args .at) (e .args .x) _ room low (c .before .rule-number .ensures)
 
 pub put-item-spec : {M : Type 1} → statement M
 put-item-spec =
@@ -89,7 +85,6 @@ put-item-spec =
     add-words-3
     mul-words-4
     element-write-words-4
-    cast-words-2
     add-words-4
     mul-words-5
     element-write-words-5
