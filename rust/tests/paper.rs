@@ -146,6 +146,9 @@ fn p10_one_part_of_the_profile() {
     };
     assert_eq!(finish("set 0 1 65536,inc 0 2 255"), "(ok 2 (values 65791)(ready))");
     assert_eq!(finish("inc 0 1 1023"), "(ok 1 (values 4278190080)(ready))");
+    assert_eq!(finish("inc 0 1 2047"), "(ok 1 (values 18374686479671623680)(ready))");
+    let full = "set 0 1 18446744073709551615,inc 0 2 1792";
+    assert_eq!(finish(full), "(ok 2 (values 72057594037927935)(ready))");
 }
 
 #[test]
@@ -171,10 +174,11 @@ fn the_examples_of_the_refusals() {
         ("(site 2)\n", "(add 5)", 2),
         ("(site 2)\n", "(show 9)", 3),
         ("(site 2)\n", "(add 5 (inc 0 1 0)(not 0 0 0))", 4),
-        ("(site 2)\n", "(add 5 (inc 0 1 1024))", 5),
+        ("(site 2)\n", "(add 5 (inc 0 1 2048))", 5),
         ("(site 2)\n", "(add 5 (inc 0 1 0)(unk 1 1 0))", 5),
         ("(site 2)\n", "(add 5 (not 0 0 1))", 5),
-        ("(site 2)\n", "(add 5 (set 0 1 4294967296))", 5),
+        ("(site 2)\n", "(add 5 (inc 0 1 0)(unk 1 0 2048))", 5),
+        ("(site 2)\n", "(add 5 (set 0 1 18446744073709551616))", 1),
         ("(site 2)\n", "(add 5 (unk 0 0 0))", 6),
         ("(site 2)\n(add 5 (inc 0 1 0))\n", "(add 5 (inc 0 1 0))", 7),
         ("(site 2)\n", "(add 5 (inc 0 0 0))", 8),
@@ -262,7 +266,7 @@ fn logs_that_restart_refuses() {
         "(site 1)\n(did 5 (inc 1 1 1 0))\n",
         "(site 1)\n(did 5 (inc 0 2 1 0))\n",
         "(site 1)\n(did 5 (inc 0 1 2 0))\n",
-        "(site 1)\n(did 5 (inc 0 1 1 1024))\n",
+        "(site 1)\n(did 5 (inc 0 1 1 2048))\n",
         "(site 1)\n(did 5 (not 0 1 1 0))\n",
         "(site 1)\n(did 5 (set 0 0 1 0))\n",
         "(site 1)\n(did 5 (unk 0 0 1 0))\n",

@@ -23,7 +23,7 @@ say '(show 9)' '(add 5 (inc 4 1 0)(not 8 0 0))'
 # 4: a history twice
 say '(add 5 (inc 4 1 0)(not 4 0 0))' '(add 5 (set 7 1 0)(inc 5 1 0)(unk 7 0 0))'
 # 5: operand out of range; unk with version not 0
-say '(add 5 (inc 4 1 1024))' '(add 5 (set 4 1 4294967296))' '(add 5 (not 4 0 1))' '(add 5 (inc 4 1 0)(unk 5 0 1024))' '(add 5 (inc 4 1 0)(unk 5 1 0))'
+say '(add 5 (inc 4 1 2048))' '(add 5 (inc 4 1 18446744073709551615))' '(add 5 (not 4 0 1))' '(add 5 (inc 4 1 0)(unk 5 0 2048))' '(add 5 (inc 4 1 0)(unk 5 1 0))'
 # 6: nothing orders it
 say '(add 5 (unk 4 0 0))' '(add 5 (not 4 0 0)(unk 5 0 0))'
 # 7: in progress (5), future (6)
@@ -59,7 +59,7 @@ say '(redo (did 5 (unk 4 1 1 0)))' '(redo (did 5 (inc 4 1 1)))' '(redo did 5 (in
 say '(redo (did 5))' '(redo (did 5 (not 3 0 1 0)(not 4 0 1 0)(not 5 0 1 0)(not 6 0 1 0)(not 7 0 1 0)))'
 say '(redo (did 5 (inc 8 1 1 0)))' '(show 8)'
 say '(redo (did 5 (inc 4 1 1 0)(inc 4 2 2 0)))'
-say '(redo (did 5 (inc 4 1 1 1024)))' '(redo (did 5 (not 4 0 1 1)))' '(redo (did 5 (set 4 1 1 4294967296)))'
+say '(redo (did 5 (inc 4 1 1 2048)))' '(redo (did 5 (not 4 0 1 1)))' '(redo (did 5 (inc 4 1 1 4294967296)))'
 # 7: a waiting redo
 say '(redo (did 6 (inc 4 2 2 0)))' '(redo (did 6 (inc 4 2 2 0)))' '(redo (did 6 (inc 5 1 1 0)))'
 # 8: a place not above the history's

@@ -395,7 +395,7 @@ impl<'t> Claim<'t> {
 
 /// The book: profile, version and place of each history, from did lines only.
 struct Book {
-    parts: Vec<[u64; 4]>,
+    parts: Vec<[u64; 8]>,
     versions: Vec<u64>,
     places: Vec<u64>,
 }
@@ -405,7 +405,7 @@ impl Book {
     fn of(log: &[String], histories: u64) -> Book {
         let count = histories as usize;
         let mut book =
-            Book { parts: vec![[0; 4]; count], versions: vec![0; count], places: vec![0; count] };
+            Book { parts: vec![[0; 8]; count], versions: vec![0; count], places: vec![0; count] };
         for line in log.iter().skip(1) {
             for (rule, fields) in entries(line) {
                 book.take(rule, &fields);
@@ -436,7 +436,7 @@ impl Book {
 
     /// Version, place and profile of each history.
     fn shown(&self) -> Vec<[u64; 3]> {
-        let profile = |parts: &[u64; 4]| parts.iter().rev().fold(0, |sum, part| sum * 256 + part);
+        let profile = |parts: &[u64; 8]| parts.iter().rev().fold(0, |sum, part| sum * 256 + part);
         (0..self.parts.len())
             .map(|at| [self.versions[at], self.places[at], profile(&self.parts[at])])
             .collect()

@@ -48,10 +48,10 @@ pub struct Now {
 pub fn operand(random: &mut Random, rule: Rule) -> u64 {
     let good = random.percent(97);
     match rule {
-        Rule::Inc | Rule::Unk if good => random.below(1024),
-        Rule::Inc | Rule::Unk => random.pick(&[1023, 1024, u64::MAX]),
-        Rule::Set if good => random.number() >> 32,
-        Rule::Set => random.pick(&[u32::MAX as u64, u32::MAX as u64 + 1, u64::MAX]),
+        Rule::Inc | Rule::Unk if good => random.below(2048),
+        Rule::Inc | Rule::Unk => random.pick(&[1023, 1024, 2047, 2048, 1 << 32, u64::MAX]),
+        Rule::Set if good => random.number() >> random.pick(&[0, 32]),
+        Rule::Set => random.pick(&[1023, 1024, 2047, 2048, 1 << 32, u64::MAX]),
         Rule::Not => u64::from(!good),
     }
 }

@@ -230,6 +230,7 @@ fn the_recovery_claim_notices_broken_rules() {
     for flaw in [
         Flaw::PlaceForStrongOnly,
         Flaw::PartsFromTheTop,
+        Flaw::SetKeepsUpperParts,
         Flaw::TornLineCounted,
         Flaw::RedoByVersionAlone,
         Flaw::DrainsOnce,
