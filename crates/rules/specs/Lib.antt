@@ -11,7 +11,6 @@ pub mod LineSplitLaws
 pub mod FitLaws
 pub mod PartLaws
 pub mod LogLaws
-pub mod OlderLogs
 pub mod CheckLaws
 pub mod BookLaws
 pub mod DrainLaws
@@ -29,3 +28,4 @@ pub mod When
 pub mod WhenLaws
 pub mod LiveLaws
 pub mod RuleTable
+pub mod OlderLogs

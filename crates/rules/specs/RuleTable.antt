@@ -19,7 +19,7 @@ use Rattle.forms.specs.Reading as reading
 use Rattle.forms.specs.Reading.{readDid, readSite, readCommand, readWhole}
 use Rattle.forms.specs.declared.Rule.{Rule}
 use Rattle.forms.specs.declared.Rule.the-variants.{Inc, Set, Not, Unk}
-use Rattle.rules.specs.Rules.{loggedAs, mayRun, versionAfter, profileAfter, strong, ordered}
+use Rattle.rules.specs.Rules.{loggedAs, mayRun, versionAfter, profileAfter, strong, ordered, operandFits}
 use Rattle.rules.specs.Book.{Cell, entered, touches, runsAt}
 use Rattle.rules.specs.Checks.{check, andThen, wrongCount, noSuchHistory, historyTwice, updateMisfits}
 use Rattle.rules.specs.Checks.{formRefusal, updatesRefusal}
@@ -276,6 +276,8 @@ pub record RuleRow : Type 0 where
   pub may : List ℕ
   -- the version after, at these
   pub version : List ℕ
+  -- in range (1) or not (0): the operands 0, 1, 1023, 1024, 2047, 2048, 2^32, 2^64 − 1 and 2^64, with U = 0
+  pub fits : List ℕ
   -- the profile of the parts 1 to 8 after the operand 1537
   pub profile : ℕ
   -- strong, ordered
@@ -291,6 +293,10 @@ flag b = cond b 1 0
 abbrev pub around4 : List ℕ
 around4 = 3 ∷ 4 ∷ 5 ∷ 6 ∷ []
 
+-- operands at the edges of their ranges
+abbrev pub edgeOperands : List ℕ
+edgeOperands = 0 ∷ 1 ∷ 1023 ∷ 1024 ∷ 2047 ∷ 2048 ∷ 4294967296 ∷ 18446744073709551615 ∷ 18446744073709551616 ∷ []
+
 -- a history at C = 4 and place 1, as the book holds it
 abbrev pub cell4 : Cell
 cell4 = record { profile = 578437695752307201; version = 4; place = 1 }
@@ -304,6 +310,7 @@ unfoldable pub ruleRowHolds : RuleRow → Bool
 ruleRowHolds c =
     sameBytes (map (λ u. flag (mayRun (c .rule) 4 u)) around4) (c .may)
     && sameBytes (map (versionAfter (c .rule) 4) around4) (c .version)
+    && sameBytes (map (λ o. flag (operandFits (c .rule) 0 o)) edgeOperands) (c .fits)
     && eqb (profileAfter (c .rule) 1537 578437695752307201) (c .profile)
     && sameBytes (flag (strong (c .rule)) ∷ flag (ordered (c .rule)) ∷ []) (c .is)
     && sameBytes (numbersIn (entered (loggedAs (c .rule)) 6 1537 cell4)) (c .booked)
@@ -315,6 +322,7 @@ ruleRows =
       rule = Inc;
       may = 0 ∷ 0 ∷ 1 ∷ 0 ∷ [];
       version = 3 ∷ 4 ∷ 5 ∷ 6 ∷ [];
+      fits = 1 ∷ 1 ∷ 1 ∷ 1 ∷ 1 ∷ 0 ∷ 0 ∷ 0 ∷ 0 ∷ [];
       profile = 576748845892043265;
       is = 1 ∷ 1 ∷ [];
       booked = 576748845892043265 ∷ 6 ∷ 2 ∷ [];
@@ -323,6 +331,7 @@ ruleRows =
       rule = Set;
       may = 0 ∷ 0 ∷ 1 ∷ 1 ∷ [];
       version = 3 ∷ 4 ∷ 5 ∷ 6 ∷ [];
+      fits = 1 ∷ 1 ∷ 1 ∷ 1 ∷ 1 ∷ 1 ∷ 1 ∷ 1 ∷ 0 ∷ [];
       profile = 1537;
       is = 1 ∷ 1 ∷ [];
       booked = 1537 ∷ 6 ∷ 2 ∷ [];
@@ -331,6 +340,7 @@ ruleRows =
       rule = Not;
       may = 0 ∷ 1 ∷ 0 ∷ 0 ∷ [];
       version = 4 ∷ 4 ∷ 4 ∷ 4 ∷ [];
+      fits = 1 ∷ 0 ∷ 0 ∷ 0 ∷ 0 ∷ 0 ∷ 0 ∷ 0 ∷ 0 ∷ [];
       profile = 578437695752307201;
       is = 0 ∷ 1 ∷ [];
       booked = 578437695752307201 ∷ 4 ∷ 2 ∷ [];
@@ -339,6 +349,7 @@ ruleRows =
       rule = Unk;
       may = 1 ∷ 1 ∷ 1 ∷ 1 ∷ [];
       version = 5 ∷ 5 ∷ 5 ∷ 5 ∷ [];
+      fits = 1 ∷ 1 ∷ 1 ∷ 1 ∷ 1 ∷ 0 ∷ 0 ∷ 0 ∷ 0 ∷ [];
       profile = 576748845892043265;
       is = 1 ∷ 0 ∷ [];
       booked = 576748845892043265 ∷ 6 ∷ 2 ∷ [];

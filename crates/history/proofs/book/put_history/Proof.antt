@@ -1,5 +1,4 @@
 use denote.Ref.{now}
-use Prim.Native.Nat.{_<_}
 use mathlib.Core.Path.{_≡_}
 use lib.ListN.{length}
 use Rattle.history.specs.WordLaws.{history-put}
