@@ -53,8 +53,8 @@ module _ (p m : ℕ) where
   AllFit log = Each (λ d. Each Fits (d .changes)) log
 
   fits-more : (r : DoneRule) (v o : ℕ) → operandFitsWith p (ruleOf r) v o ≡ true → operandFitsWith (p + m) (ruleOf r) v o ≡ true
-  fits-more DidInc v o h = lt-ltb o (256 * (p + m)) (omega (arith, ltb-true o (256 * p) h))
-  fits-more DidSet v o h = lt-ltb o (256 ^ (p + m)) (omega (arith, more, ltb-true o (256 ^ p) h))
+  fits-more DidInc v o h = lt-ltb o _ (omega (arith, ltb-true o _ h))
+  fits-more DidSet v o h = lt-ltb o _ (omega (arith, more, ltb-true o _ h))
   fits-more DidNot v o h = h
 
   -- ### The book
