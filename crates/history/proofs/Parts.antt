@@ -1,5 +1,5 @@
--- One part of a profile replaced by shift and mask is the stated sum: one law over the part. With k = 8 p bits below part p and j above it, the mask is
--- j ones, eight zeros and k ones, so the three sums that shift and mask leave are those of `replaced-at`.
+-- One part of a profile replaced by shift and mask is the stated sum: one law over the part. With k = 8 p bits below part p and j above
+-- it, the mask is j ones, eight zeros and k ones, so the three sums that shift and mask leave are those of `replaced-at`.
 use Prim.Native.Nat.{ℕ, suc, _+_, _-_, _*_, _/_, _%_, _^_, _≤_, _<_, zero}
 use native.Mathlib.Nat.{div-add-mod', zero-mul, zero-add, mod-lt, pow-suc}
 use native.Mathlib.Omega.{arith}
@@ -38,7 +38,10 @@ swap n b k j K le pK pk lt =
 worth : (p : ℕ) → 256 ^ p ≡ 2 ^ (p * 8)
 worth zero = refl
 worth (suc p) =
-    pow-suc 256 p ∙ ap (λ (x : ℕ). x * 256) (worth p) ∙ sym (pow-add 2 (p * 8) 8) ∙ ap (λ (x : ℕ). 2 ^ x) (let z : p * 8 + 8 ≡ suc p * 8 = omega arith in z)
+    pow-suc 256 p
+    ∙ ap (λ (x : ℕ). x * 256) (worth p)
+    ∙ sym (pow-add 2 (p * 8) 8)
+    ∙ ap (λ (x : ℕ). 2 ^ x) (let z : p * 8 + 8 ≡ suc p * 8 = omega arith in z)
 
 -- all ones but eight: with the powers as unknowns, and then
 ones-but : (x w : ℕ) → 0 < w → (x + (256 * w - 1)) - 255 * w ≡ x + (w - 1)
@@ -55,7 +58,9 @@ turned a b c = omega arith
 
 -- Part p, with m parts above it.
 shifted : (p m n o : ℕ) → suc p + m ≡ partLimit → o / 256 ≡ p
-    → bitOr (bitAnd n (18446744073709551615 - 255 * 2 ^ (p * 8) % 18446744073709551616)) (o % 256 * 2 ^ (p * 8) % 18446744073709551616) ≡ replaced n o
+    → bitOr (bitAnd n (18446744073709551615 - 255 * 2 ^ (p * 8) % 18446744073709551616))
+    (o % 256 * 2 ^ (p * 8) % 18446744073709551616)
+    ≡ replaced n o
 shifted p m n o e q =
     ap₂ (λ (x y : ℕ). bitOr (bitAnd n (18446744073709551615 - x)) y) (shl-exact 8 k 64 (omega arith) wide) (shl-exact 8 k 64 byte wide)
     ∙ ap (λ (x : ℕ). bitOr (bitAnd n x) (b * 2 ^ k)) (mask k (m * 8) (omega (arith, e)))
@@ -83,6 +88,7 @@ shifted p m n o e q =
     next = omega arith
 
 pub replaces : (n o : ℕ) → o < 256 * partLimit
-    → bitOr (bitAnd n (18446744073709551615 - 255 * 2 ^ (o / 256 * 8) % 18446744073709551616)) (bitAnd o 255 * 2 ^ (o / 256 * 8) % 18446744073709551616)
+    → bitOr (bitAnd n (18446744073709551615 - 255 * 2 ^ (o / 256 * 8) % 18446744073709551616))
+    (bitAnd o 255 * 2 ^ (o / 256 * 8) % 18446744073709551616)
     ≡ replaced n o
 replaces n o l = rw (and-mask o 8) (shifted (o / 256) (7 - o / 256) n o (omega (arith, l)) refl)

@@ -32,7 +32,8 @@ use Rattle.history.specs.declared.Verdict.the-variants.{Passes, Refused}
 use Rattle.history.specs.Asking.{verdictOf, askedTest, askedPasses, noAsked, noDoneUpdate, changeUpdate, updateItem, changeItem, UsableUpdate, UsableHeld, UsableDid, Enters, EntersDid}
 use Rattle.history.specs.Entries.{itemUpdate, itemChange, operationOf, didOfEntry, UsableItem}
 use Rattle.history.specs.EntryLaws.{usable-four, items-four}
-use Rattle.history.specs.Tests.{or-false-parts, any-get, length-part, part-in, part-out, four-at, any-snoc, any-mid, any-map, map-map, map-same, four-held, four-eq, four-map, take-split}
+use Rattle.history.specs.Tests.{or-false-parts, any-get, length-part, part-in, part-out, four-at, any-snoc}
+use Rattle.history.specs.Tests.{any-mid, any-map, map-map, map-same, four-held, four-eq, four-map, take-split}
 use Rattle.rules.specs.Checks.{changeMisfitsWith, changesRefusalWith}
 
 -- ### A history twice

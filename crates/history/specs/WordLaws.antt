@@ -122,8 +122,11 @@ history-in ws i h = made-at (historyFrom ws) 16 i noHistory h
 
 -- a history, read field by field
 pub history-read : (ws : List ℕ) (i : ℕ)
-    → record { profile = getD ws (width * i) 0; version = record { 0 = getD ws (width * i + 1) 0 }; place = record { 0 = getD ws (width * i + 2) 0 } }
-    ≡ historyFrom ws i
+    → record {
+      profile = getD ws (width * i) 0;
+      version = record { 0 = getD ws (width * i + 1) 0 };
+      place = record { 0 = getD ws (width * i + 2) 0 };
+    } ≡ historyFrom ws i
 unfolding historyFrom
 history-read ws i = refl
 

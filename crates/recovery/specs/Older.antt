@@ -1,5 +1,5 @@
--- 02 (c): "Old logs read with the same meaning, and recovery covers both". A list of calls may start at a site restarted from a log of four parts: such a
--- log is accepted by restart, each `show` gives what its own book says, and the recovery claim holds from there.
+-- 02 (c): "Old logs read with the same meaning, and recovery covers both". A list of calls may start at a site restarted from a log of
+-- four parts: such a log is accepted by restart, each history is as its own book says, and the recovery claim holds from there.
 use mathlib.Core.Path.{_≡_}
 use mathlib.Core.Bool.{Bool}
 use mathlib.Core.List.{List, _∷_, _++_}
@@ -50,5 +50,6 @@ module _ (buffer : List ℕ) (k n : ℕ) (log : List Did) (within : k ≤ length
   pub older-recovery : (xs : List Call) (cutAt room : ℕ) (ys : List Call) (after : State) (chosen : Did → Bool) →
       Fair (counted (length log) xs site) cutAt room (run xs site) after →
       Asked (length log) site (λ a. xs ++ Cut cutAt room ∷ a) ys (lostBy (run xs site) after) chosen →
-      Recovered (run xs site) after (lostBy (run xs site) after) chosen (came (xs ++ Cut cutAt room ∷ ys) site) (run (xs ++ Cut cutAt room ∷ ys) site)
+      Recovered (run xs site) after (lostBy (run xs site) after) chosen (came (xs ++ Cut cutAt room ∷ ys) site)
+      (run (xs ++ Cut cutAt room ∷ ys) site)
   older-recovery = recovery (length log) site older-start

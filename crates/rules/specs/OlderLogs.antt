@@ -1,5 +1,6 @@
--- 02 (c): "Old logs read with the same meaning". A log that was accepted when a profile had four parts is accepted now that it has eight, with the
--- same book: the same versions, places and profiles, and every profile below 2^32. Both readings are one definition at two numbers of parts.
+-- 02 (c): "Old logs read with the same meaning". A log that was accepted when a profile had four parts is accepted now that it has eight,
+-- with the same book: the same versions, places and profiles, and every profile below 2^32. Both readings are one definition at two
+-- numbers of parts.
 use mathlib.Core.Path.{_≡_, refl, sym, ap, _∙_, subst}
 use mathlib.Core.Logic.{⊎-elim}
 use mathlib.Core.Bool.{Bool, true, false, cond, not}
@@ -82,7 +83,8 @@ module _ (p m : ℕ) where
       go true = entered-alike (x .rule) (x .version) (x .operand) c f low
       go false = record { same = refl; low = low }
 
-  enterAll-alike : (h : ℕ) (xs : List Change) (c : Cell) → Each Fits xs → c .profile < 256 ^ p → Alike (enterAllWith p h xs c) (enterAllWith (p + m) h xs c)
+  enterAll-alike : (h : ℕ) (xs : List Change) (c : Cell) → Each Fits xs → c .profile < 256 ^ p →
+      Alike (enterAllWith p h xs c) (enterAllWith (p + m) h xs c)
   unfolding enterAllWith
   enterAll-alike h [] c f low = record { same = refl; low = low }
   enterAll-alike h (x ∷ xs) c f low =
@@ -90,7 +92,8 @@ module _ (p m : ℕ) where
       let b = enterAll-alike h xs (enterWith p h x c) (λ y k. f y (there k)) (a .low) in
       record { same = ap (enterAllWith (p + m) h xs) (a .same) ∙ b .same; low = b .low }
 
-  from-alike : (h : ℕ) (c : Cell) (log : List Did) → AllFit log → c .profile < 256 ^ p → Alike (cellFromWith p h c log) (cellFromWith (p + m) h c log)
+  from-alike : (h : ℕ) (c : Cell) (log : List Did) → AllFit log → c .profile < 256 ^ p →
+      Alike (cellFromWith p h c log) (cellFromWith (p + m) h c log)
   unfolding cellFromWith
   from-alike h c [] f low = record { same = refl; low = low }
   from-alike h c (d ∷ ds) f low =
@@ -119,7 +122,8 @@ module _ (p m : ℕ) where
       let ok : Bool = passes (changesRefusalWith p n (d .changes)) in
       let both = and-true ok (canRunWith p seen d) h in
       let old = formed-of (λ (x : Change). x .history) (changeMisfitsWith p) n (d .changes) (passes-none _ (true-T ok (both .0))) in
-      let fits : Each Fits (d .changes) = λ x k. not-false (operandFitsWith p (ruleOf (x .rule)) (x .version) (x .operand)) (old .fit x k) in
+      let fits : Each Fits (d .changes) =
+      λ x k. not-false (operandFitsWith p (ruleOf (x .rule)) (x .version) (x .operand)) (old .fit x k) in
       let new : changesRefusalWith (p + m) n (d .changes) ≡ none =
       formed-none (λ (x : Change). x .history) (changeMisfitsWith (p + m)) n (d .changes)
       (record {

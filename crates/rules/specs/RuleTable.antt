@@ -152,7 +152,8 @@ abbrev pub versions : List Case
 versions =
     -- inc: "U = C + 1"; "version U"
     bad "(inc 0 3 2 0)" ∷ bad "(inc 0 4 2 0)" ∷ taken "(inc 0 5 2 0)" "70" ∷ bad "(inc 0 6 2 0)"
-    ∷ staysBack "(inc 0 3 2 0)" ∷ staysBack "(inc 0 4 2 0)" ∷ reruns "(inc 0 5 2 0)" "5 4 4 2 578437695752307200" ∷ staysBack "(inc 0 6 2 0)"
+    ∷ staysBack "(inc 0 3 2 0)" ∷ staysBack "(inc 0 4 2 0)" ∷ reruns "(inc 0 5 2 0)" "5 4 4 2 578437695752307200"
+    ∷ staysBack "(inc 0 6 2 0)"
     ∷ addRefused "(inc 0 3 0)" "8" ∷ addRefused "(inc 0 4 0)" "8"
     ∷ runs "(inc 0 5 0)" "578437695752307200" "(inc 0 5 2 0)" "5 4 4 2 578437695752307200" ∷ waits "(inc 0 6 0)"
     -- set: "U > C"; "version U"
@@ -162,7 +163,8 @@ versions =
     ∷ runs "(set 0 5 7)" "7" "(set 0 5 2 7)" "5 4 4 2 7" ∷ runs "(set 0 6 7)" "7" "(set 0 6 2 7)" "6 4 4 2 7"
     -- not: "U = C"; "version kept"
     ∷ bad "(not 0 3 2 0)" ∷ taken "(not 0 4 2 0)" "70" ∷ bad "(not 0 5 2 0)" ∷ bad "(not 0 6 2 0)"
-    ∷ staysBack "(not 0 3 2 0)" ∷ reruns "(not 0 4 2 0)" "4 4 4 2 578437695752307201" ∷ staysBack "(not 0 5 2 0)" ∷ staysBack "(not 0 6 2 0)"
+    ∷ staysBack "(not 0 3 2 0)" ∷ reruns "(not 0 4 2 0)" "4 4 4 2 578437695752307201"
+    ∷ staysBack "(not 0 5 2 0)" ∷ staysBack "(not 0 6 2 0)"
     ∷ addRefused "(not 0 3 0)" "9" ∷ runs "(not 0 4 0)" "578437695752307201" "(not 0 4 2 0)" "4 4 4 2 578437695752307201"
     ∷ waits "(not 0 5 0)" ∷ waits "(not 0 6 0)"
     -- unk: "U is written 0"; "as inc; version C + 1", and recorded as inc
@@ -184,10 +186,12 @@ operands =
     ∷ reruns "(inc 0 5 2 2047)" "5 4 4 2 18376663423120507393" ∷ redoRefused "(inc 0 5 2 2048)" "5"
     ∷ runs "(inc 0 5 1024)" "578437674277470721" "(inc 0 5 2 1024)" "5 4 4 2 578437674277470721"
     ∷ runs "(inc 0 5 2047)" "18376663423120507393" "(inc 0 5 2 2047)" "5 4 4 2 18376663423120507393" ∷ addRefused "(inc 0 5 2048)" "5"
-    ∷ taken "(set 0 5 2 0)" "70" ∷ taken "(set 0 5 2 4294967296)" "79" ∷ taken "(set 0 5 2 18446744073709551615)" "89" ∷ bad "(set 0 5 2 18446744073709551616)"
+    ∷ taken "(set 0 5 2 0)" "70" ∷ taken "(set 0 5 2 4294967296)" "79" ∷ taken "(set 0 5 2 18446744073709551615)" "89"
+    ∷ bad "(set 0 5 2 18446744073709551616)"
     ∷ reruns "(set 0 5 2 4294967295)" "5 4 4 2 4294967295" ∷ reruns "(set 0 5 2 4294967296)" "5 4 4 2 4294967296"
     ∷ reruns "(set 0 5 2 18446744073709551615)" "5 4 4 2 18446744073709551615" ∷ redoRefused "(set 0 5 2 18446744073709551616)" "1"
-    ∷ runs "(set 0 5 0)" "0" "(set 0 5 2 0)" "5 4 4 2 0" ∷ runs "(set 0 5 4294967296)" "4294967296" "(set 0 5 2 4294967296)" "5 4 4 2 4294967296"
+    ∷ runs "(set 0 5 0)" "0" "(set 0 5 2 0)" "5 4 4 2 0"
+    ∷ runs "(set 0 5 4294967296)" "4294967296" "(set 0 5 2 4294967296)" "5 4 4 2 4294967296"
     ∷ runs "(set 0 5 18446744073709551615)" "18446744073709551615" "(set 0 5 2 18446744073709551615)" "5 4 4 2 18446744073709551615"
     ∷ addRefused "(set 0 5 18446744073709551616)" "1"
     ∷ bad "(not 0 4 2 1)" ∷ redoRefused "(not 0 4 2 1)" "5" ∷ addRefused "(not 0 4 1)" "5"
@@ -371,7 +375,8 @@ computed =
     unfold reading.field reading.rule reading.doneRule reading.update reading.change reading.one reading.items reading.tail in
     unfold reading.did reading.addForm reading.redoForm reading.numbered reading.command readDid readSite readCommand readWhole in
     unfold replacedWith profileOf enteredWith enterWith enterAllWith cellFromWith cellWith touches runsAt canRunWith in
-    unfold check andThen wrongCount noSuchHistory historyTwice updateMisfits changeMisfitsWith formRefusal updatesRefusal changesRefusalWith in
+    unfold check andThen wrongCount noSuchHistory historyTwice updateMisfits changeMisfitsWith in
+    unfold formRefusal updatesRefusal changesRefusalWith in
     unfold ended didsText logText linesFrom restFrom historiesFit acceptsWith readLinesWith readFirstWith readLogWith in
     unfold logBytes versionAt liveDone live asks dry becameDry rose lineBytes in
     unfold unless blockedBy blocked mayRunNow ready attempt tryFrom madeReady nothingOrders idPending idDone in

@@ -50,8 +50,8 @@ versionAfter Set c u = u
 versionAfter Not c u = c
 versionAfter Unk c u = c + 1
 
--- The operand's range where a profile has so many parts: a part × 256 + a byte of inc and unk, a whole profile of set, "operand 0" of not; "U is
--- written 0" of unk.
+-- The operand's range where a profile has so many parts: a part × 256 + a byte of inc and unk, a whole profile of set, "operand 0" of
+-- not; "U is written 0" of unk.
 abbrev pub operandFitsWith : ℕ → Rule → ℕ → ℕ → Bool
 operandFitsWith parts Inc u o = ltb o (256 * parts)
 operandFitsWith parts Set u o = ltb o (256 ^ parts)

@@ -29,8 +29,13 @@ use Rattle.table.specs.Slots.{ruleNumber, ruleNamed, itemAt, PutItem, en
 -- ### Items and entries, read field by field
 
 pub item-read : (ws : List ℕ) (at : ℕ) {r : Rule} {h : ℕ} → r ≡ ruleNamed (getD ws at 0) → h ≡ within 256 (getD ws (at + 1) 0)
-    → record { rule = r; history = h; version = record { 0 = getD ws (at + 2) 0 }; place = record { 0 = getD ws (at + 3) 0 }; operand = getD ws (at + 4) 0 }
-    ≡ itemAt ws at
+    → record {
+      rule = r;
+      history = h;
+      version = record { 0 = getD ws (at + 2) 0 };
+      place = record { 0 = getD ws (at + 3) 0 };
+      operand = getD ws (at + 4) 0;
+    } ≡ itemAt ws at
 unfolding itemAt
 item-read ws at e f = rw (e, f)
 
@@ -225,7 +230,8 @@ item-put ws at x r room low e =
     let s = stores-at ws at r vs room in
     record {
       item =
-          item-is _ at x low (stores-first ws at r vs room ∙ e) (s 0 (omega arith)) (s 1 (omega arith)) (s 2 (omega arith)) (s 3 (omega arith));
+          item-is _ at x low (stores-first ws at r vs room ∙ e) (s 0 (omega arith)) (s 1 (omega arith)) (s 2 (omega arith))
+          (s 3 (omega arith));
       rest = stores-kept ws at r vs room;
     }
 

@@ -1,3 +1,4 @@
+-- Each rule's effect is its case of the definition; an operand that fits names one of the parts.
 use mathlib.Core.Path.{_≡_, subst}
 use mathlib.Core.Bool.{true}
 use borrow.Author.Tests.{ltb-true}
@@ -30,7 +31,8 @@ replace-part-requires-2 : tie.Need-replace-part-requires-2
 replace-part-requires-2 c κs =
     let a = c .before .before .args in
     let p = c .before .before .pre in
-    ltb-true (a .operand) 2048 (and-true-parts _ _ (subst (λ (r : Rule). operandFits r (p .0) (a .operand) ≡ true) (c .enum-told4 .given .1) (p .1)) .0)
+    let fits = subst (λ (r : Rule). operandFits r (p .0) (a .operand) ≡ true) (c .enum-told4 .given .1) (p .1) in
+    ltb-true (a .operand) 2048 (and-true-parts _ _ fits .0)
 
 returns : tie.Need-returns
 returns c = rw (c .before .enum-told .given .1) (c .replace-part .ensures)

@@ -1,3 +1,4 @@
+-- The profile of the history that item i names, read from the words.
 use denote.Ref.{now}
 use Prim.Native.Nat.{_<_}
 use mathlib.Core.Path.{sym, ap, subst, _∙_}

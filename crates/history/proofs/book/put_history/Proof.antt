@@ -1,3 +1,4 @@
+-- Three stores, at the numbers of history i alone.
 use denote.Ref.{now}
 use mathlib.Core.Path.{_≡_}
 use lib.ListN.{length}

@@ -1,3 +1,4 @@
+-- Five stores, at the words of the item alone; the history is a byte.
 use denote.Ref.{now}
 use Prim.Native.Nat.{_+_, _≤_, _<_}
 use native.Mathlib.Omega.{arith}
