@@ -13,3 +13,4 @@ pub mod Code
 pub mod SiteCalls
 pub mod SiteCallsLaws
 pub mod RefusedReply
+pub mod OlderExamples
