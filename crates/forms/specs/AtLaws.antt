@@ -1,19 +1,22 @@
 -- Laws of reading at a position of a list of bytes.
-use Prim.Native.Nat.{ℕ, _+_, _-_, _*_, _≤_, _<_}
+use Prim.Native.Nat.{ℕ, zero, suc, _+_, _-_, _*_, _≤_, _<_}
 use mathlib.Core.Path.{_≡_, refl, ap, sym, _∙_}
 use mathlib.Core.List.{List, [], _∷_}
 use mathlib.Core.Bool.{Bool, true, false, cond}
 use mathlib.Core.Logic.{_⊎_, ⊎-elim}
+use native.Mathlib.Omega.{arith}
 use native.Mathlib.Numerals.{add-one}
 use lib.ListN.{length, drop, getD, drop-of-length-le}
 use lib.Seq.{drop-cons}
-use lib.Dec.{eqb}
+use lib.Dec.{T, eqb}
 use borrow.Author.Tests.{lt-leb, eq-eqb, ne-eqb}
 use Rattle.forms.specs.Decimal.{isDigit, firstIsDigit, top, number, more, Step}
 use Rattle.forms.specs.Decimal.Step.{got, bad}
 use Rattle.forms.specs.Words.{word}
 use Rattle.forms.specs.Plain.{isLetter, firstIsLetter}
-use Rattle.forms.specs.Names.{name, name-stop, name-goes-on, name-none, name-step}
+use Rattle.forms.specs.Lists.{all}
+use Rattle.forms.specs.ListLaws.{T-true, and-left, and-right}
+use Rattle.forms.specs.Names.{name, name-stop, name-goes-on, name-none, name-step, name-unlike}
 use Rattle.forms.specs.DecimalLaws.{more-digit, more-stop}
 
 -- What stands at a position before the end.
@@ -77,6 +80,12 @@ letter-here s at h = ap firstIsLetter (at-cons s at h)
 pub letter-past : (s : List ℕ) (at : ℕ) → length s ≤ at → firstIsLetter (drop at s) ≡ false
 letter-past s at h = ap firstIsLetter (drop-of-length-le s h)
 
+-- each byte of a word is a letter
+letter-of : (w : List ℕ) (i : ℕ) → T (all isLetter w) → i < length w → isLetter (getD w i 0) ≡ true
+letter-of [] i t h = absurd (omega arith)
+letter-of (x ∷ w) zero t h = T-true (isLetter x) (and-left (isLetter x) (all isLetter w) t)
+letter-of (x ∷ w) (suc i) t h = letter-of w i (and-right (isLetter x) (all isLetter w) t) (omega arith)
+
 -- A word at a position: i letters of w were read.
 pub name-whole : (w s : List ℕ) (i next : ℕ) → length w ≤ i → firstIsLetter (drop next s) ≡ false
     → name (drop i w) (drop next s) ≡ got tt (drop next s)
@@ -92,14 +101,15 @@ module _ (w s : List ℕ) (i next : ℕ) (more : i < length w) where
   pub name-end : firstIsLetter (drop next s) ≡ false → name (drop i w) (drop next s) ≡ bad
   name-end e = at-letter ∙ name-none (getD w i 0) (drop (i + 1) w) (drop next s) e
 
-  module _ (within : next < length s) (letter : isLetter (getD s next 0) ≡ true) where
-    at-byte : name (drop i w) (drop next s) ≡ cond (eqb (getD w i 0) (getD s next 0)) (name (drop (i + 1) w) (drop (next + 1) s)) bad
-    at-byte =
-        at-letter ∙ ap (name (getD w i 0 ∷ drop (i + 1) w)) (at-cons s next within)
-        ∙ name-step (getD w i 0) (drop (i + 1) w) (getD s next 0) (drop (next + 1) s) letter
+  module _ (within : next < length s) where
+    at-byte : name (drop i w) (drop next s) ≡ name (getD w i 0 ∷ drop (i + 1) w) (getD s next 0 ∷ drop (next + 1) s)
+    at-byte = at-letter ∙ ap (name (getD w i 0 ∷ drop (i + 1) w)) (at-cons s next within)
 
     pub name-other : (getD s next 0 ≡ getD w i 0 → ⊥) → name (drop i w) (drop next s) ≡ bad
-    name-other h = at-byte ∙ (rw (ne-eqb (getD w i 0) (getD s next 0) (λ e. h (sym e))))
+    name-other h = at-byte ∙ name-unlike (getD w i 0) (drop (i + 1) w) (getD s next 0) (drop (next + 1) s) (ne-eqb (getD w i 0) (getD s next 0) (λ e. h (sym e)))
 
-    pub name-next : getD s next 0 ≡ getD w i 0 → name (drop i w) (drop next s) ≡ name (drop (i + 1) w) (drop (next + 1) s)
-    name-next h = at-byte ∙ (rw (eq-eqb (getD w i 0) (getD s next 0) (sym h)))
+    pub name-next : T (all isLetter w) → getD s next 0 ≡ getD w i 0 → name (drop i w) (drop next s) ≡ name (drop (i + 1) w) (drop (next + 1) s)
+    name-next t h =
+        let letter : isLetter (getD s next 0) ≡ true = ap isLetter h ∙ letter-of w i t more in
+        at-byte ∙ name-step (getD w i 0) (drop (i + 1) w) (getD s next 0) (drop (next + 1) s) letter
+        ∙ (rw (eq-eqb (getD w i 0) (getD s next 0) (sym h)))

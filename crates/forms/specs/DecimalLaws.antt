@@ -8,7 +8,7 @@ use native.Mathlib.Omega.{arith}
 use lib.Dec.{ltb, leb, eqb}
 use lib.ListN.{length, length-append}
 use borrow.Author.Tests.{ltb-true, ltb-false, leb-true, eqb-false, lt-ltb, le-ltb, le-leb, ne-eqb}
-use Rattle.forms.specs.Decimal.{digitsWithin, digits, Step, isDigit, firstIsDigit, top, more, number}
+use Rattle.forms.specs.Decimal.{digitsWithin, digits, twoDigits, Step, isDigit, firstIsDigit, top, more, number}
 use Rattle.forms.specs.Decimal.Step.{got, bad}
 
 pub lt-or-ge : (a b : ℕ) → (a < b) ⊎ (b ≤ a)
@@ -57,6 +57,24 @@ length-small n h = ap length (digits-small n h)
 
 pub length-large : (n : ℕ) → 10 ≤ n → length (digits n) ≡ length (digits (n / 10)) + 1
 length-large n h = ap length (digits-large n h) ∙ length-append (digits (n / 10)) ((48 + n % 10) ∷ [])
+
+-- Two digits, and two behind those of n / 100.
+pub digits-two : (n : ℕ) → 10 ≤ n → n < 100 → digits n ≡ twoDigits n
+digits-two n h k = digits-large n h ∙ ap (λ (l : List ℕ). l ++ ((48 + n % 10) ∷ [])) (digits-small (n / 10) (omega arith))
+
+pub digits-more : (n : ℕ) → 100 ≤ n → digits n ≡ digits (n / 100) ++ twoDigits (n % 100)
+digits-more n h =
+    digits-large n (omega arith)
+    ∙ ap (λ (l : List ℕ). l ++ ((48 + n % 10) ∷ [])) (digits-large (n / 10) (omega arith))
+    ∙ append-assoc (digits (n / 10 / 10)) ((48 + n / 10 % 10) ∷ []) ((48 + n % 10) ∷ [])
+    ∙ ap (λ (m : ℕ). digits m ++ ((48 + n / 10 % 10) ∷ (48 + n % 10) ∷ [])) (omega arith)
+    ∙ ap₂ (λ (a b : ℕ). digits (n / 100) ++ ((48 + a) ∷ (48 + b) ∷ [])) (omega arith) (omega arith)
+
+pub length-two : (n : ℕ) → 10 ≤ n → n < 100 → length (digits n) ≡ 2
+length-two n h k = ap length (digits-two n h k)
+
+pub length-more : (n : ℕ) → 100 ≤ n → length (digits n) ≡ length (digits (n / 100)) + 2
+length-more n h = ap length (digits-more n h) ∙ length-append (digits (n / 100)) (twoDigits (n % 100))
 
 -- Another digit behind those of v.
 pub digits-snoc : (v d : ℕ) → 0 < v → d < 10 → digits (v * 10 + d) ≡ digits v ++ ((48 + d) ∷ [])

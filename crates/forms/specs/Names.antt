@@ -59,6 +59,14 @@ name-step c w b l e = rw e (go (eqb c b) (same w (letterRun l)) (got tt (behindR
     go true q r = refl
     go false q r = refl
 
+-- another byte than the word's
+pub name-unlike : (c : ℕ) (w : List ℕ) (b : ℕ) (l : List ℕ) → eqb c b ≡ false → name (c ∷ w) (b ∷ l) ≡ bad
+name-unlike c w b l n = go (isLetter b) refl
+  where
+    go : (q : Bool) → isLetter b ≡ q → name (c ∷ w) (b ∷ l) ≡ bad
+    go true e = name-step c w b l e ∙ ap (λ (x : Bool). cond x (name w l) bad) n
+    go false e = name-none c w (b ∷ l) e
+
 -- ### A word between a bracket and the bracket or space behind it
 
 -- a bracket, the word w and the byte m
@@ -94,10 +102,6 @@ word-then [] m (b ∷ l) t f = go (isLetter b) refl
 word-then (c ∷ w) m [] t f = unfold name in refl
 word-then (c ∷ w) m (b ∷ l) t f = go (eqb c b) refl (word-then w m l (and-right (isLetter c) (all isLetter w) t) f)
   where
-    none : (q : Bool) → isLetter b ≡ q → eqb c b ≡ false → name (c ∷ w) (b ∷ l) ≡ bad
-    none true e n = name-step c w b l e ∙ ap (λ (x : Bool). cond x (name w l) bad) n
-    none false e n = name-none c w (b ∷ l) e
-
     go : (q : Bool) → eqb c b ≡ q → word (w ++ (m ∷ [])) l ≡ (bind (name w l) λ u k. word (m ∷ []) k)
         → cond q (word (w ++ (m ∷ [])) l) bad ≡ bind (name (c ∷ w) (b ∷ l)) λ u k. word (m ∷ []) k
     go true e ih =
@@ -105,7 +109,7 @@ word-then (c ∷ w) m (b ∷ l) t f = go (eqb c b) refl (word-then w m l (and-ri
         ap (λ (x : ℕ). isLetter x) (sym (eqb-true c b e)) ∙ T-true (isLetter c) (and-left (isLetter c) (all isLetter w) t) in
         ih ∙ sym (ap (λ (x : Step (Unit {0})). bind x λ u k. word (m ∷ []) k)
         (name-step c w b l letter ∙ ap (λ (x : Bool). cond x (name w l) bad) e))
-    go false e ih = sym (ap (λ (x : Step (Unit {0})). bind x λ u k. word (m ∷ []) k) (none (isLetter b) refl e))
+    go false e ih = sym (ap (λ (x : Step (Unit {0})). bind x λ u k. word (m ∷ []) k) (name-unlike c w b l e))
 
 word-open : (v l : List ℕ) → word (40 ∷ v) l ≡ bind (word (40 ∷ []) l) λ u k. word v k
 unfolding word

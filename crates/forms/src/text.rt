@@ -9,17 +9,27 @@ use super::lengths::shown_numbers;
 use super::writer::LineForm;
 use super::writer::refusal_number;
 use super::writer::write_word;
-ghost use Prim.Native.Nat.{_+_, _≤_};
+ghost use Prim.Native.Nat.{_+_, _≤_, _<_};
 ghost use mathlib.Core.List.{[], _∷_};
 ghost use lib.ListN.{length};
-ghost use Rattle.forms.specs.Decimal.{digits};
+ghost use Rattle.forms.specs.Decimal.{digits, twoDigits};
 ghost use Rattle.forms.specs.Forms.{doneRuleText, fieldText, fieldsText, changeText, didText, numbersText};
 ghost use Rattle.forms.specs.Forms.{twoText, answerText, outcomeText, Finished, Persisted};
 ghost use Rattle.forms.specs.Held.{asChange, didOf, outcomeWith};
 ghost use Rattle.forms.specs.Write.{Wrote, heldText, listedText, pairText};
 ghost use Rattle.forms.specs.Write.{HeldInRange, lineText};
 
-// Writes a number in decimal at a position, and returns the position behind it.
+// Writes two digits at a position, and returns the position behind them.
+fn write_two_digits(buf: &mut [u8], at: usize, x: u64) -> usize
+    requires { ⌜ (x < 100) × (at + 2 ≤ length (now buf)) ⌝ }
+    ensures { λ n. ⌜ Wrote (now (buf .entry)) at (twoDigits x) n (now (buf .exit)) ⌝ }
+{
+    buf[at] = b'0' + (x / 10) as u8;
+    buf[at + 1] = b'0' + (x % 10) as u8;
+    at + 2
+}
+
+// Writes a number in decimal at a position, and returns the position behind it: two digits with each step.
 pub(crate) fn write_number(buf: &mut [u8], at: usize, x: u64) -> usize
     requires { ⌜ at + length (digits x) ≤ length (now buf) ⌝ }
     ensures { λ n. ⌜ Wrote (now (buf .entry)) at (digits x) n (now (buf .exit)) ⌝ }
@@ -28,9 +38,11 @@ pub(crate) fn write_number(buf: &mut [u8], at: usize, x: u64) -> usize
         buf[at] = b'0' + x as u8;
         return at + 1;
     }
-    let next = write_number(buf, at, x / 10);
-    buf[next] = b'0' + (x % 10) as u8;
-    next + 1
+    if x < 100 {
+        return write_two_digits(buf, at, x);
+    }
+    let next = write_number(buf, at, x / 100);
+    write_two_digits(buf, next, x % 100)
 }
 
 // Writes a space and a number.

@@ -6,7 +6,8 @@ ghost use lib.Dec.{T};
 ghost use lib.ListN.{length, drop};
 ghost use Rattle.forms.specs.Decimal.{number};
 ghost use Rattle.forms.specs.Words.{word};
-ghost use Rattle.forms.specs.Plain.{isMark, firstIsLetter};
+ghost use Rattle.forms.specs.Lists.{all};
+ghost use Rattle.forms.specs.Plain.{isLetter, isMark, firstIsLetter};
 ghost use Rattle.forms.specs.Names.{name, wordText, WordIn};
 ghost use Rattle.forms.specs.Reading.{field};
 ghost use Rattle.forms.specs.Read.{kindOf, letterKind, markOf, GrownTo, Is, numberSeen, wordSeen};
@@ -154,9 +155,9 @@ fn letter_at(s: &[u8], at: usize) -> bool
     false
 }
 
-// Reads the run of letters at a position, which must be the word w.
+// Reads the run of letters at a position, which must be the word w: a byte that is one of w's is a letter.
 fn read_name(s: &[u8], at: usize, w: &[u8]) -> Word
-    requires { ⌜ at ≤ length (now s) ⌝ }
+    requires { ⌜ (at ≤ length (now s)) × T (all isLetter (now w)) ⌝ }
     ensures { λ r. ⌜ Is (now (s .entry)) (name (now (w .entry)) (drop at (now (s .entry)))) (wordSeen r) ⌝ }
 {
     let mut i: usize = 0;
@@ -165,11 +166,7 @@ fn read_name(s: &[u8], at: usize, w: &[u8]) -> Word
         if next == s.len() {
             return Word::Bad;
         }
-        let b = s[next];
-        if !is_letter(kind_of(b)) {
-            return Word::Bad;
-        }
-        if b != w[i] {
+        if s[next] != w[i] {
             return Word::Bad;
         }
         i += 1;
