@@ -106,9 +106,12 @@ module _ (w s : List ℕ) (i next : ℕ) (more : i < length w) where
     at-byte = at-letter ∙ ap (name (getD w i 0 ∷ drop (i + 1) w)) (at-cons s next within)
 
     pub name-other : (getD s next 0 ≡ getD w i 0 → ⊥) → name (drop i w) (drop next s) ≡ bad
-    name-other h = at-byte ∙ name-unlike (getD w i 0) (drop (i + 1) w) (getD s next 0) (drop (next + 1) s) (ne-eqb (getD w i 0) (getD s next 0) (λ e. h (sym e)))
+    name-other h =
+        at-byte ∙ name-unlike (getD w i 0) (drop (i + 1) w) (getD s next 0) (drop (next + 1) s)
+        (ne-eqb (getD w i 0) (getD s next 0) (λ e. h (sym e)))
 
-    pub name-next : T (all isLetter w) → getD s next 0 ≡ getD w i 0 → name (drop i w) (drop next s) ≡ name (drop (i + 1) w) (drop (next + 1) s)
+    pub name-next : T (all isLetter w) → getD s next 0 ≡ getD w i 0
+        → name (drop i w) (drop next s) ≡ name (drop (i + 1) w) (drop (next + 1) s)
     name-next t h =
         let letter : isLetter (getD s next 0) ≡ true = ap isLetter h ∙ letter-of w i t more in
         at-byte ∙ name-step (getD w i 0) (drop (i + 1) w) (getD s next 0) (drop (next + 1) s) letter
