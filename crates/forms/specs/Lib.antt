@@ -20,7 +20,7 @@ pub mod HeldLaws
 pub mod Read
 pub mod SeenLaws
 pub mod AtLaws
-pub mod KindLaws
+pub mod ByteLaws
 pub mod ItemLaws
 pub mod FromLaws
 pub mod LoopLaws

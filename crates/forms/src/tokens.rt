@@ -10,28 +10,31 @@ ghost use Rattle.forms.specs.Lists.{all};
 ghost use Rattle.forms.specs.Plain.{isLetter, isMark, firstIsLetter};
 ghost use Rattle.forms.specs.Names.{name, wordText, WordIn};
 ghost use Rattle.forms.specs.Reading.{field};
-ghost use Rattle.forms.specs.Read.{kindOf, letterKind, markOf, GrownTo, Is, numberSeen, wordSeen};
+ghost use Rattle.forms.specs.Read.{digitOf, GrownTo, Is, numberSeen, wordSeen};
 
-// What a byte of a line is.
-enum Kind {
-    Digit(u8),
-    Letter,
-    Open,
-    Close,
-    Space,
+// A digit of a line, or another byte.
+enum Digit {
+    Value(u8),
     Other,
 }
 
-fn kind_of(b: u8) -> Kind
-    ensures { λ r. ⌜ r ≡ kindOf b ⌝ }
+// The value of a digit.
+fn digit_of(b: u8) -> Digit
+    ensures { λ r. ⌜ r ≡ digitOf b ⌝ }
 {
     match b {
-        b'0'..=b'9' => Kind::Digit(b - b'0'),
-        b'a'..=b'z' => Kind::Letter,
-        b'(' => Kind::Open,
-        b')' => Kind::Close,
-        b' ' => Kind::Space,
-        _ => Kind::Other,
+        b'0'..=b'9' => Digit::Value(b - b'0'),
+        _ => Digit::Other,
+    }
+}
+
+// Whether a byte is a lower-case letter.
+fn is_letter(b: u8) -> bool
+    ensures { λ r. ⌜ r ≡ isLetter b ⌝ }
+{
+    match b {
+        b'a'..=b'z' => true,
+        _ => false,
     }
 }
 
@@ -41,13 +44,17 @@ enum Grown {
     Refused,
 }
 
-// The value whose digits are those of `value` and then `d`: none after a 0, and none above 2^64 - 1.
+// The value whose digits are those of `value` and then `d`: none after a 0, and none above 2^64 - 1. Below 10^18 every digit fits.
 fn grow(value: u64, d: u8) -> Grown
     requires { ⌜ d < 10 ⌝ }
     ensures { λ r. ⌜ GrownTo value d r ⌝ }
 {
     if value == 0 {
         return Grown::Refused;
+    }
+    if value < 1000000000000000000 {
+        let small = value * 10 + d as u64;
+        return Grown::Value(small);
     }
     if 1844674407370955161 < value {
         return Grown::Refused;
@@ -57,7 +64,8 @@ fn grow(value: u64, d: u8) -> Grown
             return Grown::Refused;
         }
     }
-    Grown::Value(value * 10 + d as u64)
+    let grown = value * 10 + d as u64;
+    Grown::Value(grown)
 }
 
 // A number that was read, with the position behind it.
@@ -75,14 +83,14 @@ pub(crate) fn read_number(s: &[u8], at: usize) -> Number
         return Number::Bad;
     }
     let b = s[at];
-    let Kind::Digit(first) = kind_of(b) else {
+    let Digit::Value(first) = digit_of(b) else {
         return Number::Bad;
     };
     let mut value = first as u64;
     let mut next = at + 1;
     while next < s.len() {
         let c = s[next];
-        let Kind::Digit(d) = kind_of(c) else {
+        let Digit::Value(d) = digit_of(c) else {
             return Number::At { value, next };
         };
         let Grown::Value(w) = grow(value, d) else {
@@ -100,34 +108,6 @@ pub(crate) enum Word {
     Bad,
 }
 
-// Whether a byte of a kind is a letter.
-fn is_letter(k: Kind) -> bool
-    ensures { λ r. ⌜ r ≡ letterKind k ⌝ }
-{
-    match k {
-        Kind::Digit(_) => false,
-        Kind::Letter => true,
-        Kind::Open => false,
-        Kind::Close => false,
-        Kind::Space => false,
-        Kind::Other => false,
-    }
-}
-
-// The byte of a bracket or of the space, and 0 for every other kind.
-fn mark_of(k: Kind) -> u8
-    ensures { λ r. ⌜ r ≡ markOf k ⌝ }
-{
-    match k {
-        Kind::Digit(_) => 0,
-        Kind::Letter => 0,
-        Kind::Open => b'(',
-        Kind::Close => b')',
-        Kind::Space => b' ',
-        Kind::Other => 0,
-    }
-}
-
 // Reads the bracket or the space m at a position.
 pub(crate) fn read_mark(s: &[u8], at: usize, m: u8) -> Word
     requires { ⌜ (at ≤ length (now s)) × T (isMark m) ⌝ }
@@ -137,9 +117,9 @@ pub(crate) fn read_mark(s: &[u8], at: usize, m: u8) -> Word
         return Word::Bad;
     }
     let b = s[at];
-    let found = mark_of(kind_of(b));
-    if found == m {
-        return Word::Behind(at + 1);
+    if b == m {
+        let next = at + 1;
+        return Word::Behind(next);
     }
     Word::Bad
 }
@@ -150,7 +130,7 @@ fn letter_at(s: &[u8], at: usize) -> bool
 {
     if at < s.len() {
         let b = s[at];
-        return is_letter(kind_of(b));
+        return is_letter(b);
     }
     false
 }
