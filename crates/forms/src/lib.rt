@@ -87,6 +87,8 @@ pub enum Refusal {
     AboveLimit,
     OutOfTurn,
     BadLog,
+    WrongThreshold,
+    NotSent,
     Conflict,
 }
 

@@ -24,6 +24,10 @@ pub mod Run
 pub mod GoodLaws
 pub mod Examples
 pub mod KeeperExamples
+pub mod Records
+pub mod RecordLaws
+pub mod RecordExamples
+pub mod RecordMasks
 pub mod When
 pub mod WhenLaws
 pub mod LiveLaws
