@@ -26,6 +26,7 @@ pub mod Examples
 pub mod KeeperExamples
 pub mod Records
 pub mod RecordLaws
+pub mod RecordPromises
 pub mod RecordExamples
 pub mod RecordMasks
 pub mod When

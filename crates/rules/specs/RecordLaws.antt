@@ -1,25 +1,26 @@
--- Laws of records (02, (e)): a persistent operation stays so while its record stands, a report that comes twice changes nothing, at most 64
--- records of distinct ids, and a freed entry is used again.
+-- Laws of records (02, (e)): what every call leaves of an operation's record; so the operation counts exactly when that many full copies
+-- have reported, and stays so while its record stands.
 use mathlib.Core.Path.{_≡_, refl, sym, ap, ap₂, _∙_}
-use mathlib.Core.Bool.{Bool, true, false, not, cond, _||_, or-true}
+use mathlib.Core.Bool.{Bool, true, false, not, cond, _&&_, _||_}
 use mathlib.Core.Option.{Option, none, some}
-use mathlib.Core.List.{List, [], _∷_, _++_, map}
+use mathlib.Core.List.{List, [], _∷_, _++_}
 use mathlib.Core.List.{List·Memᴰ as Mem, List·Memᴰ·head as here, List·Memᴰ·tail as there}
 use Prim.Native.Nat.{ℕ, _≤_, _<_}
 use native.Mathlib.Omega.{arith}
 use lib.Dec.{leb, ltb, eqb}
-use lib.ListN.{length, length-append, length-map}
-use borrow.Author.Tests.{le-leb, leb-true, eq-eqb, ne-eqb, eqb-true}
-use Rattle.forms.specs.Lists.{keep, find}
-use Rattle.forms.specs.ListLaws.{T-true, true-T, false-T, any-of, length-keep, length-keep-less}
+use lib.ListN.{length}
+use borrow.Author.Tests.{le-leb, leb-true, eq-eqb, ne-eqb, eqb-true, eqb-false}
+use Rattle.forms.specs.Lists.{any, keep, find}
+use Rattle.forms.specs.ListLaws.{mem-along, true-T, false-T, any-of}
 use Rattle.forms.specs.declared.Refusal.{Refusal}
-use Rattle.forms.specs.declared.Refusal.the-variants.{IdPending, TableFull, NotSent}
+use Rattle.forms.specs.declared.Refusal.the-variants.{IdPending, TableFull, WrongThreshold, NotSent}
 use Rattle.rules.specs.Checks.{check}
-use Rattle.rules.specs.CheckLaws.{check-none, not-le, lt-not-le}
+use Rattle.rules.specs.CheckLaws.{check-none, or-false-left}
 use Rattle.rules.specs.WorkLaws.{find-at}
-use Rattle.rules.specs.Records.{recordLimit, isIn, withSite, Record, fullReports, counts, isFor, ok, counted}
-use Rattle.rules.specs.Records.{unlessChecked, recordsFull, recordRefusal, recordNew, onRecord, withReport, reportedIn, reportOn, report}
-use Rattle.rules.specs.Records.{question, forgetRecord, RecordCall, recording, reporting, asking, forgetting, recordReply, recordsAfter, recordsRun}
+use Rattle.rules.specs.Records.{isIn, sitesOf, withSite, Record, newRecord, fullReports, counts, isFor, changeFirst, dropFirst}
+use Rattle.rules.specs.Records.{ok, counted, unlessChecked, recorded, recordsFull, wrongThreshold, fullNotSent, recordRefusal}
+use Rattle.rules.specs.Records.{recordNew, onRecord, withReport, reportedIn, reportOn, report, question, forgetRecord}
+use Rattle.rules.specs.Records.{RecordCall, recording, reporting, asking, forgetting, recordReply, recordsAfter, recordsRun}
 
 -- ### Finding
 
@@ -33,312 +34,332 @@ module _ {A : Type 0} (f : A → Bool) where
       go true q below = q
       go false q below = below q
 
-  -- a map that leaves the test as it is
-  find-map : (g : A → A) → ((x : A) → f (g x) ≡ f x) → (l : List A) (x : A) → find f l ≡ some x → find f (map g l) ≡ some (g x)
-  find-map g h [] x e = absurd (let z : _≡_ {A = ℕ} 0 1 = cc in omega arith)
-  find-map g h (y ∷ l) x e = rw (h y) (go (f y) e (λ q. find-map g h l x q))
+  -- where none passes, the first of what follows does
+  find-behind : (l : List A) (x : A) → any f l ≡ false → f x ≡ true → find f (l ++ (x ∷ [])) ≡ some x
+  find-behind [] x e h = rw h
+  find-behind (y ∷ l) x e h = go (f y) e (λ q. find-behind l x q h)
     where
-      go : (b : Bool) → cond b (some y) (find f l) ≡ some x → (find f l ≡ some x → find f (map g l) ≡ some (g x))
-          → cond b (some (g y)) (find f (map g l)) ≡ some (g x)
-      go true q below = let z : y ≡ x = cc in ap (λ (w : A). some (g w)) z
+      go : (b : Bool) → (b || any f l) ≡ false → (any f l ≡ false → find f (l ++ (x ∷ [])) ≡ some x)
+          → cond b (some y) (find f (l ++ (x ∷ []))) ≡ some x
+      go true q below = absurd (let z : _≡_ {A = ℕ} 0 1 = cc in omega arith)
       go false q below = below q
 
-  -- a filter that leaves what is found
-  find-keep : (g : A → Bool) (l : List A) (x : A) → ((y : A) → f y ≡ true → g y ≡ true) → find f l ≡ some x → find f (keep g l) ≡ some x
-  find-keep g [] x h e = absurd (let z : _≡_ {A = ℕ} 0 1 = cc in omega arith)
-  find-keep g (y ∷ l) x h e = go (f y) refl e (λ q. find-keep g l x h q)
+  -- a change that leaves the test as it is, of the element that is found
+  pub find-changed : (g : A → A) → ((x : A) → f (g x) ≡ f x) → (l : List A) (x : A) → find f l ≡ some x
+      → find f (changeFirst f g l) ≡ some (g x)
+  find-changed g h [] x e = absurd (let z : _≡_ {A = ℕ} 0 1 = cc in omega arith)
+  find-changed g h (y ∷ l) x e = go (f y) refl e (λ q. find-changed g h l x q)
     where
-      skip : (b : Bool) → f y ≡ false → find f (keep g l) ≡ some x → find f (cond b (y ∷ keep g l) (keep g l)) ≡ some x
-      skip true p q = rw p q
-      skip false p q = q
+      go : (b : Bool) → f y ≡ b → cond b (some y) (find f l) ≡ some x → (find f l ≡ some x → find f (changeFirst f g l) ≡ some (g x))
+          → find f (cond b (g y ∷ l) (y ∷ changeFirst f g l)) ≡ some (g x)
+      go true p q below = let z : y ≡ x = cc in rw (h y, p) (ap (λ (w : A). some (g w)) z)
+      go false p q below = rw p (below q)
 
-      go : (b : Bool) → f y ≡ b → cond b (some y) (find f l) ≡ some x → (find f l ≡ some x → find f (keep g l) ≡ some x)
-          → find f (keep g (y ∷ l)) ≡ some x
-      go true p q below = rw (h y p, p) q
-      go false p q below = skip (g y) p (below q)
-
--- ### Counts only rise
-
-module _ {A : Type 0} (f g : A → Bool) (wider : (x : A) → f x ≡ true → g x ≡ true) where
-  pub length-keep-wider : (l : List A) → length (keep f l) ≤ length (keep g l)
-  length-keep-wider [] = omega arith
-  length-keep-wider (x ∷ l) = go (f x) (g x) refl refl (length-keep-wider l)
+  -- .. of another element
+  find-beside : (p : A → Bool) (g : A → A) → ((x : A) → f (g x) ≡ f x) → ((x : A) → f x ≡ true → p x ≡ false) → (l : List A)
+      → find f (changeFirst p g l) ≡ find f l
+  find-beside p g h apart [] = refl
+  find-beside p g h apart (y ∷ l) = go (p y) (f y) refl refl (find-beside p g h apart l)
     where
-      go : (a b : Bool) → f x ≡ a → g x ≡ b → length (keep f l) ≤ length (keep g l)
-          → length (cond a (x ∷ keep f l) (keep f l)) ≤ length (cond b (x ∷ keep g l) (keep g l))
-      go true true p q h = omega arith
-      go true false p q h = let z : _≡_ {A = ℕ} 0 1 = cc (wider x p) in absurd (omega arith)
-      go false true p q h = omega arith
-      go false false p q h = h
+      go : (a b : Bool) → p y ≡ a → f y ≡ b → find f (changeFirst p g l) ≡ find f l
+          → find f (cond a (g y ∷ l) (y ∷ changeFirst p g l)) ≡ cond b (some y) (find f l)
+      go true true q r below = let z : _≡_ {A = ℕ} 0 1 = cc (apart y r) in absurd (omega arith)
+      go true false q r below = rw (h y, r)
+      go false true q r below = rw r
+      go false false q r below = rw r below
 
--- A site that is there stays there.
-in-with : (s x : ℕ) (xs : List ℕ) → isIn x xs ≡ true → isIn x (withSite s xs) ≡ true
-unfolding withSite
-in-with s x [] e = let z : _≡_ {A = ℕ} 0 1 = cc in absurd (omega arith)
-in-with s x (y ∷ ys) e = go (eqb s y) (ltb s y) (in-with s x ys)
-  where
-    later : (b : Bool) → (b || isIn x ys) ≡ true → (isIn x ys ≡ true → isIn x (withSite s ys) ≡ true) → (b || isIn x (withSite s ys)) ≡ true
-    later true q below = refl
-    later false q below = below q
-
-    go : (a b : Bool) → (isIn x ys ≡ true → isIn x (withSite s ys) ≡ true) → isIn x (cond a (y ∷ ys) (cond b (s ∷ y ∷ ys) (y ∷ withSite s ys))) ≡ true
-    go true b below = e
-    go false true below = rw e (or-true (eqb x s))
-    go false false below = later (eqb x y) e below
-
--- A site that comes twice is there once.
-with-again : (s : ℕ) (xs : List ℕ) → withSite s (withSite s xs) ≡ withSite s xs
-unfolding withSite
-with-again s [] = rw (eq-eqb s s refl)
-with-again s (y ∷ ys) = go (eqb s y) (ltb s y) refl refl (with-again s ys)
-  where
-    go : (a b : Bool) → eqb s y ≡ a → ltb s y ≡ b → withSite s (withSite s ys) ≡ withSite s ys
-        → withSite s (cond a (y ∷ ys) (cond b (s ∷ y ∷ ys) (y ∷ withSite s ys))) ≡ cond a (y ∷ ys) (cond b (s ∷ y ∷ ys) (y ∷ withSite s ys))
-    go true b p q below = rw p
-    go false true p q below = rw (eq-eqb s s refl)
-    go false false p q below = rw (p, q) (ap {B = List ℕ} (λ l. y ∷ l) below)
-
--- A report takes nothing from what counts.
-pub counts-rise : (s : ℕ) (r : Record) → counts r ≡ true → counts (withReport s r) ≡ true
-unfolding counts fullReports
-counts-rise s r e =
-    let more : length (keep (λ (x : ℕ). isIn x (r .reported)) (r .full)) ≤ length (keep (λ (x : ℕ). isIn x (withSite s (r .reported))) (r .full)) =
-    length-keep-wider (λ (x : ℕ). isIn x (r .reported)) (λ (x : ℕ). isIn x (withSite s (r .reported))) (λ x q. in-with s x (r .reported) q) (r .full)
-    in
-    let enough : r .threshold ≤ length (keep (λ (x : ℕ). isIn x (r .reported)) (r .full)) = leb-true _ _ e in
-    let still : r .threshold ≤ length (keep (λ (x : ℕ). isIn x (withSite s (r .reported))) (r .full)) = omega arith in
-    le-leb _ _ still
-
--- "It counts exactly when that many full copies have reported."
-pub counts-exactly : (r : Record) → (counts r ≡ true → r .threshold ≤ fullReports r) × (r .threshold ≤ fullReports r → counts r ≡ true)
-unfolding counts
-counts-exactly r = (λ e. leb-true _ _ e, λ h. le-leb _ _ h)
-
--- ### "a persistent operation stays so while its record stands"
-
--- The operation has a record, and counts as persistent.
-pub record Persistent (id : ℕ) (rs : List Record) : Type 0 where
-  pub entry : Record
-  pub found : find (isFor id) rs ≡ some entry
-  pub enough : counts entry ≡ true
-
-pub question-yes : (id : ℕ) (rs : List Record) → Persistent id rs → question id rs ≡ counted rs true
-unfolding question onRecord
-question-yes id rs p = rw (p .found) (ap (λ (b : Bool). counted rs b) (p .enough))
-
-pub yes-persistent : (id : ℕ) (rs : List Record) → question id rs ≡ counted rs true → Persistent id rs
-unfolding question onRecord
-yes-persistent id rs e = go (find (isFor id) rs) refl e
-  where
-    go : (o : Option Record) → find (isFor id) rs ≡ o → onRecord o (λ r. counted rs (counts r)) ≡ counted rs true → Persistent id rs
-    go none p q = let z : _≡_ {A = ℕ} 0 1 = cc in absurd (omega arith)
-    go (some r) p q = let z : counts r ≡ true = cc in record { entry = r; found = p; enough = z }
-
--- what a report on j makes of a record
-abbrev marked : ℕ → ℕ → Record → Record
-marked j s r = cond (isFor j r) (withReport s r) r
-
-marked-for : (id j s : ℕ) (r : Record) → isFor id (marked j s r) ≡ isFor id r
-marked-for id j s r = go (isFor j r)
-  where
-    go : (b : Bool) → isFor id (cond b (withReport s r) r) ≡ isFor id r
-    go true = refl
-    go false = refl
-
-marked-counts : (j s : ℕ) (r : Record) → counts r ≡ true → counts (marked j s r) ≡ true
-marked-counts j s r e = go (isFor j r)
-  where
-    go : (b : Bool) → counts (cond b (withReport s r) r) ≡ true
-    go true = counts-rise s r e
-    go false = e
-
-module _ (id : ℕ) (rs : List Record) (p : Persistent id rs) where
-  still-new : (o : Option Refusal) (r : Record) → Persistent id (recordsAfter (unlessChecked o (ok (rs ++ (r ∷ [])))) rs)
-  unfolding unlessChecked
-  still-new (some q) r = p
-  still-new none r = record { entry = p .entry; found = find-before (isFor id) rs (r ∷ []) (p .entry) (p .found); enough = p .enough }
-
-  still-marked : (j s : ℕ) → Persistent id (reportedIn j s rs)
-  unfolding reportedIn
-  still-marked j s = record {
-    entry = marked j s (p .entry);
-    found = find-map (isFor id) (marked j s) (marked-for id j s) rs (p .entry) (p .found);
-    enough = marked-counts j s (p .entry) (p .enough);
-  }
-
-  still-reported : (j s : ℕ) (o : Option Record) → Persistent id (recordsAfter (onRecord o (reportOn j s rs)) rs)
-  unfolding onRecord reportOn unlessChecked check
-  still-reported j s none = p
-  still-reported j s (some r) = go (not (isIn s (r .sent)))
+  find-without : (p : A → Bool) → ((x : A) → f x ≡ true → p x ≡ false) → (l : List A) → find f (dropFirst p l) ≡ find f l
+  find-without p apart [] = refl
+  find-without p apart (y ∷ l) = go (p y) (f y) refl refl (find-without p apart l)
     where
-      go : (b : Bool) → Persistent id (recordsAfter (unlessChecked (check b NotSent none) (counted (reportedIn j s rs) (counts (withReport s r)))) rs)
-      go true = p
-      go false = still-marked j s
+      go : (a b : Bool) → p y ≡ a → f y ≡ b → find f (dropFirst p l) ≡ find f l
+          → find f (cond a l (y ∷ dropFirst p l)) ≡ cond b (some y) (find f l)
+      go true true q r below = let z : _≡_ {A = ℕ} 0 1 = cc (apart y r) in absurd (omega arith)
+      go true false q r below = refl
+      go false true q r below = rw r
+      go false false q r below = rw r below
 
-  still-asked : (o : Option Record) → Persistent id (recordsAfter (onRecord o (λ r. counted rs (counts r))) rs)
-  unfolding onRecord
-  still-asked none = p
-  still-asked (some r) = p
-
-  still-forgotten : (j : ℕ) → (j ≡ id → ⊥) → (o : Option Record) → Persistent id (recordsAfter (onRecord o (λ r. ok (keep (λ x. not (isFor j x)) rs))) rs)
-  unfolding onRecord
-  still-forgotten j other none = p
-  still-forgotten j other (some r) = record {
-    entry = p .entry;
-    found =
-        find-keep (isFor id) (λ (x : Record). not (isFor j x)) rs (p .entry)
-        (λ y e. ap not (ne-eqb (y .id) j (λ q. other (sym q ∙ eqb-true (y .id) id e)))) (p .found);
-    enough = p .enough;
-  }
-
-  still-call : (c : RecordCall) → (c ≡ forgetting id → ⊥) → Persistent id (recordsAfter (recordReply c rs) rs)
-  unfolding recordReply recordNew report question forgetRecord
-  still-call (recording j sent full t) h = still-new (recordRefusal j _ _ t rs) _
-  still-call (reporting j s) h = still-reported j s (find (isFor j) rs)
-  still-call (asking j) h = still-asked (find (isFor j) rs)
-  still-call (forgetting j) h = still-forgotten j (λ e. h (ap forgetting e)) (find (isFor j) rs)
-
-still-run : (id : ℕ) (cs : List RecordCall) (rs : List Record) → ((c : RecordCall) → Mem c cs → c ≡ forgetting id → ⊥) → Persistent id rs → Persistent id (recordsRun cs rs)
-unfolding recordsRun
-still-run id [] rs h p = p
-still-run id (c ∷ cs) rs h p =
-    still-run id cs (recordsAfter (recordReply c rs) rs) (λ x m. h x (there m)) (still-call id rs p c (h c (here refl)))
-
--- Once the question about an operation is answered with yes, it is after every list of calls that does not forget it.
-pub persistent-stays : (id : ℕ) (cs : List RecordCall) (rs : List Record) → ((c : RecordCall) → Mem c cs → c ≡ forgetting id → ⊥)
-    → question id rs ≡ counted rs true → question id (recordsRun cs rs) ≡ counted (recordsRun cs rs) true
-persistent-stays id cs rs h e = question-yes id (recordsRun cs rs) (still-run id cs rs h (yes-persistent id rs e))
-
--- ### "A report that comes twice changes nothing"
-
-marked-again : (j s : ℕ) (rs : List Record) → reportedIn j s (reportedIn j s rs) ≡ reportedIn j s rs
-unfolding reportedIn
-marked-again j s [] = refl
-marked-again j s (r ∷ rs) = ap₂ (λ (x : Record) (l : List Record). x ∷ l) (go (isFor j r) refl) (marked-again j s rs)
-  where
-    go : (b : Bool) → isFor j r ≡ b → marked j s (cond b (withReport s r) r) ≡ cond b (withReport s r) r
-    go true e = rw e (ap (λ (xs : List ℕ). record { id = r .id; sent = r .sent; full = r .full; reported = xs; threshold = r .threshold }) (with-again s (r .reported)))
-    go false e = rw e
-
-withReport-again : (s : ℕ) (r : Record) → withReport s (withReport s r) ≡ withReport s r
-withReport-again s r =
-    ap (λ (xs : List ℕ). record { id = r .id; sent = r .sent; full = r .full; reported = xs; threshold = r .threshold }) (with-again s (r .reported))
-
--- what an accepted report is
-reported-is : (id s : ℕ) (rs after : List Record) (r : Record) (b : Bool) → reportOn id s rs r ≡ counted after b
-    → (isIn s (r .sent) ≡ true) × (reportedIn id s rs ≡ after) × (counts (withReport s r) ≡ b)
-unfolding reportOn unlessChecked check
-reported-is id s rs after r b e = go (isIn s (r .sent)) e
-  where
-    go : (t : Bool) → unlessChecked (check (not t) NotSent none) (counted (reportedIn id s rs) (counts (withReport s r))) ≡ counted after b
-        → (t ≡ true) × (reportedIn id s rs ≡ after) × (counts (withReport s r) ≡ b)
-    go true q = (refl, (cc), (cc))
-    go false q = let z : _≡_ {A = ℕ} 0 1 = cc in absurd (omega arith)
-
-reported-as : (id s : ℕ) (rs : List Record) (r : Record) → isIn s (r .sent) ≡ true
-    → reportOn id s rs r ≡ counted (reportedIn id s rs) (counts (withReport s r))
-unfolding reportOn unlessChecked check
-reported-as id s rs r e = rw e
-
-pub report-twice : (id s : ℕ) (rs after : List Record) (b : Bool) → report id s rs ≡ counted after b → report id s after ≡ counted after b
-unfolding report onRecord reportedIn
-report-twice id s rs after b e = found (find (isFor id) rs) refl e
-  where
-    found : (o : Option Record) → find (isFor id) rs ≡ o → onRecord o (reportOn id s rs) ≡ counted after b
-        → onRecord (find (isFor id) after) (reportOn id s after) ≡ counted after b
-    found none p q = let z : _≡_ {A = ℕ} 0 1 = cc in absurd (omega arith)
-    found (some r) p q =
-        let k = reported-is id s rs after r b q in
-        let it : isFor id r ≡ true = T-true (isFor id r) (find-at (isFor id) rs r p .1) in
-        let there-now : find (isFor id) after ≡ some (withReport s r) =
-        ap (find (isFor id)) (sym (k .1)) ∙ find-map (isFor id) (marked id s) (marked-for id id s) rs r p
-        ∙ ap (λ (t : Bool). some (cond t (withReport s r) r)) it
-        in
-        let same : reportedIn id s after ≡ after = ap (reportedIn id s) (sym (k .1)) ∙ marked-again id s rs ∙ k .1 in
-        ap (λ (o : Option Record). onRecord o (reportOn id s after)) there-now
-        ∙ reported-as id s after (withReport s r) (k .0)
-        ∙ ap₂ (λ (l : List Record) (t : Bool). counted l t) same (ap counts (withReport-again s r) ∙ k .2)
-
--- ### "Copies without details never count."
+  -- a change twice
+  pub changed-again : (g : A → A) → ((x : A) → f (g x) ≡ f x) → ((x : A) → g (g x) ≡ g x) → (l : List A)
+      → changeFirst f g (changeFirst f g l) ≡ changeFirst f g l
+  changed-again g h twice [] = refl
+  changed-again g h twice (y ∷ l) = go (f y) refl (changed-again g h twice l)
+    where
+      go : (b : Bool) → f y ≡ b → changeFirst f g (changeFirst f g l) ≡ changeFirst f g l
+          → changeFirst f g (cond b (g y ∷ l) (y ∷ changeFirst f g l)) ≡ cond b (g y ∷ l) (y ∷ changeFirst f g l)
+      go true p below = rw (h y, p) (ap (λ (x : A). x ∷ l) (twice y))
+      go false p below = rw p (ap {B = List A} (λ k. y ∷ k) below)
 
 pub keep-agree : {A : Type 0} (f g : A → Bool) (l : List A) → ((x : A) → Mem x l → f x ≡ g x) → keep f l ≡ keep g l
 keep-agree f g [] h = refl
 keep-agree f g (x ∷ l) h = rw (h x (here refl), keep-agree f g l (λ y m. h y (there m)))
 
-in-other : (s x : ℕ) (xs : List ℕ) → (x ≡ s → ⊥) → isIn x (withSite s xs) ≡ isIn x xs
+-- ### Sites
+
+or-swap : (a b c : Bool) → (a || (b || c)) ≡ (b || (a || c))
+or-swap true true c = refl
+or-swap true false c = refl
+or-swap false b c = refl
+
+or-twice : (a c : Bool) → (a || (a || c)) ≡ (a || c)
+or-twice true c = refl
+or-twice false c = refl
+
+-- The sites after a report: that one, and those before.
+pub in-with : (s x : ℕ) (xs : List ℕ) → isIn x (withSite s xs) ≡ (eqb x s || isIn x xs)
 unfolding withSite
-in-other s x [] h = rw (ne-eqb x s h)
-in-other s x (y ∷ ys) h = go (eqb s y) (ltb s y) (in-other s x ys h)
+in-with s x [] = refl
+in-with s x (y ∷ ys) = go (eqb s y) (ltb s y) refl (in-with s x ys)
   where
-    go : (a b : Bool) → isIn x (withSite s ys) ≡ isIn x ys
-        → isIn x (cond a (y ∷ ys) (cond b (s ∷ y ∷ ys) (y ∷ withSite s ys))) ≡ (eqb x y || isIn x ys)
-    go true b e = refl
-    go false true e = rw (ne-eqb x s h)
-    go false false e = ap (λ (t : Bool). eqb x y || t) e
+    go : (a b : Bool) → eqb s y ≡ a → isIn x (withSite s ys) ≡ (eqb x s || isIn x ys)
+        → isIn x (cond a (y ∷ ys) (cond b (s ∷ y ∷ ys) (y ∷ withSite s ys))) ≡ (eqb x s || (eqb x y || isIn x ys))
+    go true b e below = let z : s ≡ y = eqb-true s y e in rw z (sym (or-twice (eqb x y) (isIn x ys)))
+    go false true e below = refl
+    go false false e below = ap (λ (t : Bool). eqb x y || t) below ∙ or-swap (eqb x y) (eqb x s) (isIn x ys)
 
--- A report from a site without details changes nothing of what counts.
-pub bare-report : (s : ℕ) (r : Record) → isIn s (r .full) ≡ false → counts (withReport s r) ≡ counts r
-unfolding counts fullReports
-bare-report s r bare =
-    ap (λ (l : List ℕ). leb (r .threshold) (length l))
-    (keep-agree (λ (x : ℕ). isIn x (withSite s (r .reported))) (λ (x : ℕ). isIn x (r .reported)) (r .full)
-    (λ x m. in-other s x (r .reported) (λ e. false-T (isIn s (r .full)) bare (any-of (eqb s) m (true-T _ (eq-eqb s x (sym e)))))))
-
--- ### At most 64 records, and a freed entry is used again
-
-pub forgotten-fewer : (id : ℕ) (rs after : List Record) → forgetRecord id rs ≡ ok after → length after < length rs
-unfolding forgetRecord onRecord
-forgotten-fewer id rs after e = go (find (isFor id) rs) refl e
+-- A site that comes twice is there once.
+pub with-again : (s : ℕ) (xs : List ℕ) → withSite s (withSite s xs) ≡ withSite s xs
+unfolding withSite
+with-again s [] = rw (eq-eqb s s refl)
+with-again s (y ∷ ys) = go (eqb s y) (ltb s y) refl refl (with-again s ys)
   where
-    go : (o : Option Record) → find (isFor id) rs ≡ o → onRecord o (λ r. ok (keep (λ x. not (isFor id x)) rs)) ≡ ok after → length after < length rs
-    go none p q = let z : _≡_ {A = ℕ} 0 1 = cc in absurd (omega arith)
-    go (some r) p q =
-        let one = find-at (isFor id) rs r p in
-        let z : keep (λ (x : Record). not (isFor id x)) rs ≡ after = cc in
-        let less = length-keep-less (λ (x : Record). not (isFor id x)) (one .0) (λ t. false-T (not (isFor id r)) (ap not (T-true (isFor id r) (one .1))) t) in
-        omega (arith, ap length z)
+    go : (a b : Bool) → eqb s y ≡ a → ltb s y ≡ b → withSite s (withSite s ys) ≡ withSite s ys
+        → withSite s (cond a (y ∷ ys) (cond b (s ∷ y ∷ ys) (y ∷ withSite s ys)))
+        ≡ cond a (y ∷ ys) (cond b (s ∷ y ∷ ys) (y ∷ withSite s ys))
+    go true b p q below = rw p
+    go false true p q below = rw (eq-eqb s s refl)
+    go false false p q below = rw (p, q) (ap {B = List ℕ} (λ l. y ∷ l) below)
 
--- Where there were at most 64, no record is refused 10 after one was forgotten.
-pub freed-again : (id : ℕ) (rs after : List Record) → length rs ≤ recordLimit → forgetRecord id rs ≡ ok after → recordsFull after ≡ false
-unfolding recordsFull
-freed-again id rs after few e = lt-not-le recordLimit (length after) (let h = forgotten-fewer id rs after e in omega arith)
+-- ### What a call leaves of a record
 
-few-new : (o : Option Refusal) (r : Record) (rs : List Record) → (o ≡ none → length rs < recordLimit) → length rs ≤ recordLimit
-    → length (recordsAfter (unlessChecked o (ok (rs ++ (r ∷ [])))) rs) ≤ recordLimit
-unfolding unlessChecked
-few-new (some q) r rs h few = few
-few-new none r rs h few = let z = h refl in omega (arith, length-append rs (r ∷ []))
+-- An operation's record after a call that does not forget it: a report on it from a site that it was sent to is added.
+unfoldable pub recordAfter : ℕ → RecordCall → Record → Record
+recordAfter id (recording j sent full t) r = r
+recordAfter id (reporting j s) r = cond (eqb j id && isIn s (r .sent)) (withReport s r) r
+recordAfter id (asking j) r = r
+recordAfter id (forgetting j) r = r
 
-few-report : (j s : ℕ) (rs : List Record) (o : Option Record) → length rs ≤ recordLimit → length (recordsAfter (onRecord o (reportOn j s rs)) rs) ≤ recordLimit
-unfolding onRecord reportOn unlessChecked check reportedIn
-few-report j s rs none few = few
-few-report j s rs (some r) few = go (not (isIn s (r .sent)))
+module _ (id : ℕ) (rs : List Record) (r : Record) (found : find (isFor id) rs ≡ some r) where
+  found-new : (o : Option Refusal) (x : Record) → find (isFor id) (recordsAfter (unlessChecked o (ok (rs ++ (x ∷ [])))) rs) ≡ some r
+  unfolding unlessChecked
+  found-new (some q) x = found
+  found-new none x = find-before (isFor id) rs (x ∷ []) r found
+
+  -- a report on the operation itself
+  found-reported : (s : ℕ) (o : Option Record) → o ≡ some r
+      → find (isFor id) (recordsAfter (onRecord o (reportOn id s rs)) rs) ≡ some (cond (isIn s (r .sent)) (withReport s r) r)
+  unfolding onRecord reportOn unlessChecked check reportedIn
+  found-reported s none e = absurd (let z : _≡_ {A = ℕ} 0 1 = cc in omega arith)
+  found-reported s (some x) e = let same : x ≡ r = cc in rw same (go (isIn s (r .sent)))
+    where
+      go : (b : Bool) → find (isFor id) (recordsAfter (unlessChecked (check (not b) NotSent none)
+          (counted (changeFirst (isFor id) (withReport s) rs) (counts (withReport s r)))) rs) ≡ some (cond b (withReport s r) r)
+      go true = find-changed (isFor id) (withReport s) (λ x. refl) rs r found
+      go false = found
+
+  -- a report on another operation
+  found-beside : (j s : ℕ) → eqb j id ≡ false → (o : Option Record)
+      → find (isFor id) (recordsAfter (onRecord o (reportOn j s rs)) rs) ≡ some r
+  unfolding onRecord reportOn unlessChecked check reportedIn
+  found-beside j s other none = found
+  found-beside j s other (some x) = go (not (isIn s (x .sent)))
+    where
+      go : (b : Bool) → find (isFor id) (recordsAfter (unlessChecked (check b NotSent none)
+          (counted (changeFirst (isFor j) (withReport s) rs) (counts (withReport s x)))) rs) ≡ some r
+      go true = found
+      go false =
+          find-beside (isFor id) (isFor j) (withReport s) (λ y. refl)
+          (λ y e. ne-eqb (y .id) j (λ q. eqb-false j id other (sym q ∙ eqb-true (y .id) id e))) rs ∙ found
+
+  found-report : (j s : ℕ) → find (isFor id) (recordsAfter (report j s rs) rs) ≡ some (recordAfter id (reporting j s) r)
+  unfolding report recordAfter
+  found-report j s = go (eqb j id) refl
+    where
+      go : (b : Bool) → eqb j id ≡ b → find (isFor id) (recordsAfter (onRecord (find (isFor j) rs) (reportOn j s rs)) rs)
+          ≡ some (cond (b && isIn s (r .sent)) (withReport s r) r)
+      go true e = let z : j ≡ id = eqb-true j id e in rw z (found-reported s (find (isFor id) rs) found)
+      go false e = found-beside j s e (find (isFor j) rs)
+
+  found-asked : (o : Option Record) → find (isFor id) (recordsAfter (onRecord o (λ x. counted rs (counts x))) rs) ≡ some r
+  unfolding onRecord
+  found-asked none = found
+  found-asked (some x) = found
+
+  found-forgotten : (j : ℕ) → (j ≡ id → ⊥) → (o : Option Record)
+      → find (isFor id) (recordsAfter (onRecord o (λ x. ok (dropFirst (isFor j) rs))) rs) ≡ some r
+  unfolding onRecord
+  found-forgotten j other none = found
+  found-forgotten j other (some x) =
+      find-without (isFor id) (isFor j) (λ y e. ne-eqb (y .id) j (λ q. other (sym q ∙ eqb-true (y .id) id e))) rs ∙ found
+
+  -- Every call but a forgetting of the operation leaves it a record, with the report that the call may bring.
+  pub found-after : (c : RecordCall) → (c ≡ forgetting id → ⊥)
+      → find (isFor id) (recordsAfter (recordReply c rs) rs) ≡ some (recordAfter id c r)
+  unfolding recordReply recordNew question forgetRecord recordAfter
+  found-after (recording j sent full t) h = found-new (recordRefusal j (sitesOf sent) (sitesOf full) t rs) _
+  found-after (reporting j s) h = found-report j s
+  found-after (asking j) h = found-asked (find (isFor j) rs)
+  found-after (forgetting j) h = found-forgotten j (λ e. h (ap forgetting e)) (find (isFor j) rs)
+
+-- what the question replies where there is a record
+pub question-is : (id : ℕ) (rs : List Record) (r : Record) → find (isFor id) rs ≡ some r → question id rs ≡ counted rs (counts r)
+unfolding question onRecord
+question-is id rs r e = rw e
+
+-- ### "It counts exactly when that many full copies have reported."
+
+-- whether a site reported an operation in some calls
+unfoldable pub isReport : ℕ → ℕ → RecordCall → Bool
+isReport id s (recording j sent full t) = false
+isReport id s (reporting j x) = eqb j id && eqb s x
+isReport id s (asking j) = false
+isReport id s (forgetting j) = false
+
+-- No call of these forgets the operation.
+abbrev pub Unforgotten : ℕ → List RecordCall → Type 0
+Unforgotten id cs = (c : RecordCall) → Mem c cs → c ≡ forgetting id → ⊥
+
+-- every full copy is at a site that the operation was sent to
+abbrev Within : Record → Type 0
+Within r = (s : ℕ) → Mem s (r .full) → isIn s (r .sent) ≡ true
+
+or-false : (a : Bool) → (a || false) ≡ a
+or-false true = refl
+or-false false = refl
+
+-- A full copy's site after a call: it had reported before, or does so now.
+reported-after : (id : ℕ) (c : RecordCall) (r : Record) (s : ℕ) → isIn s (r .sent) ≡ true → (x : Bool)
+    → (isIn s (recordAfter id c r .reported) || x) ≡ (isIn s (r .reported) || (isReport id s c || x))
+unfolding recordAfter isReport
+reported-after id (recording j sent full t) r s h x = refl
+reported-after id (asking j) r s h x = refl
+reported-after id (forgetting j) r s h x = refl
+reported-after id (reporting j y) r s h x = go (eqb j id) (isIn y (r .sent)) refl
   where
-    go : (b : Bool) → length (recordsAfter (unlessChecked (check b NotSent none) (counted (map (marked j s) rs) (counts (withReport s r)))) rs) ≤ recordLimit
-    go true = few
-    go false = simp length-map few
+    go : (a b : Bool) → isIn y (r .sent) ≡ b
+        → (isIn s (cond (a && b) (withReport y r) r .reported) || x) ≡ (isIn s (r .reported) || ((a && eqb s y) || x))
+    go true true e =
+        ap (λ (t : Bool). t || x) (in-with y s (r .reported)) ∙ or-move (eqb s y) (isIn s (r .reported))
+      where
+        or-move : (p q : Bool) → ((p || q) || x) ≡ (q || (p || x))
+        or-move true true = refl
+        or-move true false = refl
+        or-move false q = refl
+    go true false e =
+        ap (λ (t : Bool). isIn s (r .reported) || (t || x))
+        (sym (ne-eqb s y (λ q. let z : _≡_ {A = ℕ} 0 1 = cc (ap (λ (k : ℕ). isIn k (r .sent)) q) in omega arith)))
+    go false b e = refl
 
-few-asked : (rs : List Record) (o : Option Record) → length rs ≤ recordLimit → length (recordsAfter (onRecord o (λ r. counted rs (counts r))) rs) ≤ recordLimit
-unfolding onRecord
-few-asked rs none few = few
-few-asked rs (some r) few = few
+-- A call changes neither the full copies nor the threshold, nor where the operation was sent to.
+after-same : (id : ℕ) (c : RecordCall) (r : Record)
+    → (recordAfter id c r .full ≡ r .full) × (recordAfter id c r .sent ≡ r .sent) × (recordAfter id c r .threshold ≡ r .threshold)
+unfolding recordAfter
+after-same id (recording j sent full t) r = (refl, refl, refl)
+after-same id (asking j) r = (refl, refl, refl)
+after-same id (forgetting j) r = (refl, refl, refl)
+after-same id (reporting j s) r = go (eqb j id && isIn s (r .sent))
+  where
+    go : (b : Bool) → (cond b (withReport s r) r .full ≡ r .full) × (cond b (withReport s r) r .sent ≡ r .sent)
+        × (cond b (withReport s r) r .threshold ≡ r .threshold)
+    go true = (refl, refl, refl)
+    go false = (refl, refl, refl)
 
-few-forgotten : (j : ℕ) (rs : List Record) (o : Option Record) → length rs ≤ recordLimit
-    → length (recordsAfter (onRecord o (λ r. ok (keep (λ x. not (isFor j x)) rs))) rs) ≤ recordLimit
-unfolding onRecord
-few-forgotten j rs none few = few
-few-forgotten j rs (some r) few = omega (arith, length-keep (λ (x : Record). not (isFor j x)) rs)
+-- How many full copies reported, in the record or in the calls.
+abbrev reportsIn : ℕ → Record → List RecordCall → ℕ
+reportsIn id r cs = length (keep (λ s. isIn s (r .reported) || any (isReport id s) cs) (r .full))
 
-few-call : (c : RecordCall) (rs : List Record) → length rs ≤ recordLimit → length (recordsAfter (recordReply c rs) rs) ≤ recordLimit
-unfolding recordReply recordNew report question forgetRecord recordRefusal recordsFull
-few-call (recording j sent full t) rs few =
-    few-new (recordRefusal j _ _ t rs) _ rs (λ e. not-le recordLimit (length rs) (check-none _ TableFull _ (check-none _ IdPending _ e .1) .0)) few
-few-call (reporting j s) rs few = few-report j s rs (find (isFor j) rs) few
-few-call (asking j) rs few = few-asked rs (find (isFor j) rs) few
-few-call (forgetting j) rs few = few-forgotten j rs (find (isFor j) rs) few
+reports-next : (id : ℕ) (c : RecordCall) (cs : List RecordCall) (r : Record) → Within r
+    → reportsIn id (recordAfter id c r) cs ≡ reportsIn id r (c ∷ cs)
+reports-next id c cs r within =
+    ap (λ (l : List ℕ). length (keep (λ s. isIn s (recordAfter id c r .reported) || any (isReport id s) cs) l)) (after-same id c r .0)
+    ∙ ap length (keep-agree (λ (s : ℕ). isIn s (recordAfter id c r .reported) || any (isReport id s) cs)
+    (λ (s : ℕ). isIn s (r .reported) || (isReport id s c || any (isReport id s) cs)) (r .full)
+    (λ s m. reported-after id c r s (within s m) (any (isReport id s) cs)))
 
--- "a 65th record 10": no list of calls makes more than 64.
-pub records-few : (cs : List RecordCall) (rs : List Record) → length rs ≤ recordLimit → length (recordsRun cs rs) ≤ recordLimit
-unfolding recordsRun
-records-few [] rs few = few
-records-few (c ∷ cs) rs few = records-few cs (recordsAfter (recordReply c rs) rs) (few-call c rs few)
+question-run : (id : ℕ) (cs : List RecordCall) (rs : List Record) (r : Record) → find (isFor id) rs ≡ some r → Within r → Unforgotten id cs
+    → question id (recordsRun cs rs) ≡ counted (recordsRun cs rs) (leb (r .threshold) (reportsIn id r cs))
+unfolding recordsRun counts fullReports
+question-run id [] rs r found within kept =
+    question-is id rs r found
+    ∙ ap (λ (l : List ℕ). counted rs (leb (r .threshold) (length l)))
+    (keep-agree (λ (s : ℕ). isIn s (r .reported)) (λ (s : ℕ). isIn s (r .reported) || false) (r .full)
+    (λ s m. sym (or-false (isIn s (r .reported)))))
+question-run id (c ∷ cs) rs r found within kept =
+    let next = recordsAfter (recordReply c rs) rs in
+    let same = after-same id c r in
+    question-run id cs next (recordAfter id c r) (found-after id rs r found c (kept c (here refl)))
+    (λ s m. ap (isIn s) (same .1) ∙ within s (mem-along (same .0) m)) (λ x m. kept x (there m))
+    ∙ ap₂ (λ (t n : ℕ). counted (recordsRun cs next) (leb t n)) (same .2) (reports-next id c cs r within)
+
+-- ### Recording and reporting
+
+-- What an accepted record is: 7, 10, 18 and 19 did not refuse it, and it stands behind the others.
+pub record Accepted (id sent full t : ℕ) (rs after : List Record) : Type 0 where
+  pub fresh : recorded id rs ≡ false
+  pub room : recordsFull rs ≡ false
+  pub threshold : wrongThreshold t (sitesOf full) ≡ false
+  pub covered : fullNotSent (sitesOf sent) (sitesOf full) ≡ false
+  pub behind : rs ++ (newRecord id (sitesOf sent) (sitesOf full) t ∷ []) ≡ after
+
+pub accepted : (id sent full t : ℕ) (rs after : List Record) → recordNew id sent full t rs ≡ ok after → Accepted id sent full t rs after
+unfolding recordNew recordRefusal unlessChecked
+accepted id sent full t rs after e = go (recordRefusal id (sitesOf sent) (sitesOf full) t rs) refl e
+  where
+    go : (o : Option Refusal) → recordRefusal id (sitesOf sent) (sitesOf full) t rs ≡ o
+        → unlessChecked o (ok (rs ++ (newRecord id (sitesOf sent) (sitesOf full) t ∷ []))) ≡ ok after → Accepted id sent full t rs after
+    go (some q) p h = absurd (let z : _≡_ {A = ℕ} 0 1 = cc in omega arith)
+    go none p h =
+        let a = check-none _ IdPending _ p in
+        let b = check-none _ TableFull _ (a .1) in
+        let c = check-none _ WrongThreshold _ (b .1) in
+        let d = check-none _ NotSent _ (c .1) in
+        record { fresh = a .0; room = b .0; threshold = c .0; covered = d .0; behind = (cc) }
+
+module _ (id sent full t : ℕ) (rs after : List Record) (new : Accepted id sent full t rs after) where
+  pub new-found : find (isFor id) after ≡ some (newRecord id (sitesOf sent) (sitesOf full) t)
+  unfolding recorded
+  new-found =
+      ap (find (isFor id)) (sym (new .behind)) ∙ find-behind (isFor id) rs _ (new .fresh) (eq-eqb id id refl)
+
+  new-within : (s : ℕ) → Mem s (sitesOf full) → isIn s (sitesOf sent) ≡ true
+  unfolding fullNotSent
+  new-within s m = go (isIn s (sitesOf sent)) refl
+    where
+      go : (b : Bool) → isIn s (sitesOf sent) ≡ b → b ≡ true
+      go true e = refl
+      go false e =
+          absurd (false-T (any (λ (x : ℕ). not (isIn x (sitesOf sent))) (sitesOf full)) (new .covered)
+          (any-of (λ (x : ℕ). not (isIn x (sitesOf sent))) m (true-T _ (ap not e))))
+
+-- What an accepted report is: 19 did not refuse it.
+pub record Reported (id s : ℕ) (rs after : List Record) (b : Bool) (r : Record) : Type 0 where
+  pub found : find (isFor id) rs ≡ some r
+  pub sent : isIn s (r .sent) ≡ true
+  pub records : reportedIn id s rs ≡ after
+  pub reply : counts (withReport s r) ≡ b
+
+pub reported : (id s : ℕ) (rs after : List Record) (b : Bool) → report id s rs ≡ counted after b → (r : Record) × Reported id s rs after b r
+unfolding report onRecord reportOn unlessChecked check
+reported id s rs after b e = found (find (isFor id) rs) refl e
+  where
+    sent : (r : Record) → find (isFor id) rs ≡ some r → (t : Bool) → isIn s (r .sent) ≡ t
+        → unlessChecked (check (not t) NotSent none) (counted (reportedIn id s rs) (counts (withReport s r))) ≡ counted after b
+        → (x : Record) × Reported id s rs after b x
+    sent r p true q h = (r, record { found = p; sent = q; records = (cc); reply = (cc) })
+    sent r p false q h = absurd (let z : _≡_ {A = ℕ} 0 1 = cc in omega arith)
+
+    found : (o : Option Record) → find (isFor id) rs ≡ o → onRecord o (reportOn id s rs) ≡ counted after b
+        → (r : Record) × Reported id s rs after b r
+    found none p q = absurd (let z : _≡_ {A = ℕ} 0 1 = cc in omega arith)
+    found (some r) p q = sent r p (isIn s (r .sent)) refl q
+
+-- "It counts exactly when that many full copies have reported": of an operation that was just recorded, the question after any calls that
+-- do not forget it is answered by how many of the full copies' sites reported it in these calls.
+pub counts-exactly : (id sent full t : ℕ) (rs after : List Record) (cs : List RecordCall) → recordNew id sent full t rs ≡ ok after
+    → Unforgotten id cs
+    → question id (recordsRun cs after)
+    ≡ counted (recordsRun cs after) (leb t (length (keep (λ s. any (isReport id s) cs) (sitesOf full))))
+counts-exactly id sent full t rs after cs e kept =
+    let new = accepted id sent full t rs after e in
+    question-run id cs after (newRecord id (sitesOf sent) (sitesOf full) t) (new-found id sent full t rs after new)
+    (new-within id sent full t rs after new) kept

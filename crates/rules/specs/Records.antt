@@ -1,7 +1,7 @@
 -- Records beside the kept lines of a keeper (02, (e)): which sites an operation was sent to, which of these hold full details, and which
 -- reported it persistent.
 use mathlib.Core.Bool.{Bool, not, cond, _||_}
-use mathlib.Core.List.{List, [], _∷_, _++_, map}
+use mathlib.Core.List.{List, [], _∷_, _++_}
 use mathlib.Core.Option.{Option, none, some}
 use Prim.Native.Nat.{ℕ, _/_, _%_, _^_}
 use lib.Dec.{leb, ltb, eqb}
@@ -36,7 +36,9 @@ withSite s (x ∷ xs) = cond (eqb s x) (x ∷ xs) (cond (ltb s x) (s ∷ x ∷ x
 
 -- ### Records
 
+-- "The keeper holds for each operation": what is recorded of one.
 pub record Record : Type 0 where
+  -- the operation's id
   pub id : ℕ
   -- "which sites it was sent to"
   pub sent : List ℕ
@@ -55,8 +57,22 @@ fullReports r = length (keep (λ s. isIn s (r .reported)) (r .full))
 unfoldable pub counts : Record → Bool
 counts r = leb (r .threshold) (fullReports r)
 
+-- whether a record is that of an operation
 abbrev pub isFor : ℕ → Record → Bool
 isFor id r = eqb (r .id) id
+
+-- ### Lists
+
+module _ {A : Type 0} (f : A → Bool) where
+  -- The list with its first element that passes the test changed.
+  abbrev pub changeFirst : (A → A) → List A → List A
+  changeFirst g [] = []
+  changeFirst g (x ∷ xs) = cond (f x) (g x ∷ xs) (x ∷ changeFirst g xs)
+
+  -- The list without its first element that passes the test.
+  abbrev pub dropFirst : List A → List A
+  dropFirst [] = []
+  dropFirst (x ∷ xs) = cond (f x) xs (x ∷ dropFirst xs)
 
 -- ### Calls
 
@@ -66,6 +82,7 @@ pub data RecordReply : Type 0 where
   ok : List Record → RecordReply
   counted : List Record → Bool → RecordReply
 
+-- "A refusal returns its number only": the reply, where no check refuses.
 unfoldable pub unlessChecked : Option Refusal → RecordReply → RecordReply
 unlessChecked (some r) reply = refused r
 unlessChecked none reply = reply
@@ -94,23 +111,28 @@ recordRefusal id sent full t rs =
     (check (wrongThreshold t full) WrongThreshold
     (check (fullNotSent sent full) NotSent none)))
 
--- Records an operation, with its masks of sites sent to and of full copies, and its threshold. Nobody has reported it.
+-- the record of an operation that nobody has reported
+abbrev pub newRecord : ℕ → List ℕ → List ℕ → ℕ → Record
+newRecord id sent full t = record { id = id; sent = sent; full = full; reported = []; threshold = t }
+
+-- Records an operation, with its masks of sites sent to and of full copies, and its threshold.
 unfoldable pub recordNew : ℕ → ℕ → ℕ → ℕ → List Record → RecordReply
 recordNew id sent full t rs =
     unlessChecked (recordRefusal id (sitesOf sent) (sitesOf full) t rs)
-    (ok (rs ++ (record { id = id; sent = sitesOf sent; full = sitesOf full; reported = []; threshold = t } ∷ [])))
+    (ok (rs ++ (newRecord id (sitesOf sent) (sitesOf full) t ∷ [])))
 
 -- 19: "a report on, question about or forgetting of an operation without a record"
 unfoldable pub onRecord : Option Record → (Record → RecordReply) → RecordReply
 onRecord none f = refused NotSent
 onRecord (some r) f = f r
 
+-- the record with a site's report
 abbrev pub withReport : ℕ → Record → Record
 withReport s r = record { id = r .id; sent = r .sent; full = r .full; reported = withSite s (r .reported); threshold = r .threshold }
 
--- the records with a report on one of them
+-- the records with a site's report in that of an operation
 unfoldable pub reportedIn : ℕ → ℕ → List Record → List Record
-reportedIn id s rs = map (λ r. cond (isFor id r) (withReport s r) r) rs
+reportedIn id s rs = changeFirst (isFor id) (withReport s) rs
 
 -- 19: "a report from a site the operation was not sent to"
 unfoldable pub reportOn : ℕ → ℕ → List Record → Record → RecordReply
@@ -126,16 +148,18 @@ question id rs = onRecord (find (isFor id) rs) (λ r. counted rs (counts r))
 
 -- "a record forgotten on the owner's word frees its entry"
 unfoldable pub forgetRecord : ℕ → List Record → RecordReply
-forgetRecord id rs = onRecord (find (isFor id) rs) (λ r. ok (keep (λ x. not (isFor id x)) rs))
+forgetRecord id rs = onRecord (find (isFor id) rs) (λ r. ok (dropFirst (isFor id) rs))
 
 -- ### Lists of calls
 
+-- A call about records: an operation is recorded with its masks and its threshold, a site reports it, its owner asks, or forgets it.
 pub data RecordCall : Type 0 where
   recording : ℕ → ℕ → ℕ → ℕ → RecordCall
   reporting : ℕ → ℕ → RecordCall
   asking : ℕ → RecordCall
   forgetting : ℕ → RecordCall
 
+-- the reply to a call
 unfoldable pub recordReply : RecordCall → List Record → RecordReply
 recordReply (recording id sent full t) rs = recordNew id sent full t rs
 recordReply (reporting id s) rs = report id s rs
