@@ -14,3 +14,4 @@ pub mod SiteCalls
 pub mod SiteCallsLaws
 pub mod RefusedReply
 pub mod OlderExamples
+pub mod BesideLines

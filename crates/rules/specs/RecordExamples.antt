@@ -9,9 +9,10 @@ use Rattle.forms.specs.Lists.{all, below}
 use Rattle.forms.specs.ListLaws.{T-true, all-at}
 use Rattle.forms.specs.Refusals.{numberOf}
 use Rattle.rules.specs.Checks.{check}
-use Rattle.rules.specs.Records.{Record, RecordReply, refused, ok, counted, RecordCall, recording, reporting, asking, forgetting, recordReply, recordsAfter}
-use Rattle.rules.specs.Records.{sitesOf, withSite, fullReports, counts, unlessChecked, recorded, recordsFull, wrongThreshold, fullNotSent}
-use Rattle.rules.specs.Records.{recordRefusal, recordNew, onRecord, reportedIn, reportOn, report, question, forgetRecord}
+use Rattle.rules.specs.Records.{Record, RecordReply, refused, ok, counted, RecordCall, recording, reporting, asking}
+use Rattle.rules.specs.Records.{forgetting, recordReply, recordsAfter}
+use Rattle.rules.specs.Records.{sitesOf, withSite, fullReports, counts, unlessChecked, recorded, recordsFull, wrongThreshold}
+use Rattle.rules.specs.Records.{fullNotSent, recordRefusal, recordNew, onRecord, reportedIn, reportOn, report, question, forgetRecord}
 
 -- A call with its reply as a number: a refusal's, 0 where nothing is said, 100 for "not persistent", 101 for "persistent".
 pub record Asked : Type 0 where
@@ -29,7 +30,8 @@ numbered (counted rs b) = cond b 101 100
 -- Every call replies its number.
 unfoldable pub asExpected : List Asked → List Record → Bool
 asExpected [] rs = true
-asExpected (a ∷ more) rs = eqb (numbered (recordReply (a .call) rs)) (a .number) && asExpected more (recordsAfter (recordReply (a .call) rs) rs)
+asExpected (a ∷ more) rs =
+    eqb (numbered (recordReply (a .call) rs)) (a .number) && asExpected more (recordsAfter (recordReply (a .call) rs) rs)
 
 abbrev pub rows : List (List Asked)
 rows =
@@ -44,7 +46,12 @@ rows =
     -- "one of two for a mirrored one"
     ∷ (asked (recording 5 3 3 1) 0 ∷ asked (reporting 5 1) 101 ∷ asked (reporting 5 0) 101 ∷ [])
     -- "Copies without details never count": site 2 was sent to without them
-    ∷ (asked (recording 5 7 3 2) 0 ∷ asked (reporting 5 2) 100 ∷ asked (reporting 5 0) 100 ∷ asked (reporting 5 2) 100 ∷ asked (reporting 5 1) 101 ∷ [])
+    ∷ (asked (recording 5 7 3 2) 0
+    ∷ asked (reporting 5 2) 100
+    ∷ asked (reporting 5 0) 100
+    ∷ asked (reporting 5 2) 100
+    ∷ asked (reporting 5 1) 101
+    ∷ [])
     -- 7; 18: a threshold of 0, or above the number of full copies, before 19; 19: a full copy at a site not sent to
     ∷ (asked (recording 5 3 3 2) 0
     ∷ asked (recording 5 3 3 0) 7
@@ -76,8 +83,8 @@ holds r = asExpected r []
 
 computed : T (all holds rows)
 computed =
-    unfold holds asExpected below numberOf check sitesOf withSite fullReports counts unlessChecked recorded recordsFull wrongThreshold fullNotSent in
-    unfold recordRefusal recordNew onRecord reportedIn reportOn report question forgetRecord recordReply in
+    unfold holds asExpected below numberOf check sitesOf withSite fullReports counts unlessChecked recorded recordsFull in
+    unfold wrongThreshold fullNotSent recordRefusal recordNew onRecord reportedIn reportOn report question forgetRecord recordReply in
     tt
 
 -- Every row's calls reply their numbers.

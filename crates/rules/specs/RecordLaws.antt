@@ -5,18 +5,17 @@ use mathlib.Core.Bool.{Bool, true, false, not, cond, _&&_, _||_}
 use mathlib.Core.Option.{Option, none, some}
 use mathlib.Core.List.{List, [], _∷_, _++_}
 use mathlib.Core.List.{List·Memᴰ as Mem, List·Memᴰ·head as here, List·Memᴰ·tail as there}
-use Prim.Native.Nat.{ℕ, _≤_, _<_}
+use Prim.Native.Nat.{ℕ}
 use native.Mathlib.Omega.{arith}
 use lib.Dec.{leb, ltb, eqb}
 use lib.ListN.{length}
-use borrow.Author.Tests.{le-leb, leb-true, eq-eqb, ne-eqb, eqb-true, eqb-false}
+use borrow.Author.Tests.{eq-eqb, ne-eqb, eqb-true, eqb-false}
 use Rattle.forms.specs.Lists.{any, keep, find}
 use Rattle.forms.specs.ListLaws.{mem-along, true-T, false-T, any-of}
 use Rattle.forms.specs.declared.Refusal.{Refusal}
 use Rattle.forms.specs.declared.Refusal.the-variants.{IdPending, TableFull, WrongThreshold, NotSent}
 use Rattle.rules.specs.Checks.{check}
-use Rattle.rules.specs.CheckLaws.{check-none, or-false-left}
-use Rattle.rules.specs.WorkLaws.{find-at}
+use Rattle.rules.specs.CheckLaws.{check-none}
 use Rattle.rules.specs.Records.{isIn, sitesOf, withSite, Record, newRecord, fullReports, counts, isFor, changeFirst, dropFirst}
 use Rattle.rules.specs.Records.{ok, counted, unlessChecked, recorded, recordsFull, wrongThreshold, fullNotSent, recordRefusal}
 use Rattle.rules.specs.Records.{recordNew, onRecord, withReport, reportedIn, reportOn, report, question, forgetRecord}

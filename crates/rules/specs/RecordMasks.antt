@@ -11,13 +11,14 @@ use lib.Dec.{T, ltb, eqb, eqb→eq, eqb-refl}
 use lib.ListN.{length}
 use lib.Bits.{bitAnd, bitOr, and-shr, or-shr, and-mod, or-mod, and-zero-l, and-zero-r, and-self, or-zero-l, or-zero-r, or-self, and-le-l}
 use lib.Count.{onesIn, ones}
-use borrow.Author.Tests.{ltb-true}
-use Rattle.forms.specs.Lists.{all, keep, below}
+use borrow.Author.Tests.{ltb-true, eq-eqb, ne-eqb}
+use Rattle.forms.specs.Lists.{all, any, keep, sum, below}
 use Rattle.forms.specs.ListLaws.{T-true, T-false, true-T, false-T, all-at, any-at, any-of, mem-at, mem-snoc, mem-keep, mem-of-keep}
+use Rattle.forms.specs.ListLaws.{keep-all, length-keep-less}
 use Rattle.rules.specs.CheckLaws.{not-lt}
 use Rattle.rules.specs.Keeper.{sameBytes}
 use Rattle.rules.specs.Examples.{same-bytes}
-use Rattle.rules.specs.Records.{isIn, sitesOf, withSite}
+use Rattle.rules.specs.Records.{isIn, sitesOf, withSite, fullNotSent}
 use Rattle.rules.specs.RecordLaws.{keep-agree}
 
 -- whether a site's bit is set
@@ -107,16 +108,24 @@ mask-common a b =
     ∙ keep-agree (λ (s : ℕ). has a s && isIn s (keep (has b) (below 8))) (has (bitAnd a b)) (below 8)
     (λ s m. ap (λ (x : Bool). has a s && x) (mask-site b s (below-lt 8 s m)) ∙ sym (and-has a b s))
 
-ones-table : T (all (λ (m : ℕ). eqb (ones m) (length (sitesOf m))) (below 256))
+-- what holds of each number below a limit, by a table
+by-table : (n : ℕ) (f : ℕ → Bool) → T (all f (below n)) → (m : ℕ) → m < n → T (f m)
+by-table n f t m h = all-at f (below n) t m (mem-below n m h)
+
+-- whether a mask has as many ones as sites
+abbrev onesAgree : ℕ → Bool
+onesAgree m = eqb (ones m) (length (sitesOf m))
+
+ones-table : T (all onesAgree (below 256))
 ones-table = unfold below ones onesIn sitesOf in tt
 
 -- "Ones of the mask": how many sites it has.
 pub mask-ones : (m : ℕ) → m < 256 → length (sitesOf m) ≡ ones m
-mask-ones m h =
-    sym (eqb→eq (ones m) (length (sitesOf m)) (all-at (λ (x : ℕ). eqb (ones x) (length (sitesOf x))) (below 256) ones-table m (mem-below 256 m h)))
+mask-ones m h = sym (eqb→eq (ones m) (length (sitesOf m)) (by-table 256 onesAgree ones-table m h))
 
 -- "Ones of the mask of full and persistent copies": how many full copies have reported.
-pub mask-reports : (full reported : ℕ) → full < 256 → length (keep (λ s. isIn s (sitesOf reported)) (sitesOf full)) ≡ ones (bitAnd full reported)
+pub mask-reports : (full reported : ℕ) → full < 256
+    → length (keep (λ s. isIn s (sitesOf reported)) (sitesOf full)) ≡ ones (bitAnd full reported)
 mask-reports full reported h =
     ap length (mask-common full reported)
     ∙ mask-ones (bitAnd full reported) (let le = and-le-l full reported in omega arith)
@@ -132,23 +141,94 @@ alike-is true false t = absurd t
 alike-is false true t = absurd t
 alike-is false false t = refl
 
-pow-table : T (all (λ (s : ℕ). all (λ (x : ℕ). alike (has (2 ^ s) x) (eqb x s)) (below 8)) (below 8))
+-- whether site x has the bit of site s just if it is that site
+abbrev oneBit : ℕ → ℕ → Bool
+oneBit s x = alike (has (2 ^ s) x) (eqb x s)
+
+pow-table : T (all (λ (s : ℕ). all (oneBit s) (below 8)) (below 8))
 unfolding alike
 pow-table = unfold below in tt
 
-with-table :
-    T (all (λ (m : ℕ). all (λ (s : ℕ). sameBytes (withSite s (sitesOf m)) (keep (λ x. has m x || eqb x s) (below 8))) (below 8)) (below 256))
+-- the sites of a mask, and one more
+abbrev oneMore : ℕ → ℕ → List ℕ
+oneMore m s = keep (λ x. has m x || eqb x s) (below 8)
+
+abbrev addsSite : ℕ → ℕ → Bool
+addsSite m s = sameBytes (withSite s (sitesOf m)) (oneMore m s)
+
+with-table : T (all (λ (m : ℕ). all (addsSite m) (below 8)) (below 256))
 with-table = unfold below sameBytes withSite sitesOf in tt
 
 -- One bit more is one site more.
 pub mask-report : (m s : ℕ) → m < 256 → s < 8 → withSite s (sitesOf m) ≡ sitesOf (bitOr m (2 ^ s))
 unfolding sitesOf
 mask-report m s h k =
-    let row = all-at (λ (y : ℕ). all (λ (z : ℕ). sameBytes (withSite z (sitesOf y)) (keep (λ x. has y x || eqb x z) (below 8))) (below 8)) (below 256) with-table m (mem-below 256 m h) in
-    let cell = all-at (λ (z : ℕ). sameBytes (withSite z (sitesOf m)) (keep (λ x. has m x || eqb x z) (below 8))) (below 8) row s (mem-below 8 s k) in
-    let bits = all-at (λ (y : ℕ). all (λ (x : ℕ). alike (has (2 ^ y) x) (eqb x y)) (below 8)) (below 8) pow-table s (mem-below 8 s k) in
-    same-bytes (withSite s (sitesOf m)) (keep (λ x. has m x || eqb x s) (below 8)) cell
+    let row = by-table 256 (λ (y : ℕ). all (addsSite y) (below 8)) with-table m h in
+    let bits = by-table 8 (λ (y : ℕ). all (oneBit y) (below 8)) pow-table s k in
+    same-bytes (withSite s (sitesOf m)) (oneMore m s) (by-table 8 (addsSite m) row s k)
     ∙ keep-agree (λ (x : ℕ). has m x || eqb x s) (has (bitOr m (2 ^ s))) (below 8)
     (λ x q.
-    ap (λ (b : Bool). has m x || b) (sym (alike-is (has (2 ^ s) x) (eqb x s) (all-at (λ (y : ℕ). alike (has (2 ^ s) y) (eqb y s)) (below 8) bits x q)))
+    ap (λ (b : Bool). has m x || b) (sym (alike-is (has (2 ^ s) x) (eqb x s) (all-at (oneBit s) (below 8) bits x q)))
     ∙ sym (or-has m (2 ^ s) x))
+
+-- A site's bit is a mask.
+pub bit-small : (s : ℕ) → s < 8 → 2 ^ s < 256
+bit-small s h = ltb-true (2 ^ s) 256 (T-true _ (by-table 8 (λ (x : ℕ). ltb (2 ^ x) 256) (unfold below in tt) s h))
+
+-- Sites of a mask are 0 to 7.
+pub site-low : (m s : ℕ) → isIn s (sitesOf m) ≡ true → s < 8
+unfolding sitesOf
+site-low m s e =
+    let q = any-at (eqb s) (keep (has m) (below 8)) (true-T _ e) in
+    let low = below-lt 8 (q .0) (mem-of-keep (has m) (below 8) (q .1) .0) in
+    let same : s ≡ q .0 = eqb→eq s (q .0) (q .2) in
+    omega (arith, low, same)
+
+-- ### A full copy at a site that the operation was not sent to
+
+-- a mask from its sites
+abbrev maskOf : List ℕ → ℕ
+maskOf xs = sum (λ s. 2 ^ s) xs
+
+mask-table : T (all (λ (m : ℕ). eqb (maskOf (sitesOf m)) m) (below 256))
+mask-table = unfold below sitesOf in tt
+
+-- Masks of the same sites are the same.
+mask-same : (a b : ℕ) → a < 256 → b < 256 → sitesOf a ≡ sitesOf b → a ≡ b
+mask-same a b h k e =
+    let back : (m : ℕ) → m < 256 → maskOf (sitesOf m) ≡ m =
+    λ m l. eqb→eq (maskOf (sitesOf m)) m (by-table 256 (λ (x : ℕ). eqb (maskOf (sitesOf x)) x) mask-table m l)
+    in
+    sym (back a h) ∙ ap maskOf e ∙ back b k
+
+module _ {A : Type 0} (f : A → Bool) where
+  -- all are kept, where none fails the test
+  kept-whole : (l : List A) → any (λ x. not (f x)) l ≡ false → keep f l ≡ l
+  kept-whole l e = keep-all f l (λ x m. holds x m (f x) refl)
+    where
+      holds : (x : A) → Mem x l → (b : Bool) → f x ≡ b → T (f x)
+      holds x m true p = true-T _ p
+      holds x m false p = absurd (false-T _ e (any-of (λ (y : A). not (f y)) m (true-T _ (ap not p))))
+
+  -- one is not kept, where one fails it
+  kept-less : (l : List A) → any (λ x. not (f x)) l ≡ true → keep f l ≡ l → ⊥
+  kept-less l e same =
+      let q = any-at (λ (x : A). not (f x)) l (true-T _ e) in
+      let less = length-keep-less f (q .1) (λ t. false-T (not (f (q .0))) (ap not (T-true (f (q .0)) t)) (q .2)) in
+      omega (arith, less, ap length same)
+
+-- 19 for masks: `and` takes a full copy away.
+pub mask-outside : (sent full : ℕ) → full < 256 → fullNotSent (sitesOf sent) (sitesOf full) ≡ not (eqb (bitAnd full sent) full)
+unfolding fullNotSent
+mask-outside sent full h = go (any (λ (s : ℕ). not (isIn s (sitesOf sent))) (sitesOf full)) refl
+  where
+    go : (b : Bool) → any (λ (s : ℕ). not (isIn s (sitesOf sent))) (sitesOf full) ≡ b → b ≡ not (eqb (bitAnd full sent) full)
+    go true e =
+        sym (ap not (ne-eqb (bitAnd full sent) full
+        (λ same. kept-less (λ (s : ℕ). isIn s (sitesOf sent)) (sitesOf full) e (mask-common full sent ∙ ap sitesOf same))))
+    go false e =
+        let common : sitesOf (bitAnd full sent) ≡ sitesOf full =
+        sym (mask-common full sent) ∙ kept-whole (λ (s : ℕ). isIn s (sitesOf sent)) (sitesOf full) e
+        in
+        let small : bitAnd full sent < 256 = let le = and-le-l full sent in omega arith in
+        sym (ap not (eq-eqb (bitAnd full sent) full (mask-same (bitAnd full sent) full small h common)))
