@@ -16,10 +16,8 @@ module _ {A : Type 0} (d : A) where
   pub says-like : (t : List A) (f g : ℕ → A) → Tabulates d t f → ((h : ℕ) → h < 16 → f h ≡ g h) → Tabulates d t g
   says-like t f g s e = record { long = s .long; each = λ h l. s .each h l ∙ e h l }
 
-  pub says-itself : (t : List A) → length t ≡ 16 → Tabulates d t (λ (h : ℕ). getD t h d)
-  says-itself t n = record { long = n; each = λ h l. refl }
-
-  pub says-store : (t : List A) (f : ℕ → A) (at : ℕ) (x : A) → Tabulates d t f → at < 16 → Tabulates d (set t at x) (λ (h : ℕ). cond (eqb at h) x (f h))
+  pub says-store : (t : List A) (f : ℕ → A) (at : ℕ) (x : A) → Tabulates d t f → at < 16
+      → Tabulates d (set t at x) (λ (h : ℕ). cond (eqb at h) x (f h))
   says-store t f at x s lt = record { long = length-set t at x ∙ s .long; each = λ h l. go h l (eqb at h) refl }
     where
       go : (h : ℕ) → h < 16 → (b : Bool) → eqb at h ≡ b → getD (set t at x) h d ≡ cond (eqb at h) x (f h)
@@ -34,8 +32,14 @@ pub says-nothing : Tabulates false (replicate 16 false) (λ (h : ℕ). false)
 says-nothing = record { long = refl; each = λ h l. getD-replicate 16 h false false l }
 
 -- the marks as they are before the first element
-pub says-start : {A : Type 0} (t : List Bool) (p : ℕ → A → Bool) (l : List A) → length t ≡ 16 → Tabulates false t (λ (h : ℕ). getD t h false || any (p h) (take 0 l))
-says-start t p l n = record { long = n; each = λ h k. sym (ap (λ (x : List _). getD t h false || any (p h) x) (take-none 0 l refl) ∙ or-false (getD t h false)) }
+pub says-start : {A : Type 0} (t : List Bool) (p : ℕ → A → Bool) (l : List A) → length t ≡ 16
+    → Tabulates false t (λ (h : ℕ). getD t h false || any (p h) (take 0 l))
+says-start t p l n =
+    record {
+      long = n;
+      each = λ h k. sym
+          (ap (λ (x : List _). getD t h false || any (p h) x) (take-none 0 l refl) ∙ or-false (getD t h false));
+    }
 
 -- a mark raised by b
 pub says-mark : (t : List Bool) (f : ℕ → Bool) (at : ℕ) (x b : Bool) → Tabulates false t f → at < 16 → x ≡ (getD t at false || b)

@@ -6,25 +6,28 @@ use mathlib.Core.Logic.{_⊎_, inl, inr}
 use mathlib.Core.Bool.{Bool}
 use mathlib.Core.List.{List, [], _∷_, map}
 use mathlib.Core.List.{List·Memᴰ as Mem, List·Memᴰ·not-nil, List·Memᴰ·cases-cons}
+use lib.Dec.{eqb}
 use lib.ListN.{length, getD, take}
 use Rattle.forms.specs.Forms.{Update, Change, Did}
 use Rattle.rules.specs.Rules.{mayRun}
-use Rattle.rules.specs.Book.{Cell, cell, runsAt, canRun}
+use Rattle.rules.specs.Book.{Cell, cell, runsAt, canRun, canRunWith, touches}
+use Rattle.rules.specs.State.{asks}
 use Rattle.history.specs.declared.History.{History}
 use Rattle.history.specs.declared.Item.{Item}
 use Rattle.history.specs.declared.Entry.{Entry}
-use Rattle.history.specs.Entries.{noHistory, cellOf, cellsOf, noItem, itemUpdate, itemChange, operationOf, didOfEntry, canRunIn, mayRunIn, UsableEntry}
-use Rattle.history.specs.Tests.{all-agree}
-use Rattle.table.specs.Queues.{canRunEntry}
+use Rattle.history.specs.Entries.{noHistory, cellOf, cellsOf, noItem, itemUpdate, itemChange, itemsOf, operationOf, didOfEntry, canRunIn}
+use Rattle.history.specs.Entries.{mayRunIn, UsableEntry}
+use Rattle.history.specs.Tests.{all-agree, any-map}
+use Rattle.table.specs.Tables.{canRunEntry, entryTouches}
 use Rattle.table.specs.Tries.{entryUpdates}
-use Rattle.rules.specs.Book.{canRunWith}
 
 -- what is made of the items of a usable entry keeps their histories
 item-low : {B : Type 0} (f : Item → B) (history : B → ℕ) → ((x : Item) → history (f x) ≡ x .history) → (e : Entry) → UsableEntry e
     → (b : B) → Mem b (map f (take (e .count) (e .items))) → history b < 16
 item-low {B} f history same e w b m = go (e .count) (e .items) (omega (arith, w .few, w .long)) (λ i h. w .each i h .history) m
   where
-    go : (n : ℕ) (l : List Item) → n ≤ length l → ((i : ℕ) → i < n → getD l i noItem .history < 16) → Mem b (map f (take n l)) → history b < 16
+    go : (n : ℕ) (l : List Item) → n ≤ length l → ((i : ℕ) → i < n → getD l i noItem .history < 16) → Mem b (map f (take n l))
+        → history b < 16
     go zero [] q h k = absurd (List·Memᴰ·not-nil k)
     go zero (x ∷ l) q h k = absurd (List·Memᴰ·not-nil k)
     go (suc n) [] q h k = absurd (let z : suc n ≤ 0 = q in omega arith)
@@ -49,8 +52,19 @@ module _ (hs : List History) (y : Item) {h : History} {b : Bool} where
   pub runs-read : {x : Item} → x ≡ y → h ≡ getD hs (x .history) noHistory → b ≡ runsAt (cellOf h) (itemChange x)
       → runsAt (cellsOf hs (y .history)) (itemChange y) ≡ b
   runs-read {x} e f g =
-      sym (g ∙ ap (λ (k : History). runsAt (cellOf k) (itemChange x)) f ∙ ap (λ (z : Item). runsAt (cellsOf hs (z .history)) (itemChange z)) e)
+      sym
+      (g ∙ ap (λ (k : History). runsAt (cellOf k) (itemChange x)) f ∙ ap (λ (z : Item). runsAt (cellsOf hs (z .history)) (itemChange z)) e)
 
-  pub may-read : h ≡ getD hs (y .history) noHistory → b ≡ mayRun (y .rule) (h .version .0) (y .version .0) → mayRunIn (cellsOf hs) (itemUpdate y) ≡ b
+  pub may-read : h ≡ getD hs (y .history) noHistory → b ≡ mayRun (y .rule) (h .version .0) (y .version .0)
+      → mayRunIn (cellsOf hs) (itemUpdate y) ≡ b
   unfolding mayRunIn
   may-read f g = sym (g ∙ ap (λ (k : History). mayRun (y .rule) (k .version .0) (y .version .0)) f)
+
+-- An entry has an update in a history where its operation asks for it, and where its did line touches it.
+pub entry-asks : (h : ℕ) (e : Entry) → entryTouches h e ≡ asks h (operationOf e)
+unfolding entryTouches asks operationOf
+entry-asks h e = sym (any-map itemUpdate (λ (u : Update). eqb (u .history) h) (itemsOf e))
+
+pub entry-touches : (h : ℕ) (e : Entry) → entryTouches h e ≡ touches h (didOfEntry e)
+unfolding entryTouches touches didOfEntry
+entry-touches h e = sym (any-map itemChange (λ (x : Change). eqb (x .history) h) (itemsOf e))

@@ -1,4 +1,4 @@
--- What a search of the queue says in the specification's words: the operation found, the operations without it, the line picked.
+-- What a search of the entries says in the specification's words: the operation found, the operations without it, the line picked.
 use Prim.Native.Nat.{ℕ, suc, _+_, _<_}
 use native.Mathlib.Omega.{arith}
 use mathlib.Core.Path.{_≡_, refl, sym, ap, ap₂, subst, _∙_}
@@ -26,8 +26,9 @@ use Rattle.history.specs.Tests.{any-map, any-agree, map-map}
 use Rattle.table.specs.declared.Found.{Found}
 use Rattle.table.specs.declared.Found.the-variants.{At, Nothing}
 use Rattle.table.specs.Lists.{oneLater, firstAt}
-use Rattle.table.specs.Queues.{hasId, isEntry, idOf, canRunEntry, pastEntry}
+use Rattle.table.specs.Tables.{hasId, isEntry, idOf, canRunEntry}
 use Rattle.table.specs.Tries.{operationsOf}
+use Rattle.table.specs.RangeLaws.{pastEntry}
 use Rattle.table.specs.EntryLaws.{can-run-is}
 
 -- ### The first that passes
@@ -61,27 +62,27 @@ module _ {A : Type 0} (p : A → Bool) (d : A) where
       go false (At j) f q = absurd (let z : _≡_ {A = ℕ} 0 1 = cc in omega arith)
       go false Nothing f q = f refl
 
-  -- the whole list, around the element found
-  pub first-split : (l : List A) (k : ℕ) → First l k → l ≡ take k l ++ getD l k d ∷ drop (suc k) l
-  first-split l k f = split-at l k d (f .lt)
-
 module _ {A B : Type 0} (f : A → B) (l : List A) (d : A) (k : ℕ) (lt : k < length l) where
   map-split : map f l ≡ map f (take k l) ++ f (getD l k d) ∷ map f (drop (suc k) l)
   map-split = ap (map f) (split-at l k d lt) ∙ map-append f (take k l) (getD l k d ∷ drop (suc k) l)
 
   -- the list without the element at k
   map-rest : map f (take k l ++ drop (k + 1) l) ≡ map f (take k l) ++ map f (drop (suc k) l)
-  map-rest = let z : k + 1 ≡ suc k = omega arith in map-append f (take k l) (drop (k + 1) l) ∙ ap (λ (n : ℕ). map f (take k l) ++ map f (drop n l)) z
+  map-rest =
+      let z : k + 1 ≡ suc k = omega arith in map-append f (take k l) (drop (k + 1) l)
+      ∙ ap (λ (n : ℕ). map f (take k l) ++ map f (drop n l)) z
 
 module _ {A : Type 0} (q : A → Bool) where
   find-mid : (a : List A) (x : A) (b : List A) → any q a ≡ false → q x ≡ true → find q (a ++ x ∷ b) ≡ some x
   find-mid [] x b e h = ap (λ (t : Bool). cond t (some x) (find q b)) h
   find-mid (y ∷ a) x b e h =
-      ap (λ (t : Bool). cond t (some y) (find q (a ++ x ∷ b))) (or-false-left (q y) (any q a) e) ∙ find-mid a x b (or-false-right (q y) (any q a) e) h
+      ap (λ (t : Bool). cond t (some y) (find q (a ++ x ∷ b))) (or-false-left (q y) (any q a) e)
+      ∙ find-mid a x b (or-false-right (q y) (any q a) e) h
 
   find-none : (l : List A) → any q l ≡ false → find q l ≡ none
   find-none [] e = refl
-  find-none (y ∷ l) e = ap (λ (t : Bool). cond t (some y) (find q l)) (or-false-left (q y) (any q l) e) ∙ find-none l (or-false-right (q y) (any q l) e)
+  find-none (y ∷ l) e =
+      ap (λ (t : Bool). cond t (some y) (find q l)) (or-false-left (q y) (any q l) e) ∙ find-none l (or-false-right (q y) (any q l) e)
 
 -- ### Ids
 
@@ -134,7 +135,8 @@ unfolding isEntry future operationOf
 no-future i l e = any-map operationOf (future i) l ∙ first-missed (isEntry i false) pastEntry l e
 
 -- Ids being distinct, the operations without that id are those left when the entry found is removed.
-pub without-is : (i : ℕ) (running : Bool) (l : List Entry) (k : ℕ) → Nodup (operationIds (operationsOf l)) → firstAt (isEntry i running) l ≡ At k
+pub without-is : (i : ℕ) (running : Bool) (l : List Entry) (k : ℕ) → Nodup (operationIds (operationsOf l))
+    → firstAt (isEntry i running) l ≡ At k
     → without i (operationsOf l) ≡ operationsOf (take k l ++ drop (k + 1) l)
 unfolding isEntry without operationOf
 without-is i running l k once e =
@@ -149,30 +151,40 @@ without-is i running l k once e =
     left false b q = q
 
     dropped : First (isEntry i running) pastEntry l k
-        → keep other (operationsOf (take k l) ++ operationOf (getD l k pastEntry) ∷ operationsOf (drop (suc k) l)) ≡ operationsOf (take k l) ++ operationsOf (drop (suc k) l)
+        → keep other (operationsOf (take k l) ++ operationOf (getD l k pastEntry) ∷ operationsOf (drop (suc k) l))
+        ≡ operationsOf (take k l) ++ operationsOf (drop (suc k) l)
     dropped f =
         keep-append other (operationsOf (take k l)) (operationOf (getD l k pastEntry) ∷ operationsOf (drop (suc k) l))
-        ∙ ap (λ (t : Bool). keep other (operationsOf (take k l)) ++ cond (not t) (operationOf (getD l k pastEntry) ∷ keep other (operationsOf (drop (suc k) l))) (keep other (operationsOf (drop (suc k) l)))) same
+        ∙ ap
+        (λ (t : Bool). keep other (operationsOf (take k l)) ++ cond (not t)
+        (operationOf (getD l k pastEntry) ∷ keep other (operationsOf (drop (suc k) l))) (keep other (operationsOf (drop (suc k) l)))) same
         ∙ ap₂ _++_ (keep-all other (operationsOf (take k l)) (λ x m. apart x (Memᴰ·append-left (operationsOf (drop (suc k) l)) m)))
         (keep-all other (operationsOf (drop (suc k) l)) (λ x m. apart x (Memᴰ·append-right (operationsOf (take k l)) m)))
       where
         same : eqb (getD l k pastEntry .id) i ≡ true
-        same = left (eqb (getD l k pastEntry .id) i) (cond running (getD l k pastEntry .running) (not (getD l k pastEntry .running))) (f .hit)
+        same =
+            left (eqb (getD l k pastEntry .id) i) (cond running (getD l k pastEntry .running) (not (getD l k pastEntry .running))) (f .hit)
 
         id : Operation → ℕ
         id x = x .id
 
-        ids : operationIds (operationsOf l) ≡ map id (operationsOf (take k l)) ++ getD l k pastEntry .id ∷ map id (operationsOf (drop (suc k) l))
-        ids = ap (map id) (map-split operationOf l pastEntry k (f .lt)) ∙ map-append id (operationsOf (take k l)) (operationOf (getD l k pastEntry) ∷ operationsOf (drop (suc k) l))
+        ids : operationIds (operationsOf l)
+            ≡ map id (operationsOf (take k l)) ++ getD l k pastEntry .id ∷ map id (operationsOf (drop (suc k) l))
+        ids =
+            ap (map id) (map-split operationOf l pastEntry k (f .lt))
+            ∙ map-append id (operationsOf (take k l)) (operationOf (getD l k pastEntry) ∷ operationsOf (drop (suc k) l))
 
         fresh : Mem (getD l k pastEntry .id) (map id (operationsOf (take k l)) ++ map id (operationsOf (drop (suc k) l))) → ⊥
-        fresh = nodup-mid (map id (operationsOf (take k l))) (getD l k pastEntry .id) (map id (operationsOf (drop (suc k) l))) (subst Nodup ids once) .0
+        fresh =
+            nodup-mid (map id (operationsOf (take k l))) (getD l k pastEntry .id) (map id (operationsOf (drop (suc k) l)))
+            (subst Nodup ids once) .0
 
         apart : (x : Operation) → Mem x (operationsOf (take k l) ++ operationsOf (drop (suc k) l)) → T (other x)
         apart x m =
             true-T (other x)
             (ap not (ne-eqb (x .id) i
-            (λ q. fresh (subst (λ (z : ℕ). Mem z (map id (operationsOf (take k l)) ++ map id (operationsOf (drop (suc k) l)))) (q ∙ sym (eqb-true (getD l k pastEntry .id) i same))
+            (λ q. fresh (subst (λ (z : ℕ). Mem z (map id (operationsOf (take k l)) ++ map id (operationsOf (drop (suc k) l))))
+            (q ∙ sym (eqb-true (getD l k pastEntry .id) i same))
             (mem-along (map-append id (operationsOf (take k l)) (operationsOf (drop (suc k) l))) (Memᴰ·map id m))))))
 
 -- ### Redo
@@ -181,8 +193,8 @@ without-is i running l k once e =
 picked : List Did → Did → List Did → Bool → Pick
 picked log w ws b = elim b [ true ↦ this 1 w ws | false ↦ behind w (pick log ws) ]
 
-pick-mid : (log a : List Did) (d : Did) (b : List Did) → any (canRun log) a ≡ false → canRun log d ≡ true →
-    pick log (a ++ d ∷ b) ≡ this (suc (length a)) d (a ++ b)
+pick-mid : (log a : List Did) (d : Did) (b : List Did) → any (canRun log) a ≡ false → canRun log d ≡ true
+    → pick log (a ++ d ∷ b) ≡ this (suc (length a)) d (a ++ b)
 unfolding picked pick behind
 pick-mid log [] d b e h = ap (picked log d b) h
 pick-mid log (w ∷ a) d b e h =
@@ -201,7 +213,9 @@ module _ (n : ℕ) (log : List Did) (hs : List History) (l : List Entry) (same :
   agree : (a : List Entry) → ((e : Entry) → Mem e a → Mem e l) → any (canRun log) (map didOfEntry a) ≡ any (canRunEntry (cellsOf hs)) a
   agree a into =
       any-map didOfEntry (canRun log) a
-      ∙ sym (any-agree (canRunEntry (cellsOf hs)) (λ (e : Entry). canRun log (didOfEntry e)) a (λ e m. can-run-is n log hs e same (low e (into e m))))
+      ∙ sym
+      (any-agree (canRunEntry (cellsOf hs)) (λ (e : Entry). canRun log (didOfEntry e)) a
+      (λ e m. can-run-is n log hs e same (low e (into e m))))
 
   -- The first line that can run is the one that the specification picks, and the queue without it holds the others.
   pub pick-is : (k : ℕ) → firstAt (canRunEntry (cellsOf hs)) l ≡ At k
@@ -210,7 +224,8 @@ module _ (n : ℕ) (log : List Did) (hs : List History) (l : List Entry) (same :
       ap (pick log) (map-split didOfEntry l pastEntry k (f .lt))
       ∙ pick-mid log (map didOfEntry (take k l)) (didOfEntry (getD l k pastEntry)) (map didOfEntry (drop (suc k) l))
       (agree (take k l) (λ x m. whole x (Memᴰ·append-left (getD l k pastEntry ∷ drop (suc k) l) m)) ∙ f .miss)
-      (sym (can-run-is n log hs (getD l k pastEntry) same (low (getD l k pastEntry) (whole (getD l k pastEntry) (mem-at (getD l k pastEntry) (take k l) (drop (suc k) l))))) ∙ f .hit)
+      (sym (can-run-is n log hs (getD l k pastEntry) same
+      (low (getD l k pastEntry) (whole (getD l k pastEntry) (mem-at (getD l k pastEntry) (take k l) (drop (suc k) l))))) ∙ f .hit)
       ∙ ap₂ (λ (n : ℕ) (rest : List Did). this n (didOfEntry (getD l k pastEntry)) rest) looked
       (sym (map-rest didOfEntry l pastEntry k (f .lt)))
     where

@@ -1,21 +1,21 @@
 -- What loops over the first elements of an array meet: one element more, the element that decides, and stores.
-use Prim.Native.Nat.{ℕ, zero, suc, _+_, _-_, _≤_, _<_}
+use Prim.Native.Nat.{ℕ, zero, suc, _+_, _≤_, _<_}
 use native.Mathlib.Numerals.{add-one}
 use native.Mathlib.Omega.{arith}
-use mathlib.Core.Path.{_≡_, refl, sym, ap, ap₂, subst, _∙_}
+use mathlib.Core.Path.{_≡_, refl, sym, ap, ap₂, _∙_}
 use mathlib.Core.Logic.{_⊎_, inl, inr}
 use mathlib.Core.Bool.{Bool, true, false, cond, _&&_, _||_, or-false, or-assoc, and-false, and-assoc}
-use mathlib.Core.List.{List, [], _∷_, _++_, map, map-append}
+use mathlib.Core.List.{List, [], _∷_, _++_}
 use mathlib.Core.List.{List·Memᴰ as Mem, List·Memᴰ·head as here, List·Memᴰ·tail as there, List·Memᴰ·cases-cons}
 use lib.ListN.{length, getD, take, drop, set, length-take, drop-of-length-le}
-use lib.Seq.{take-suc, length-take-le, take-suc-set, take-nil, take-add, drop-at, drop-append-le}
+use lib.Seq.{take-suc, length-take-le, take-suc-set, drop-append-le}
 use Rattle.forms.specs.Lists.{any, all, keep, below}
-use Rattle.forms.specs.ListLaws.{mem-at, mem-along, mem-snoc, keep-append, length-keep}
+use Rattle.forms.specs.ListLaws.{keep-append, length-keep}
 use Rattle.history.specs.Tests.{take-split}
 use Rattle.history.specs.WordLaws.{below-long}
 use Rattle.table.specs.declared.Found.{Found}
 use Rattle.table.specs.declared.Found.the-variants.{At, Nothing}
-use Rattle.table.specs.Lists.{oneLater, firstAt, omit}
+use Rattle.table.specs.Lists.{oneLater, firstAt}
 
 -- ### The part of an array that counts
 
@@ -27,9 +27,6 @@ module _ {A : Type 0} (l : List A) (d : A) where
   pub slice-next : (from i : ℕ) → from ≤ i → i < length l → drop from (take (i + 1) l) ≡ drop from (take i l) ++ (getD l i d ∷ [])
   slice-next from i h g =
       ap (drop from) (take-next i g) ∙ drop-append-le from (take i l) (getD l i d ∷ []) (omega (arith, length-take-le i l (omega arith)))
-
-  pub mem-take : (i n : ℕ) → i < n → n ≤ length l → Mem (getD l i d) (take n l)
-  mem-take i n p q = mem-along (sym (take-split l d i n p q)) (mem-at (getD l i d) (take i l) (drop (suc i) (take n l)))
 
 module _ {A : Type 0} where
   -- one more at the end
@@ -53,15 +50,6 @@ module _ {A : Type 0} where
       go (inl e) below = inr (here e)
       go (inr k) below = up (below k)
 
-  -- what holds of each element still does
-  pub push-each : (P : A → Type 0) (l : List A) (n : ℕ) (a : A) → n < length l → ((x : A) → Mem x (take n l) → P x) → P a
-      → (x : A) → Mem x (take (n + 1) (set l n a)) → P x
-  push-each P l n a h each one x m = cases (mem-snoc (take n l) (mem-along (take-push l n a h) m))
-    where
-      cases : (x ≡ a) ⊎ Mem x (take n l) → P x
-      cases (inl e) = subst P (sym e) one
-      cases (inr k) = each x k
-
   pub take-none : (n : ℕ) (l : List A) → n ≡ 0 → take n l ≡ []
   take-none n l e = ap (λ (k : ℕ). take k l) e ∙ nothing l
     where
@@ -72,14 +60,6 @@ module _ {A : Type 0} where
   -- behind the first n of n there is nothing
   pub drop-past : (n : ℕ) (l : List A) → drop n (take n l) ≡ []
   drop-past n l = let h : length (take n l) ≤ n = omega (arith, length-take n l) in drop-of-length-le (take n l) h
-
-  -- a part that begins at k, read from its own start or from the list's
-  pub drop-take : (k n : ℕ) (l : List A) → k ≤ n → n ≤ length l → drop k (take n l) ≡ take (n - k) (drop k l)
-  drop-take k n l h q =
-      let e : n ≡ k + (n - k) = omega arith in
-      ap (λ (m : ℕ). drop k (take m l)) e
-      ∙ ap (drop k) (take-add k (n - k) l)
-      ∙ drop-at (take k l) (take (n - k) (drop k l)) k (length-take-le k l (omega arith))
 
 -- ### Tests over the elements passed so far
 
@@ -101,14 +81,14 @@ module _ {A : Type 0} (p : A → Bool) where
   none-parts false Nothing e = (refl, refl)
 
   -- where none of the first elements passes
-  first-snoc : (l : List A) (a : A) → firstAt p l ≡ Nothing → p a ≡ false → firstAt p (l ++ (a ∷ [])) ≡ Nothing
+  pub first-snoc : (l : List A) (a : A) → firstAt p l ≡ Nothing → p a ≡ false → firstAt p (l ++ (a ∷ [])) ≡ Nothing
   unfolding firstAt
   first-snoc [] a e h = rw h
   first-snoc (x ∷ l) a e h =
       let q = none-parts (p x) (firstAt p l) e in
       rw (q .0, first-snoc l a (q .1) h)
 
-  first-mid : (l : List A) (a : A) (r : List A) → firstAt p l ≡ Nothing → p a ≡ true → firstAt p (l ++ a ∷ r) ≡ At (length l)
+  pub first-mid : (l : List A) (a : A) (r : List A) → firstAt p l ≡ Nothing → p a ≡ true → firstAt p (l ++ a ∷ r) ≡ At (length l)
   unfolding firstAt
   first-mid [] a r e h = rw h
   first-mid (x ∷ l) a r e h =
@@ -130,69 +110,9 @@ module _ {A : Type 0} (p : A → Bool) (l : List A) (d : A) where
       ∙ ap (λ (t : Bool). all p (take i l) && (t && all p (drop (suc i) (take n l)))) q
       ∙ and-false (all p (take i l))
 
-  pub first-next : (i : ℕ) → i < length l → firstAt p (take i l) ≡ Nothing → p (getD l i d) ≡ false → firstAt p (take (i + 1) l) ≡ Nothing
-  first-next i h e q = rw (take-next l d i h) (first-snoc p (take i l) (getD l i d) e q)
-
-  pub first-hit : (i n : ℕ) → i < n → n ≤ length l → firstAt p (take i l) ≡ Nothing → p (getD l i d) ≡ true → firstAt p (take n l) ≡ At i
-  first-hit i n h g e q =
-      rw (take-split l d i n h g) (first-mid p (take i l) (getD l i d) (drop (suc i) (take n l)) e q)
-      ∙ ap At (length-take-le i l (omega arith))
-
 pub first-none : {A : Type 0} (p : A → Bool) → firstAt p [] ≡ Nothing
 unfolding firstAt
 first-none p = refl
-
--- ### A list without one element
-
-module _ {A : Type 0} where
-  pub omit-is : (k : ℕ) (l : List A) → omit k l ≡ take k l ++ drop (suc k) l
-  unfolding omit
-  omit-is zero [] = refl
-  omit-is zero (x ∷ l) = refl
-  omit-is (suc k) [] = refl
-  omit-is (suc k) (x ∷ l) = ap (λ (r : List A). x ∷ r) (omit-is k l)
-
-  take-omit : (k n : ℕ) (l : List A) → k ≤ n → take n (omit k l) ≡ omit k (take (suc n) l)
-  unfolding omit
-  take-omit zero n [] h = take-nil n
-  take-omit zero n (x ∷ l) h = refl
-  take-omit (suc k) n [] h = take-nil n
-  take-omit (suc k) zero (x ∷ l) h = absurd (let z : suc k ≤ 0 = h in omega arith)
-  take-omit (suc k) (suc n) (x ∷ l) h = ap (λ (r : List A). x ∷ r) (take-omit k n l (omega arith))
-
-  take-omit-same : (k : ℕ) (l : List A) → take k (omit k l) ≡ take k l
-  unfolding omit
-  take-omit-same zero [] = refl
-  take-omit-same zero (x ∷ []) = refl
-  take-omit-same zero (x ∷ y ∷ l) = refl
-  take-omit-same (suc k) [] = refl
-  take-omit-same (suc k) (x ∷ l) = ap (λ (r : List A). x ∷ r) (take-omit-same k l)
-
-  -- The element behind k, put at k as well.
-  shift-step : (k : ℕ) (l : List A) (d : A) → suc k < length l → omit (suc k) (set l k (getD l (suc k) d)) ≡ omit k l
-  unfolding omit
-  shift-step k [] d h = absurd (omega arith)
-  shift-step zero (x ∷ []) d h = absurd (let z : 1 < 1 = h in omega arith)
-  shift-step zero (x ∷ y ∷ l) d h = refl
-  shift-step (suc k) (x ∷ l) d h = ap (λ (r : List A). x ∷ r) (shift-step k l d (omega arith))
-
-  pub omit-step : (k : ℕ) (l : List A) (d : A) → k + 1 < length l → omit (k + 1) (set l k (getD l (k + 1) d)) ≡ omit k l
-  omit-step k l d h = rw add-one (shift-step k l d (omega arith))
-
-  -- All behind k moved up by one: the last of them counts no more.
-  pub omitted : (k last n : ℕ) (l r : List A) → last + 1 ≡ n → k ≤ last → omit last r ≡ omit k l → take last r ≡ take k (take n l) ++ drop (k + 1) (take n l)
-  omitted k last n l r q h e =
-      let f : suc last ≡ n = omega arith in
-      let g : suc k ≡ k + 1 = omega arith in
-      sym (take-omit-same last r)
-      ∙ ap (take last) e
-      ∙ take-omit k last l h
-      ∙ ap (λ (m : ℕ). omit k (take m l)) f
-      ∙ omit-is k (take n l)
-      ∙ ap (λ (m : ℕ). take k (take n l) ++ drop m (take n l)) g
-
-pub map-next : {A B : Type 0} (f : A → B) (l : List A) (d : A) (i : ℕ) → i < length l → map f (take (i + 1) l) ≡ map f (take i l) ++ (f (getD l i d) ∷ [])
-map-next f l d i h = ap (map f) (take-next l d i h) ∙ map-append f (take i l) (getD l i d ∷ [])
 
 -- ### Numbers that pass a test, rising
 

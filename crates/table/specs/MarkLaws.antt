@@ -1,5 +1,5 @@
 -- Laws of the marks: what they say of the updates counted, and that they answer the specification's "blocked".
-use Prim.Native.Nat.{ℕ, _+_, _<_}
+use Prim.Native.Nat.{ℕ, _+_, _≤_, _<_}
 use native.Mathlib.Omega.{arith}
 use mathlib.Core.Path.{_≡_, refl, sym, ap, subst, fun-ext, _∙_}
 use mathlib.Core.Bool.{Bool, true, false, cond, not, _&&_, _||_, or-true, or-false, and-true}
@@ -11,18 +11,20 @@ use Rattle.forms.specs.Forms.{Update}
 use Rattle.forms.specs.declared.Rule.{Rule}
 use Rattle.forms.specs.declared.Rule.the-variants.{Inc, Set, Not, Unk}
 use Rattle.rules.specs.Rules.{strong}
-use Rattle.rules.specs.State.{Operation, asks}
+use Rattle.rules.specs.State.{Operation}
 use Rattle.rules.specs.Calls.{blockedBy, blocked}
 use Rattle.history.specs.declared.Item.{Item}
 use Rattle.history.specs.declared.Entry.{Entry}
-use Rattle.history.specs.Entries.{noItem, itemUpdate, operationOf, UsableEntry}
+use Rattle.history.specs.Entries.{noItem, itemUpdate, itemsOf, operationOf, UsableEntry}
 use Rattle.history.specs.Tests.{any-map}
 use Rattle.table.specs.declared.Marks.{Marks}
 use Rattle.table.specs.Arrays.{Tabulates}
-use Rattle.table.specs.Queues.{pastEntry}
-use Rattle.table.specs.Tries.{gather, inHistory, strongIn, entryUpdates, held, MarksOf, More, freeBy, operationsOf}
-use Rattle.table.specs.LoopLaws.{take-next, any-append}
+use Rattle.table.specs.Rows.{rowAt}
+use Rattle.table.specs.Tables.{rowsIn, entryTouches}
+use Rattle.table.specs.Tries.{gather, inHistory, strongIn, entryUpdates, held, MarksOf, More, freeBy}
+use Rattle.table.specs.LoopLaws.{any-append}
 use Rattle.table.specs.ArrayLaws.{says-like, says-start, says-next, says-nothing}
+use Rattle.table.specs.RangeLaws.{range-none, range-next}
 
 -- ### Lists one behind the other
 
@@ -50,8 +52,10 @@ gather-map f g (x ∷ l) = ap (λ (k : List _). g (f x) ++ k) (gather-map f g l)
 
 -- The marks that a loop over the items of an entry has set.
 pub record Marking (i : ℕ) (e : Entry) (m₀ m : Marks) : Type 0 where
-  pub each : Tabulates false (m .any) (λ (h : ℕ). getD (m₀ .any) h false || any (λ (x : Item). inHistory h (itemUpdate x)) (take i (e .items)))
-  pub strongs : Tabulates false (m .strong) (λ (h : ℕ). getD (m₀ .strong) h false || any (λ (x : Item). strongIn h (itemUpdate x)) (take i (e .items)))
+  pub each : Tabulates false (m .any)
+      (λ (h : ℕ). getD (m₀ .any) h false || any (λ (x : Item). inHistory h (itemUpdate x)) (take i (e .items)))
+  pub strongs : Tabulates false (m .strong)
+      (λ (h : ℕ). getD (m₀ .strong) h false || any (λ (x : Item). strongIn h (itemUpdate x)) (take i (e .items)))
 
 pub marking-start : (e : Entry) (m : Marks) → length (m .any) ≡ 16 → length (m .strong) ≡ 16 → Marking 0 e m m
 marking-start e m p q = record {
@@ -65,8 +69,11 @@ pub marking-next : (i : ℕ) (e : Entry) (m₀ m : Marks) (b : Bool) → UsableE
     (record { any = set (m .any) (getD (e .items) i noItem .history) true; strong = set (m .strong) (getD (e .items) i noItem .history) b })
 marking-next i e m₀ m b u lt a q = record {
   each = says-next (m .any) (m₀ .any) (λ (h : ℕ) (x : Item). inHistory h (itemUpdate x)) (e .items) noItem i at true true
-      (omega (arith, u .few, u .long)) (u .each i lt .history) (sym (or-true (getD (m .any) at false))) (λ h. and-true (eqb at h)) (a .each);
-  strongs = says-next (m .strong) (m₀ .strong) (λ (h : ℕ) (x : Item). strongIn h (itemUpdate x)) (e .items) noItem i at b (strong (getD (e .items) i noItem .rule))
+      (omega (arith, u .few, u .long)) (u .each i lt .history) (sym (or-true (getD (m .any) at false))) (λ h. and-true (eqb at h))
+      (a .each);
+  strongs =
+      says-next (m .strong) (m₀ .strong) (λ (h : ℕ) (x : Item). strongIn h (itemUpdate x)) (e .items) noItem i at b
+      (strong (getD (e .items) i noItem .rule))
       (omega (arith, u .few, u .long)) (u .each i lt .history) q (λ h. refl) (a .strongs);
 }
   where
@@ -80,7 +87,8 @@ marking-end i e m₀ m q a = record {
   strongs = says-like false (m .strong) _ _ (a .strongs) (λ h l. ap (λ (b : Bool). getD (m₀ .strong) h false || b) (whole (strongIn h)));
 }
   where
-    whole : (p : Update → Bool) → any (λ (x : Item). p (itemUpdate x)) (take i (e .items)) ≡ any p (map itemUpdate (take (e .count) (e .items)))
+    whole : (p : Update → Bool)
+        → any (λ (x : Item). p (itemUpdate x)) (take i (e .items)) ≡ any p (map itemUpdate (take (e .count) (e .items)))
     whole p =
         ap (λ (n : ℕ). any (λ (x : Item). p (itemUpdate x)) (take n (e .items))) q
         ∙ sym (any-map itemUpdate p (take (e .count) (e .items)))
@@ -113,23 +121,25 @@ marked-more m r us ws a b = record {
 }
 
 -- one entry more of those that the loop passes
-pub marked-next : (f : Entry → List Update) (l : List Entry) (m r : Marks) (i : ℕ) → i < length l
-    → MarksOf m (gather f (take i l)) → More r m (f (getD l i pastEntry)) → MarksOf r (gather f (take (i + 1) l))
-marked-next f l m r i h a b =
-    subst (MarksOf r) (sym (ap (gather f) (take-next l pastEntry i h) ∙ gather-snoc f (take i l) (getD l i pastEntry)))
-    (marked-more m r (gather f (take i l)) (f (getD l i pastEntry)) a b)
+pub marked-next : (f : Entry → List Update) (o ws : List ℕ) (m r : Marks) (from i : ℕ) → from ≤ i → i < length o
+    → MarksOf m (gather f (rowsIn o ws from i)) → More r m (f (rowAt ws (getD o i 0))) → MarksOf r (gather f (rowsIn o ws from (i + 1)))
+marked-next f o ws m r from i h l a b =
+    subst (MarksOf r) (sym (ap (gather f) (range-next o ws from i h l) ∙ gather-snoc f (rowsIn o ws from i) (rowAt ws (getD o i 0))))
+    (marked-more m r (gather f (rowsIn o ws from i)) (f (rowAt ws (getD o i 0))) a b)
 
-pub marked-start : (f : Entry → List Update) (l : List Entry) → MarksOf (record { any = replicate 16 false; strong = replicate 16 false }) (gather f (take 0 l))
+pub marked-start : (f : Entry → List Update) (o ws : List ℕ) (from : ℕ)
+    → MarksOf (record { any = replicate 16 false; strong = replicate 16 false }) (gather f (rowsIn o ws from from))
 unfolding gather
-marked-start f [] = marked-none
-marked-start f (x ∷ l) = marked-none
+marked-start f o ws from = subst (MarksOf _) (ap (gather f) (sym (range-none o ws from))) marked-none
 
--- the histories that some operation asks for
-pub touched-by : (m : Marks) (l : List Entry) → MarksOf m (gather entryUpdates l) → Tabulates false (m .any) (λ (h : ℕ). any (asks h) (operationsOf l))
-unfolding asks
+-- the histories that the entries' updates are in
+pub touched-by : (m : Marks) (l : List Entry) → MarksOf m (gather entryUpdates l)
+    → Tabulates false (m .any) (λ (h : ℕ). any (entryTouches h) l)
+unfolding entryTouches operationOf
 touched-by m l a =
     says-like false (m .any) _ _ (a .each)
-    (λ h k. any-gather entryUpdates (inHistory h) l ∙ sym (any-map operationOf (λ (x : Operation). any (inHistory h) (x .updates)) l))
+    (λ h k. any-gather entryUpdates (inHistory h) l
+    ∙ ap (λ (p : Entry → Bool). any p l) (fun-ext (λ e. any-map itemUpdate (inHistory h) (itemsOf e))))
 
 -- ### Blocked
 
@@ -141,7 +151,8 @@ blocked-held : (u : Update) (x : Operation) → blockedBy u x ≡ any (conflicts
 unfolding blockedBy
 blocked-held u x = go (x .running)
   where
-    go : (b : Bool) → (b && any (conflicts (u .rule) (u .history)) (x .updates)) ≡ any (conflicts (u .rule) (u .history)) (cond b (x .updates) [])
+    go : (b : Bool)
+        → (b && any (conflicts (u .rule) (u .history)) (x .updates)) ≡ any (conflicts (u .rule) (u .history)) (cond b (x .updates) [])
     go true = refl
     go false = refl
 
@@ -150,14 +161,16 @@ unfolding blocked
 blocked-all u xs =
     ap (λ (p : Operation → Bool). any p xs) (fun-ext (blocked-held u)) ∙ sym (any-gather held (conflicts (u .rule) (u .history)) xs)
 
-conflict-rule : (r : Rule) (h : ℕ) (us : List Update) → any (conflicts r h) us ≡ cond (strong r) (any (inHistory h) us) (any (strongIn h) us)
+conflict-rule : (r : Rule) (h : ℕ) (us : List Update)
+    → any (conflicts r h) us ≡ cond (strong r) (any (inHistory h) us) (any (strongIn h) us)
 conflict-rule Inc h us = ap (λ (p : Update → Bool). any p us) (fun-ext (λ w. and-true (eqb (w .history) h)))
 conflict-rule Set h us = ap (λ (p : Update → Bool). any p us) (fun-ext (λ w. and-true (eqb (w .history) h)))
 conflict-rule Not h us = refl
 conflict-rule Unk h us = ap (λ (p : Update → Bool). any p us) (fun-ext (λ w. and-true (eqb (w .history) h)))
 
 -- One look at the marks answers whether an update is blocked.
-pub free-is : (m : Marks) (xs : List Operation) (u : Update) → MarksOf m (gather held xs) → u .history < 16 → freeBy m u ≡ not (blocked xs u)
+pub free-is : (m : Marks) (xs : List Operation) (u : Update) → MarksOf m (gather held xs) → u .history < 16
+    → freeBy m u ≡ not (blocked xs u)
 unfolding freeBy
 free-is m xs u a l = ap not (go (strong (u .rule)) ∙ sym (blocked-all u xs ∙ conflict-rule (u .rule) (u .history) (gather held xs)))
   where

@@ -15,7 +15,8 @@ use Rattle.history.specs.declared.Entry.{Entry}
 use Rattle.history.specs.Entries.{operationOf, mayRunIn}
 use Rattle.table.specs.declared.Marks.{Marks}
 use Rattle.history.specs.Lists.{Lists}
-use Rattle.table.specs.Queues.{Queued, queueOf, UsableQueue}
+use Rattle.table.specs.declared.Table.{Table}
+use Rattle.table.specs.Tables.{liveNumbers, finishedRows, queueRows, Owns, Frame}
 use Rattle.table.specs.Arrays.{Tabulates}
 
 -- ### The specification's tries, against cells
@@ -85,8 +86,10 @@ startsBy cells m x = not (x .running) && all (readyBy cells m) (x .updates)
 abbrev pub operationsOf : List Entry → List Operation
 operationsOf l = map operationOf l
 
--- The queue after a pass over these entries, and the ids made ready, r of them, as a list from `at` on.
-pub record Tries (cells : ℕ → Cell) (l : List Entry) (q : Queued) (old : List ℕ) (at r : ℕ) (new : List ℕ) : Type 0 where
-  pub usable : UsableQueue q
-  pub queue : operationsOf (queueOf q) ≡ tryAllIn cells (operationsOf l)
-  pub ready : Lists old at (madeReady (operationsOf l) (tryAllIn cells (operationsOf l))) r new
+-- What a pass over the future operations makes of a table, and the ids made ready, r of them, as a list from `at` on.
+pub record Tries (cells : ℕ → Cell) (t : Table) (o old new lists : List ℕ) (at r : ℕ) (newLists : List ℕ) : Type 0 where
+  pub owns : Owns t o new
+  pub frame : Frame (liveNumbers t o) old new
+  pub finished : finishedRows t o new ≡ finishedRows t o old
+  pub queue : operationsOf (queueRows t o new) ≡ tryAllIn cells (operationsOf (queueRows t o old))
+  pub ready : Lists lists at (madeReady (operationsOf (queueRows t o old)) (tryAllIn cells (operationsOf (queueRows t o old)))) r newLists

@@ -1,0 +1,30 @@
+-- An entry that is not in progress holds no update, so the marks stay; the other case is `marked`.
+use borrow.Author.Needs.{needs}
+use mathlib.Core.Path.{sym, subst}
+use mathlib.Core.Bool.{Bool, cond}
+use mathlib.Core.List.{[]}
+use Rattle.history.specs.Entries.{operationOf}
+use Rattle.table.specs.Tries.{More, entryUpdates}
+use Rattle.table.specs.MarkLaws.{more-none}
+use Rattle.table.proofs.blocking.marked_by.Statement.{statement}
+use Rattle.table.proofs.blocking.marked_by.Tie as tie
+
+marked-requires : tie.Need-marked-requires
+marked-requires c κs = search needs
+
+returns : tie.Need-returns
+unfolding operationOf
+returns c =
+    let a = c .before .before .args in
+    subst (λ (b : Bool). More (c .marked .result) (a .m) (cond b (entryUpdates (a .e)) [])) (sym (c .before .if1 .taken))
+    (c .marked .ensures)
+
+returns-2 : tie.Need-returns-2
+unfolding operationOf
+returns-2 c =
+    let a = c .before .args in
+    subst (λ (b : Bool). More (a .m) (a .m) (cond b (entryUpdates (a .e)) [])) (sym (c .if1 .left))
+    (more-none (a .m) (c .before .pre .1 .0) (c .before .pre .1 .1))
+
+pub marked-by-spec : {M : Type 1} → statement M
+marked-by-spec = tie.close (tie.spec marked-requires returns returns-2)

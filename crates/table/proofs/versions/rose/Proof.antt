@@ -1,0 +1,99 @@
+-- After h histories the list has those of them that pass the test: each round adds the history, or nothing.
+use denote.Ref.{now}
+use borrow.Author.Needs.{needs}
+use Prim.Native.Nat.{_≤_, _-_}
+use native.Mathlib.Omega.{arith}
+use mathlib.Core.Path.{_≡_}
+use mathlib.Core.Logic.{⊎-elim}
+use lib.ListN.{length}
+use borrow.Author.Tests.{lt-ltb, le-ltb}
+use Rattle.table.specs.Arrays.{rises}
+use Rattle.table.specs.NumberLaws.{KeptBelow, kept-none, kept-yes, kept-no}
+use Rattle.table.proofs.versions.rose.Statement.{statement}
+use Rattle.table.proofs.versions.rose.Tie as tie
+
+abbrev Inv-loop : tie.InvT-loop
+Inv-loop n lists₀ at before after count₀ h₀ lists count h =
+    (h ≤ n) × (n ≤ 16) × (at ≤ 16) × (count ≤ h) × KeptBelow (rises before after) h lists₀ at count lists
+
+abbrev μ-loop : tie.MeasureT-loop
+μ-loop n lists₀ at before after count₀ h₀ lists count h = n - h
+
+known-length-requires : tie.Need-known-length-requires Inv-loop μ-loop
+known-length-requires c κs = search needs
+
+loop-holds : tie.Need-loop-holds Inv-loop μ-loop
+loop-holds c =
+    let e = c .before .before .before in
+    let long : length (now (e .args .lists)) ≡ 68 = search needs in
+    (omega arith, e .pre .0, e .pre .1, omega arith, kept-none _ (now (e .args .lists)) (e .args .at) long)
+
+mul-if1 : tie.Need-mul-if1 Inv-loop μ-loop
+mul-if1 c = omega arith
+
+array-read-if1 : tie.Need-array-read-if1 Inv-loop μ-loop
+array-read-if1 c = omega arith
+
+mul-if1-2 : tie.Need-mul-if1-2 Inv-loop μ-loop
+mul-if1-2 c = omega arith
+
+array-read-if1-2 : tie.Need-array-read-if1-2 Inv-loop μ-loop
+array-read-if1-2 c = omega arith
+
+add-push-number : tie.Need-add-push-number Inv-loop μ-loop
+add-push-number c = omega arith
+
+push-number-requires : tie.Need-push-number-requires Inv-loop μ-loop
+push-number-requires c κs = omega arith
+
+add-count : tie.Need-add-count Inv-loop μ-loop
+add-count c = omega arith
+
+add-h : tie.Need-add-h Inv-loop μ-loop
+add-h c = omega arith
+
+loop-less : tie.Need-loop-less Inv-loop μ-loop
+loop-less c = omega arith
+
+loop-again : tie.Need-loop-again Inv-loop μ-loop
+loop-again c =
+    let l = c .before .before .loop in
+    let a = c .before .before .before .before .before .before .args in
+    let test = rises (a .t1) (a .t2) in
+    let old = now (a .lists) in
+    let at = a .at in
+    let next =
+    ⊎-elim
+    (λ w. kept-yes test old at (l .count) (l .lists) (l .h) (l .inv .4) (w .2 .ensures) (omega arith) (w .3) (w .4)
+    (lt-ltb _ _ (w .0 .taken)))
+    (λ w. kept-no test old at (l .count) (l .lists) (l .h) (l .inv .4) (w .1) (w .2) (le-ltb _ _ (w .0 .left)))
+    (c .if1 .came)
+    in
+    (omega arith, l .inv .1, l .inv .2, next .few, next)
+
+returns : tie.Need-returns Inv-loop μ-loop
+returns c =
+    let e : c .before .loop .h ≡ c .before .before .before .before .before .args .n = omega arith in
+    let l = c .before .loop in
+    let k = (rw e at (l .inv .4)) .is in
+    record { few = omega (arith, l .inv .3); room = omega (arith, l .inv .3, k .long); wrote = k .wrote }
+
+pub rose-spec : {M : Type 1} → statement M
+rose-spec =
+    tie.close
+    (tie.spec
+    Inv-loop
+    μ-loop
+    known-length-requires
+    loop-holds
+    mul-if1
+    array-read-if1
+    mul-if1-2
+    array-read-if1-2
+    add-push-number
+    push-number-requires
+    add-count
+    add-h
+    loop-less
+    loop-again
+    returns)

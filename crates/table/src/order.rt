@@ -1,0 +1,74 @@
+// The order of a site's entries: a list of entry numbers in which a number changes its place and none is lost.
+ghost use mathlib.Core.Path.{_≡_};
+ghost use Prim.Native.Nat.{_≤_, _<_};
+ghost use Rattle.forms.specs.Lists.{below};
+ghost use Rattle.table.specs.Ends.{was, left};
+ghost use Rattle.table.specs.Order.{moved, turned};
+
+// The numbers of a site's entries, of 8 bits each: first those of the done ones, in log order, then those that are not done, in order
+// of arrival (or waiting, in order of delivery), then those that are free.
+pub type Order = [u8; 64];
+
+// Numbers lent whole: there are as many as their type says.
+fn known_length(_order: &[u8]) {}
+
+// All entries free, in rising order.
+pub fn number_all(order: &mut Order)
+    ensures { λ r. ⌜ left order ≡ below 64 ⌝ }
+{
+    known_length(order);
+    let mut i: usize = 0;
+    while i < 64 {
+        order[i] = i as u8;
+        i += 1;
+    }
+}
+
+// The number at `from` goes to the earlier place `to`; those between move on by one.
+pub fn move_forward(order: &mut Order, from: usize, to: usize)
+    requires { ⌜ (to ≤ from) × (from < 64) ⌝ }
+    ensures { λ r. ⌜ left order ≡ moved from to (was order) ⌝ }
+{
+    known_length(order);
+    let x = order[from];
+    let mut i = from;
+    while to < i {
+        order[i] = order[i - 1];
+        i -= 1;
+    }
+    order[to] = x;
+}
+
+// The number at `from` goes to the later place `to`; those between move up by one.
+pub fn move_back(order: &mut Order, from: usize, to: usize)
+    requires { ⌜ (from ≤ to) × (to < 64) ⌝ }
+    ensures { λ r. ⌜ left order ≡ moved from to (was order) ⌝ }
+{
+    known_length(order);
+    let x = order[from];
+    let mut i = from;
+    while i < to {
+        order[i] = order[i + 1];
+        i += 1;
+    }
+    order[to] = x;
+}
+
+// Of the first n numbers, the first k go behind the others.
+pub fn turn(order: &mut Order, k: usize, n: usize)
+    requires { ⌜ (k ≤ n) × (n ≤ 64) ⌝ }
+    ensures { λ r. ⌜ left order ≡ turned k n (was order) ⌝ }
+{
+    known_length(order);
+    let before = *order;
+    let rest = n - k;
+    let mut i: usize = 0;
+    while i < n {
+        order[i] = if i < rest {
+            before[i + k]
+        } else {
+            before[i - rest]
+        };
+        i += 1;
+    }
+}

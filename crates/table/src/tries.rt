@@ -1,0 +1,96 @@
+// Trying the future operations once, oldest arrival first.
+ghost use mathlib.Core.Path.{_≡_};
+ghost use Prim.Native.Nat.{_≤_};
+ghost use Rattle.forms.specs.Lists.{all};
+ghost use Rattle.history.specs.Entries.{UsableEntry, cellsOf, operationOf};
+ghost use Rattle.history.specs.Words.{historiesIn};
+ghost use Rattle.table.specs.Ends.{was, left};
+ghost use Rattle.table.specs.Tables.{Owns};
+ghost use Rattle.table.specs.Tries.{entryUpdates, readyBy, startsBy, Tries};
+use super::Marks;
+use super::Table;
+use super::blocking::in_progress;
+use super::blocking::is_free;
+use super::blocking::marked;
+use super::order::Order;
+use super::rows::row_at;
+use super::rows::start_row;
+use super::search::push_number;
+use forms::ReplyNumbers;
+use history::Entry;
+use history::book::BookWords;
+use history::book::history_at;
+use history::book::known_length;
+use history::may_run;
+
+// Whether each update of an operation may run and is not blocked.
+fn all_ready(book: &BookWords, m: Marks, e: Entry) -> bool
+    requires { ⌜ UsableEntry e ⌝ }
+    ensures { λ r. ⌜ r ≡ all (readyBy (cellsOf (historiesIn (was book))) m) (entryUpdates e) ⌝ }
+{
+    let n = e.count;
+    let mut i = 0;
+    while i < n {
+        let x = e.items[i];
+        let at = x.history as usize;
+        let h = history_at(book, at);
+        let rule = x.rule;
+        let u = x.version;
+        let c = h.version;
+        if !may_run(rule, c, u) {
+            return false;
+        }
+        if !is_free(m, x) {
+            return false;
+        }
+        i += 1;
+    }
+    true
+}
+
+// Whether an entry is a future operation that is ready.
+fn may_start(book: &BookWords, m: Marks, e: Entry) -> bool
+    requires { ⌜ UsableEntry e ⌝ }
+    ensures { λ r. ⌜ r ≡ startsBy (cellsOf (historiesIn (was book))) m (operationOf e) ⌝ }
+{
+    if e.running {
+        false
+    } else {
+        all_ready(book, m, e)
+    }
+}
+
+impl Table {
+    // One pass over the future operations: each is examined once, oldest first. The list from `at` on has the ids made ready; how
+    // many they are.
+    pub fn try_all(
+        self,
+        order: &Order,
+        rows: &mut [u64],
+        book: &BookWords,
+        lists: &mut ReplyNumbers,
+        at: usize,
+    ) -> usize
+        requires { ⌜ Owns self (now order) (now rows) × (at ≤ 4) ⌝ }
+        ensures { λ r. ⌜ Tries (cellsOf (historiesIn (was book))) self (was order) (was rows) (left rows) (was lists) at r (left lists) ⌝ }
+    {
+        known_length(lists);
+        let from = self.finished;
+        let to = self.finished + self.queue;
+        let mut m = in_progress(order, rows, from, to);
+        let mut ready: usize = 0;
+        let mut i = from;
+        while i < to {
+            let number = order[i] as usize;
+            let e = row_at(rows, number);
+            if may_start(book, m, e) {
+                m = marked(m, e);
+                start_row(rows, number);
+                push_number(lists, at + ready, e.id);
+                ready += 1;
+            }
+            i += 1;
+        }
+        ready
+    }
+}

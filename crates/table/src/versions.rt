@@ -1,0 +1,103 @@
+// Versions after done operations, and lists of histories that two arrays single out.
+ghost use mathlib.Core.List.{[], _∷_};
+ghost use Prim.Native.Nat.{ℕ, _≤_};
+ghost use lib.ListN.{getD};
+ghost use Rattle.forms.specs.Lists.{keep, below};
+ghost use Rattle.history.specs.Entries.{UsableEntry};
+ghost use Rattle.history.specs.Lists.{Lists};
+ghost use Rattle.table.specs.Arrays.{Tabulates, rises, ceases};
+ghost use Rattle.table.specs.Ends.{was, left};
+ghost use Rattle.table.specs.Rows.{HasRow, rowAt};
+ghost use Rattle.table.specs.Tables.{rowsIn, Usable, versionFrom};
+use super::order::Order;
+use super::rows::count_at;
+use super::rows::item_in;
+use super::search::push_number;
+use forms::ReplyNumbers;
+use history::book::known_length;
+
+// The histories' versions after the done operation in the row of entry e.
+fn stamp(versions: [u64; 16], rows: &[u64], e: usize) -> [u64; 16]
+    requires { ⌜ HasRow (now rows) e × UsableEntry (rowAt (now rows) e) ⌝ }
+    ensures { λ r. ⌜ Tabulates 0 r (λ (h : ℕ). versionFrom h (getD versions h 0) (rowAt (was rows) e ∷ [])) ⌝ }
+{
+    let mut r = versions;
+    let n = count_at(rows, e);
+    let mut j: usize = 0;
+    while j < n {
+        let x = item_in(rows, e, j);
+        let at = x.history as usize;
+        r[at] = x.version.0;
+        j += 1;
+    }
+    r
+}
+
+// The histories' versions after the operations from place `from` to place `to`, from those before them.
+pub fn advance(
+    order: &Order,
+    rows: &[u64],
+    versions: [u64; 16],
+    from: usize,
+    to: usize,
+) -> [u64; 16]
+    requires { ⌜ Usable (now order) (now rows) to × (from ≤ to) ⌝ }
+    ensures { λ r. ⌜ Tabulates 0 r (λ (h : ℕ). versionFrom h (getD versions h 0) (rowsIn (was order) (was rows) from to)) ⌝ }
+{
+    let mut vs = versions;
+    let mut i = from;
+    while i < to {
+        let next = stamp(vs, rows, order[i] as usize);
+        vs = next;
+        i += 1;
+    }
+    vs
+}
+
+// The histories below `n` whose version is greater after than before, rising, as a list from `at` on; how many they are.
+pub fn rose(
+    before: [u64; 16],
+    after: [u64; 16],
+    n: usize,
+    lists: &mut ReplyNumbers,
+    at: usize,
+) -> usize
+    requires { ⌜ (n ≤ 16) × (at ≤ 16) ⌝ }
+    ensures { λ r. ⌜ Lists (was lists) at (keep (rises before after) (below n)) r (left lists) ⌝ }
+{
+    known_length(lists);
+    let mut count: usize = 0;
+    let mut h = 0;
+    while h < n {
+        if before[h] < after[h] {
+            push_number(lists, at + count, h as u64);
+            count += 1;
+        }
+        h += 1;
+    }
+    count
+}
+
+// The histories below `n` that are marked before and not after, rising, as a list from `at` on; how many they are.
+pub fn became_dry(
+    before: [bool; 16],
+    after: [bool; 16],
+    n: usize,
+    lists: &mut ReplyNumbers,
+    at: usize,
+) -> usize
+    requires { ⌜ (n ≤ 16) × (at ≤ 16) ⌝ }
+    ensures { λ r. ⌜ Lists (was lists) at (keep (ceases before after) (below n)) r (left lists) ⌝ }
+{
+    known_length(lists);
+    let mut count: usize = 0;
+    let mut h = 0;
+    while h < n {
+        if before[h] && !after[h] {
+            push_number(lists, at + count, h as u64);
+            count += 1;
+        }
+        h += 1;
+    }
+    count
+}
