@@ -1,5 +1,5 @@
 -- Add against the specification.
-use Prim.Native.Nat.{ℕ, _≤_, _<_}
+use Prim.Native.Nat.{ℕ, _+_, _≤_, _<_}
 use native.Mathlib.Omega.{arith}
 use mathlib.Core.Path.{_≡_, refl, sym, ap, ap₂, subst, _∙_}
 use mathlib.Core.Bool.{Bool, true, false, _&&_, _||_}
@@ -34,7 +34,6 @@ use Rattle.history.specs.AskingLaws.{usable-held}
 use Rattle.history.specs.Entries.{cellsOf, operationOf, InFirst}
 use Rattle.history.specs.Cells.{alreadyDoneIn, readOvertakenIn}
 use Rattle.history.specs.AtLog.{asked-first, already-done-book, read-overtaken-book}
-use Rattle.table.specs.Queues.{Queued, queueOf, UsableQueue, IsQueue}
 use Rattle.table.specs.Tries.{tryAllIn, operationsOf}
 use Rattle.table.specs.TryLaws.{try-all-is}
 use Rattle.site.specs.declared.seen.CheckInputs.{CheckInputs}
@@ -136,21 +135,21 @@ add-accepted i us st le w e = add-performs i us st le w ∙ rw e refl
 
 module _ (s : Representation) (bytes : List ℕ) (v : Sound s bytes) (i : ℕ) (us : List Update) (le : i ≤ top) (w : T (all writableUpdate us))
     (free : addRefusal i us (stateOf s bytes) ≡ none) (e : Entry) (x : Enters (addedOperation i us) e)
-    (q : Queued) (more : IsQueue q (queueOf (s .queue) ++ (e ∷ []))) (tq : Queued) (usable : UsableQueue tq)
-    (queue : operationsOf (queueOf tq) ≡ tryAllIn (cellsOf (s .histories)) (operationsOf (queueOf q))) (ns : Numbers)
-    (ids : Means ns (madeReady (operationsOf (queueOf q)) (tryAllIn (cellsOf (s .histories)) (operationsOf (queueOf q))))) where
+    (q : List Entry) (more : q ≡ s .queue ++ (e ∷ [])) (tq : List Entry)
+    (queue : operationsOf tq ≡ tryAllIn (cellsOf (s .histories)) (operationsOf q)) (ns : Numbers)
+    (ids : Means ns (madeReady (operationsOf q) (tryAllIn (cellsOf (s .histories)) (operationsOf q)))) where
   abbrev st : State
   st = stateOf s bytes
 
   idle : s .restoring ≡ false
   idle = free-of i us st free .turn
 
-  entries : operationsOf (queueOf q) ≡ arrived i us st
+  entries : operationsOf q ≡ arrived i us st
   unfolding arrived
   entries =
-      ap (map operationOf) (more .list)
-      ∙ map-append operationOf (queueOf (s .queue)) (e ∷ [])
-      ∙ ap (λ (y : Operation). map operationOf (queueOf (s .queue)) ++ (y ∷ [])) (x .operation)
+      ap (map operationOf) more
+      ∙ map-append operationOf (s .queue) (e ∷ [])
+      ∙ ap (λ (y : Operation). map operationOf (s .queue) ++ (y ∷ [])) (x .operation)
       ∙ ap (λ (b : Bool). pendingIn b s ++ (addedOperation i us ∷ [])) (sym idle)
 
   -- the histories of the operations are those of the site
@@ -163,7 +162,7 @@ module _ (s : Representation) (bytes : List ℕ) (v : Sound s bytes) (i : ℕ) (
           formed-updates (s .count) us (free-of i us st free .formed) .known u (subst (λ (z : Operation). Mem u (z .updates)) e k)
       go (inr p) = formed-updates (s .count) (y .updates) (v .good .pendingFormed y p .passes) .known u k
 
-  tried : tryAllIn (cellsOf (s .histories)) (operationsOf (queueOf q)) ≡ tryAll (st .log) (arrived i us st)
+  tried : tryAllIn (cellsOf (s .histories)) (operationsOf q) ≡ tryAll (st .log) (arrived i us st)
   unfolding Sound
   tried =
       ap (tryAllIn (cellsOf (s .histories))) entries ∙ try-all-is (s .count) (st .log) (s .histories) (arrived i us st) (v .carries .book) arrived-low
@@ -182,7 +181,7 @@ module _ (s : Representation) (bytes : List ℕ) (v : Sound s bytes) (i : ℕ) (
       (Added (madeReady (arrived i us st) (tryAll (st .log) (arrived i us st)))) _ bytes v
       (add-accepted i us st le w free)
       (says-lists _ (madeReady (arrived i us st) (tryAll (st .log) (arrived i us st))) [] ready (means-none ys))
-      (carries-queue s bytes st (v .carries) tq (s .restoring) (s .reserved) (tryAll (st .log) (arrived i us st)) (st .waiting) usable
+      (carries-queue s bytes st (v .carries) tq (s .restoring) (s .reserved) (tryAll (st .log) (arrived i us st)) (st .waiting)
       (ap (λ (z : Bool). pendingIn z after) idle ∙ queue ∙ tried)
       (ap (λ (z : Bool). waitingIn z after) idle ∙ sym (ap (λ (z : Bool). waitingIn z s) idle))
       (v .carries .reserved))
@@ -198,7 +197,7 @@ asks-long a us e = ap (λ (h : AskedHeld). length (h .first)) e
 -- an add that passed all checks
 module _ (s : Representation) (bytes : List ℕ) (v : Sound s bytes) (i : ℕ) (us : List Update) (free : addRefusal i us (stateOf s bytes) ≡ none) where
   -- there is room for one entry more
-  pub add-room : s .queue .count < 64
+  pub add-room : length (s .finished) + length (s .queue) < 64
   unfolding Sound
   add-room = omega (arith, live-is s bytes (v .carries), free-of i us (stateOf s bytes) free .room)
 

@@ -1,18 +1,13 @@
 -- "dry: no future, in-progress or volatile update": busy is the opposite, read off the table.
 use Prim.Native.Nat.{ℕ}
-use mathlib.Core.Bool.{Bool, true, false, _||_}
-use mathlib.Core.List.{List, [], map}
+use mathlib.Core.Bool.{Bool, cond}
+use mathlib.Core.List.{List, [], _++_}
 use lib.ListN.{drop}
 use Rattle.forms.specs.Lists.{any}
-use Rattle.rules.specs.State.{Operation, asks}
-use Rattle.history.specs.Entries.{operationOf}
-use Rattle.table.specs.Queues.{Queued, queueOf}
-use Rattle.table.specs.Dones.{Finished, doneOf, doneTouches}
+use Rattle.history.specs.declared.Entry.{Entry}
+use Rattle.table.specs.Tables.{entryTouches}
 
--- the operations in the queue, which has waiting lines while restoring
-abbrev pub operationsIn : Bool → Queued → List Operation
-operationsIn true q = []
-operationsIn false q = map operationOf (queueOf q)
-
-unfoldable pub busyIn : Bool → Queued → Finished → ℕ → ℕ → Bool
-busyIn restoring q l from h = any (asks h) (operationsIn restoring q) || any (doneTouches h) (drop from (doneOf l))
+-- Has history h an update of an operation behind the first `from` that are done, or of one that is not done? (While restoring what is not done
+-- are lines that wait: "A waiting line has none of the states".)
+unfoldable pub busyIn : Bool → List Entry → List Entry → ℕ → ℕ → Bool
+busyIn restoring queue finished from h = any (entryTouches h) (drop from finished ++ cond restoring [] queue)

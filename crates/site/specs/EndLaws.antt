@@ -12,7 +12,7 @@ use Rattle.rules.specs.State.{refused, ok}
 use Rattle.rules.specs.Calls.{Call, unless, writable, perform, step, end}
 use Rattle.history.specs.declared.Entry.{Entry}
 use Rattle.history.specs.Entries.{didOfEntry, operationOf}
-use Rattle.table.specs.Queues.{Queued, queueOf, IsQueue, idOf}
+use Rattle.table.specs.Tables.{idOf}
 use Rattle.site.specs.Representation.{Representation, stateOf, Sound}
 use Rattle.site.specs.ModelLaws.{AcceptsCall, step-performs, accepts-step, says-lists, Means, means-none}
 use Rattle.site.specs.QueueLaws.{withQueue, withOpen, carries-queue}
@@ -28,18 +28,18 @@ dids-ids [] = refl
 dids-ids (e ∷ es) = ap (λ (l : List ℕ). e .id ∷ l) (dids-ids es)
 
 pub end-accepted : (s : Representation) (bytes : List ℕ) → s .restoring ≡ true →
-    step Call.End (stateOf s bytes) ≡ ok (withOpen [] [] false (stateOf s bytes)) (Ended (map idOf (queueOf (s .queue))))
+    step Call.End (stateOf s bytes) ≡ ok (withOpen [] [] false (stateOf s bytes)) (Ended (map idOf (s .queue)))
 unfolding writable perform end check unless
 end-accepted s bytes e =
     step-performs Call.End (stateOf s bytes) refl
-    ∙ rw e (ap (λ (l : List ℕ). ok (withOpen [] [] false (stateOf s bytes)) (Ended l)) (dids-ids (queueOf (s .queue))))
+    ∙ rw e (ap (λ (l : List ℕ). ok (withOpen [] [] false (stateOf s bytes)) (Ended l)) (dids-ids (s .queue)))
 
-pub end-does : (s : Representation) (bytes : List ℕ) → Sound s bytes → s .restoring ≡ true → (q : Queued) → IsQueue q [] → (a : Numbers) (ys : List ℕ) →
-    Means a (map idOf (queueOf (s .queue))) →
+pub end-does : (s : Representation) (bytes : List ℕ) → Sound s bytes → s .restoring ≡ true → (q : List Entry) → q ≡ [] → (a : Numbers) (ys : List ℕ) →
+    Means a (map idOf (s .queue)) →
     AcceptsCall bytes (step Call.End (stateOf s bytes)) (record { site = withQueue q false 0 s; reply = record { form = ReplyForm.Ended; first = a; second = listed 0 ys } }) bytes
 unfolding Sound outcomeWith
 end-does s bytes v e q empty a ys ids =
-    accepts-step s bytes Call.End (withOpen [] [] false (stateOf s bytes)) (Ended (map idOf (queueOf (s .queue)))) _ bytes v (end-accepted s bytes e)
-    (says-lists _ (map idOf (queueOf (s .queue))) [] ids (means-none ys))
-    (carries-queue s bytes (stateOf s bytes) (v .carries) q false 0 [] [] (empty .usable) (ap (map operationOf) (empty .list)) refl refl)
+    accepts-step s bytes Call.End (withOpen [] [] false (stateOf s bytes)) (Ended (map idOf (s .queue))) _ bytes v (end-accepted s bytes e)
+    (says-lists _ (map idOf (s .queue)) [] ids (means-none ys))
+    (carries-queue s bytes (stateOf s bytes) (v .carries) q false 0 [] [] (ap (map operationOf) empty) refl refl)
     refl

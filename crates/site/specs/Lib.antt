@@ -1,11 +1,12 @@
 pub mod Representation
 pub mod Model
 pub mod ModelLaws
+pub mod TableLaws
 pub mod ReplyLaws
 pub mod QueueLaws
+pub mod MarkLaws
 pub mod Busy
 pub mod BusyLaws
-pub mod MarkLaws
 pub mod WithdrawLaws
 pub mod StableLaws
 pub mod PersistentLaws
@@ -15,10 +16,12 @@ pub mod LineLaws
 pub mod Trim
 pub mod CheckInputs
 pub mod SeenLaws
+pub mod EntryOf
 pub mod AddLaws
 pub mod FinishLaws
 pub mod OpenLaws
 pub mod RestartLaws
+pub mod Drains
 pub mod DrainLaws
 pub mod TrimLaws
 pub mod RedoLaws

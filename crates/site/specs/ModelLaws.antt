@@ -16,11 +16,15 @@ use Rattle.rules.specs.Checks.{check}
 use Rattle.rules.specs.Calls.{Call, unless, writable, perform, step}
 use Rattle.rules.specs.Good.{Good}
 use Rattle.history.specs.declared.History.{History}
+use Rattle.history.specs.declared.Entry.{Entry}
 use Rattle.history.specs.Words.{PastKept}
+use Rattle.table.specs.declared.Table.{Table}
+use Rattle.table.specs.Order.{tally}
+use Rattle.table.specs.Tables.{liveNumbers, Owns, Frame}
 use Rattle.site.specs.declared.Site.{Site}
 use Rattle.site.specs.declared.CallResult.{CallResult}
 use Rattle.site.specs.Representation.{Representation, stateOf, didsIn, Carries, Represents, Sound}
-use Rattle.site.specs.Model.{Lent, lent, represented, Few, Says, Does}
+use Rattle.site.specs.Model.{Lent, lent, represented, Few, Says, DoesWith, Does}
 
 -- ### Replies
 
@@ -123,26 +127,82 @@ pub accepts-book : (old : List ℕ) (x : Reply) (w : Representation) (reply : Re
 accepts-book old x w reply new h p s a =
     subst (λ (z : Representation). AcceptsCall old x (record { site = z; reply = reply }) new) (same-book w h p s) a
 
+-- .. likewise the site with these rows
+abbrev pub withRows : List Entry → List Entry → Representation → Representation
+withRows finished queue w =
+    record {
+      count = w .count;
+      used = w .used;
+      done = w .done;
+      persistent = w .persistent;
+      stable = w .stable;
+      restoring = w .restoring;
+      reserved = w .reserved;
+      histories = w .histories;
+      persisted = w .persisted;
+      stabilised = w .stabilised;
+      queue = queue;
+      finished = finished;
+    }
+
+pub accepts-rows : (old : List ℕ) (x : Reply) (w : Representation) (reply : Replied) (new : List ℕ) {f q : List Entry} → f ≡ w .finished → q ≡ w .queue →
+    AcceptsCall old x (record { site = w; reply = reply }) new → AcceptsCall old x (record { site = withRows f q w; reply = reply }) new
+accepts-rows old x w reply new f q a =
+    subst (λ (z : Representation). AcceptsCall old x (record { site = z; reply = reply }) new) (λ i. withRows (sym f i) (sym q i) w) a
+
+-- What a call keeps of a table: each entry has one place in the order and a row of its own, the entries have these numbers, and only rows
+-- of entries that are live after the call differ.
+pub record KeepsTable (numbers old : List ℕ) (t : Table) (order new : List ℕ) : Type 0 where
+  pub owns : Owns t order new
+  pub same : (e : ℕ) → tally e order ≡ tally e numbers
+  pub frame : Frame (liveNumbers t order) old new
+
 -- .. and so it does what the specification replies.
+pub does-with : (numbers : List ℕ) (s : Site) (old : Lent) (x : Reply) (r : CallResult) (new : Lent) →
+    AcceptsCall (old .log) x (record { site = represented (r .site) new; reply = replied (r .reply) (new .lists) }) (new .log) →
+    KeepsTable numbers (old .rows) (r .site .table) (new .order) (new .rows) →
+    PastKept (r .site .count) (old .book) (new .book) →
+    drop (r .reply .first + r .reply .second) (new .lists) ≡ drop (r .reply .first + r .reply .second) (old .lists) →
+    DoesWith numbers s old x r new
+does-with numbers s old x r new a k histories lists =
+    subst (λ (y : Reply). DoesWith numbers s old y r new) (sym (a .accepted))
+    (record {
+      answer = a .says;
+      valid = record { sound = a .sound; owns = k .owns };
+      state = a .state;
+      past = a .past;
+      frame = k .frame;
+      same = k .same;
+      pastHistories = histories;
+      pastLists = lists;
+    })
+
+-- .. a call of a site that is open
 pub does : (s : Site) (old : Lent) (x : Reply) (r : CallResult) (new : Lent) →
     AcceptsCall (old .log) x (record { site = represented (r .site) new; reply = replied (r .reply) (new .lists) }) (new .log) →
+    KeepsTable (old .order) (old .rows) (r .site .table) (new .order) (new .rows) →
     PastKept (r .site .count) (old .book) (new .book) →
     drop (r .reply .first + r .reply .second) (new .lists) ≡ drop (r .reply .first + r .reply .second) (old .lists) →
     Does s old x r new
-does s old x r new a histories lists =
-    subst (λ (y : Reply). Does s old y r new) (sym (a .accepted))
-    (record { answer = a .says; valid = a .sound; state = a .state; past = a .past; pastHistories = histories; pastLists = lists })
+does s old x r new = does-with (old .order) s old x r new
 
 -- A call that the specification refuses: site and all that is lent are the very ones that came in.
+pub refuses-with : (numbers : List ℕ) (s : Site) (old : Lent) (reply : Reply) (q : Refusal) (r : CallResult) → reply ≡ refused q →
+    Says (replied (r .reply) (old .lists)) (Refused q) → r .site ≡ s → DoesWith numbers s old reply r old
+refuses-with numbers s old reply q r e says same =
+    subst (λ (x : Reply). DoesWith numbers s old x r old) (sym e) (record { answer = says; site = same; kept = refl })
+
 pub refuses : (s : Site) (old : Lent) (reply : Reply) (q : Refusal) (r : CallResult) → reply ≡ refused q →
     Says (replied (r .reply) (old .lists)) (Refused q) → r .site ≡ s → Does s old reply r old
-refuses s old reply q r e says same = subst (λ (x : Reply). Does s old x r old) (sym e) (record { answer = says; site = same; kept = refl })
+refuses s old = refuses-with (old .order) s old
 
 -- .. the log too, where the writer found no room
-pub refuses-full : (s : Site) (old : Lent) (new : List ℕ) (reply : Reply) (q : Refusal) (r : CallResult) → reply ≡ refused q → new ≡ old .log →
-    Says (replied (r .reply) (old .lists)) (Refused q) → r .site ≡ s → Does s old reply r (lent new (old .queue) (old .done) (old .book) (old .lists))
-refuses-full s old new reply q r e f says same =
-    subst (λ (b : List ℕ). Does s old reply r (lent b (old .queue) (old .done) (old .book) (old .lists))) (sym f) (refuses s old reply q r e says same)
+pub refuses-full : (numbers : List ℕ) (s : Site) (old : Lent) (new : List ℕ) (reply : Reply) (q : Refusal) (r : CallResult) → reply ≡ refused q →
+    new ≡ old .log → Says (replied (r .reply) (old .lists)) (Refused q) → r .site ≡ s →
+    DoesWith numbers s old reply r (lent new (old .rows) (old .order) (old .book) (old .lists))
+refuses-full numbers s old new reply q r e f says same =
+    subst (λ (b : List ℕ). DoesWith numbers s old reply r (lent b (old .rows) (old .order) (old .book) (old .lists))) (sym f)
+    (refuses-with numbers s old reply q r e says same)
 
 -- A call that the specification accepts: the site after it holds the next state.
 pub accepts-call : (old : List ℕ) (reply : Reply) (st : State) (a : Answer) (r : Taken) (new : List ℕ) → reply ≡ ok st a →

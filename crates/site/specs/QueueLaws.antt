@@ -6,11 +6,11 @@ use mathlib.Core.List.{List}
 use Rattle.forms.specs.Lists.{sum}
 use Rattle.forms.specs.Forms.{Did}
 use Rattle.rules.specs.State.{Operation, State, logBytes, versionAt, liveDone, lineBytes}
-use Rattle.table.specs.Queues.{Queued, UsableQueue}
+use Rattle.history.specs.declared.Entry.{Entry}
 use Rattle.site.specs.Representation.{Representation, pendingIn, waitingIn, Carries}
 
 -- the site with another queue
-abbrev pub withQueue : Queued → Bool → ℕ → Representation → Representation
+abbrev pub withQueue : List Entry → Bool → ℕ → Representation → Representation
 withQueue q restoring reserved s =
     record {
       count = s .count;
@@ -41,12 +41,12 @@ withOpen pending waiting restoring st =
       restoring = restoring;
     }
 
-pub carries-queue : (s : Representation) (bytes : List ℕ) (st : State) → Carries s bytes st → (q : Queued) (restoring : Bool) (reserved : ℕ)
-    (pending : List Operation) (waiting : List Did) → UsableQueue q → pendingIn restoring (withQueue q restoring reserved s) ≡ pending →
+pub carries-queue : (s : Representation) (bytes : List ℕ) (st : State) → Carries s bytes st → (q : List Entry) (restoring : Bool) (reserved : ℕ)
+    (pending : List Operation) (waiting : List Did) → pendingIn restoring (withQueue q restoring reserved s) ≡ pending →
     waitingIn restoring (withQueue q restoring reserved s) ≡ waiting → reserved ≡ sum lineBytes waiting →
     Carries (withQueue q restoring reserved s) bytes (withOpen pending waiting restoring st)
 unfolding logBytes versionAt liveDone
-carries-queue s bytes st c q restoring reserved pending waiting usable p w n =
+carries-queue s bytes st c q restoring reserved pending waiting p w n =
     record {
       within = c .within;
       text = c .text;
@@ -65,6 +65,5 @@ carries-queue s bytes st c q restoring reserved pending waiting usable p w n =
       persisted = c .persisted;
       stabilisedLong = c .stabilisedLong;
       stabilised = c .stabilised;
-      usable = usable;
       finished = c .finished;
     }

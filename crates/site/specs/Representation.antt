@@ -1,4 +1,4 @@
--- The site with its tables, and the bytes of its log, as a state of the specification; and the invariant of the two.
+-- The site with the rows of its table, and the bytes of its log, as a state of the specification; and the invariant of the two.
 use Prim.Native.Nat.{ℕ, _≤_, _<_}
 use mathlib.Core.Path.{_≡_}
 use mathlib.Core.Bool.{Bool, true, false}
@@ -12,11 +12,10 @@ use Rattle.rules.specs.Log.{Journal, journal, noJournal, readLog}
 use Rattle.rules.specs.State.{Operation, State, logBytes, versionAt, liveDone, lineBytes}
 use Rattle.rules.specs.Good.{Good}
 use Rattle.history.specs.declared.History.{History}
-use Rattle.history.specs.Entries.{cellsOf, operationOf, didOfEntry, doneEntryOf}
-use Rattle.table.specs.Queues.{Queued, queueOf, UsableQueue}
-use Rattle.table.specs.Dones.{Finished, IsDone}
+use Rattle.history.specs.declared.Entry.{Entry}
+use Rattle.history.specs.Entries.{cellsOf, operationOf, didOfEntry}
 
--- A site, and the entries of its tables.
+-- A site, and the rows of its table: those not done (or waiting), and those done and not yet stable.
 pub record Representation : Type 0 where
   pub count : ℕ
   pub used : ℕ
@@ -28,18 +27,18 @@ pub record Representation : Type 0 where
   pub histories : List History
   pub persisted : List ℕ
   pub stabilised : List ℕ
-  pub queue : Queued
-  pub finished : Finished
+  pub queue : List Entry
+  pub finished : List Entry
 
 -- ### The site as a state
 
 -- what stands in the queue: operations that are not done, or lines that wait
 abbrev pub pendingIn : Bool → Representation → List Operation
 pendingIn true s = []
-pendingIn false s = map operationOf (queueOf (s .queue))
+pendingIn false s = map operationOf (s .queue)
 
 abbrev pub waitingIn : Bool → Representation → List Did
-waitingIn true s = map didOfEntry (queueOf (s .queue))
+waitingIn true s = map didOfEntry (s .queue)
 waitingIn false s = []
 
 abbrev pub didsIn : Journal → List Did
@@ -81,9 +80,8 @@ pub record Carries (s : Representation) (bytes : List ℕ) (st : State) : Type 0
   pub persisted : (h : ℕ) → h < s .count → getD (s .persisted) h 0 ≡ versionAt (st .persistentTo) h st
   pub stabilisedLong : length (s .stabilised) ≡ 16
   pub stabilised : (h : ℕ) → h < s .count → getD (s .stabilised) h 0 ≡ versionAt (st .stableTo) h st
-  pub usable : UsableQueue (s .queue)
   -- done operations that are not yet stable, in log order
-  pub finished : IsDone (s .finished) (map doneEntryOf (liveDone st))
+  pub finished : map didOfEntry (s .finished) ≡ liveDone st
 
 -- The site holds the state st: it carries its parts, and st is one that calls reach.
 pub record Represents (s : Representation) (bytes : List ℕ) (st : State) : Type 0 where

@@ -7,7 +7,6 @@ use mathlib.Core.List.{List, map}
 use mathlib.Core.Option.{Option, none, some}
 use lib.Dec.{leb, eqb}
 use lib.ListN.{length, length-map}
-use lib.Seq.{length-take-le}
 use Rattle.forms.specs.Lists.{any}
 use Rattle.forms.specs.Forms.{Did}
 use Rattle.forms.specs.declared.Refusal.{Refusal}
@@ -18,12 +17,9 @@ use Rattle.rules.specs.Calls.{idPending, idDone, tableFull}
 use Rattle.history.specs.declared.Verdict.{Verdict}
 use Rattle.history.specs.declared.Verdict.the-variants.{Passes, Refused}
 use Rattle.history.specs.Asking.{verdictOf}
-use Rattle.history.specs.Entries.{operationOf, didOfEntry, doneEntryOf}
+use Rattle.history.specs.Entries.{operationOf, didOfEntry}
 use Rattle.table.specs.FindLaws.{has-operation, has-line}
-use Rattle.table.specs.BookLaws.{done-ids}
-use Rattle.table.specs.Queues.{queueOf, hasId}
-use Rattle.table.specs.QueueLaws.{queue-length}
-use Rattle.table.specs.Dones.{doneOf, doneHasId}
+use Rattle.table.specs.Tables.{hasId}
 use Rattle.site.specs.Representation.{Representation, stateOf, pendingIn, waitingIn, Carries, Sound}
 use Rattle.site.specs.CheckInputs.{Sees}
 
@@ -34,41 +30,35 @@ or-nothing true = refl
 or-nothing false = refl
 
 -- 7: the queue has an entry with this id
-id-pending : (s : Representation) (bytes : List ℕ) (i : ℕ) → any (hasId i) (queueOf (s .queue)) ≡ idPending i (stateOf s bytes)
+pub id-pending : (s : Representation) (bytes : List ℕ) (i : ℕ) → any (hasId i) (s .queue) ≡ idPending i (stateOf s bytes)
 unfolding idPending
 id-pending s bytes i = go (s .restoring)
   where
-    go : (b : Bool) → any (hasId i) (queueOf (s .queue))
+    go : (b : Bool) → any (hasId i) (s .queue)
         ≡ (any (λ (x : Operation). eqb (x .id) i) (pendingIn b s) || any (λ (d : Did). eqb (d .id) i) (waitingIn b s))
-    go true = has-line i (queueOf (s .queue))
-    go false = has-operation i (queueOf (s .queue)) ∙ sym (or-nothing (any (λ (x : Operation). eqb (x .id) i) (map operationOf (queueOf (s .queue)))))
+    go true = has-line i (s .queue)
+    go false = has-operation i (s .queue) ∙ sym (or-nothing (any (λ (x : Operation). eqb (x .id) i) (map operationOf (s .queue))))
 
 -- 8: a done operation that is live has this id
-id-done : (s : Representation) (bytes : List ℕ) (st : State) → Carries s bytes st → (i : ℕ) → any (doneHasId i) (doneOf (s .finished)) ≡ idDone i st
+pub id-done : (s : Representation) (bytes : List ℕ) (st : State) → Carries s bytes st → (i : ℕ) → any (hasId i) (s .finished) ≡ idDone i st
 unfolding idDone
-id-done s bytes st c i = ap (any (doneHasId i)) (c .finished .list) ∙ done-ids i (liveDone st)
+id-done s bytes st c i = has-line i (s .finished) ∙ ap (any (λ (d : Did). eqb (d .id) i)) (c .finished)
 
 -- 10: the entries of the table
-pub live-is : (s : Representation) (bytes : List ℕ) → Carries s bytes (stateOf s bytes) → s .queue .count + s .finished .count ≡ live (stateOf s bytes)
+pub live-is : (s : Representation) (bytes : List ℕ) → Carries s bytes (stateOf s bytes) → length (s .finished) + length (s .queue) ≡ live (stateOf s bytes)
 unfolding live
 live-is s bytes c = omega (arith, go (s .restoring), done)
   where
-    queued : length (queueOf (s .queue)) ≡ s .queue .count
-    queued = queue-length (s .queue) (c .usable)
+    go : (b : Bool) → length (waitingIn b s) + length (pendingIn b s) ≡ length (s .queue)
+    go true = omega (arith, length-map (s .queue) didOfEntry)
+    go false = omega (arith, length-map (s .queue) operationOf)
 
-    go : (b : Bool) → length (waitingIn b s) + length (pendingIn b s) ≡ s .queue .count
-    go true = omega (arith, length-map (queueOf (s .queue)) didOfEntry, queued)
-    go false = omega (arith, length-map (queueOf (s .queue)) operationOf, queued)
-
-    done : s .finished .count ≡ length (liveDone (stateOf s bytes))
-    done =
-        sym (length-take-le (s .finished .count) (s .finished .entries) (omega (arith, c .finished .usable .few, c .finished .usable .long)))
-        ∙ ap length (c .finished .list)
-        ∙ length-map (liveDone (stateOf s bytes)) doneEntryOf
+    done : length (s .finished) ≡ length (liveDone (stateOf s bytes))
+    done = sym (length-map (s .finished) didOfEntry) ∙ ap length (c .finished)
 
 -- what is read of a valid site is so in its stateOf
-pub site-sees : (s : Representation) (bytes : List ℕ) → Sound s bytes → (i : ℕ) (pending done full : Bool) → pending ≡ any (hasId i) (queueOf (s .queue)) →
-    done ≡ any (doneHasId i) (doneOf (s .finished)) → full ≡ leb 64 (s .queue .count + s .finished .count) →
+pub site-sees : (s : Representation) (bytes : List ℕ) → Sound s bytes → (i : ℕ) (pending done full : Bool) → pending ≡ any (hasId i) (s .queue) →
+    done ≡ any (hasId i) (s .finished) → full ≡ leb 64 (length (s .finished) + length (s .queue)) →
     Sees (record { restoring = s .restoring; count = s .count; pending = pending; done = done; full = full }) (s .histories) i (stateOf s bytes)
 unfolding Sound tableFull
 site-sees s bytes v i pending done full p d f =

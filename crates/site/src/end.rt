@@ -9,36 +9,38 @@ use forms::ReplyForm;
 use forms::ReplyLine;
 use forms::ReplyNumbers;
 use history::book::BookWords;
-use table::Queue;
-use table::slots::DoneWords;
-use table::slots::QueueWords;
+use table::Table;
+use table::order::Order;
+use table::search::ids;
 
 impl Site {
     // "Ending restoring drops and names those still waiting, in order of delivery."
     pub fn end(
         self,
         log: &[u8],
-        queued: &QueueWords,
-        done: &DoneWords,
+        rows: &[u64],
+        order: &Order,
         book: &BookWords,
         lists: &mut ReplyNumbers,
     ) -> CallResult
-        requires { ⌜ Valid self (received log queued done book) ⌝ }
-        ensures { λ r. ⌜ Steps self (old log queued done book lists) Call.End r (new log queued done book lists) ⌝ }
+        requires { ⌜ Valid self (received log rows order book) ⌝ }
+        ensures { λ r. ⌜ Steps self (old log rows order book lists) Call.End r (new log rows order book lists) ⌝ }
     {
         let restoring = self.restoring;
         if restoring {
-            let queue = self.queue;
-            let ids = queue.ids(queued, lists, 0);
+            let table = self.table;
+            let finished = table.finished;
+            let named = ids(order, rows, finished, finished + table.queue, lists, 0);
             let mut site = self;
-            site.queue = Queue::empty();
+            let left = Table { finished, queue: 0 };
+            site.table = left;
             site.restoring = false;
             site.reserved = 0;
             CallResult {
                 site,
                 reply: ReplyLine {
                     form: ReplyForm::Ended,
-                    first: ids,
+                    first: named,
                     second: 0,
                 },
             }

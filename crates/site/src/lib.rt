@@ -9,12 +9,12 @@ use forms::LogNumber;
 use forms::Refusal;
 use forms::ReplyForm;
 use forms::ReplyLine;
-use table::DoneList;
-use table::Queue;
+use table::Table;
 
 pub mod add;
 mod busy;
 pub mod end;
+pub mod entry_of;
 pub mod finish;
 pub mod open;
 pub mod persistent;
@@ -25,8 +25,8 @@ pub mod show;
 pub mod stable;
 pub mod withdraw;
 
-// A site by value. What the caller lends to each call: a buffer whose first `used` bytes are its log, two arrays of numbers with the
-// entries of its table, one with its histories, and one for the lists of the reply, one behind the other.
+// A site by value. What the caller lends to each call: a buffer whose first `used` bytes are its log, the rows of its table, the order of
+// its entries, the numbers of its histories, and an array for the lists of the reply, one behind the other.
 pub struct Site {
     // how many histories there are
     pub count: usize,
@@ -39,10 +39,8 @@ pub struct Site {
     pub restoring: bool,
     // bytes that the waiting redo lines will take in the log
     pub reserved: usize,
-    // operations that are not done; while restoring, the redo lines that wait
-    pub queue: Queue,
-    // done operations that are not yet stable
-    pub finished: DoneList,
+    // how many operations are done and not yet stable, and how many are not done (while restoring: wait)
+    pub table: Table,
 }
 
 // What a call hands back: the site after it, and the reply.

@@ -16,22 +16,21 @@ use history::book::PERSISTED;
 use history::book::STABILISED;
 use history::book::WIDTH;
 use history::book::history_at;
-use table::slots::DoneWords;
-use table::slots::QueueWords;
+use table::order::Order;
 
 impl Site {
     // "Show: history, version, persistent, stable, place, profile."
     pub fn show(
         self,
         log: &[u8],
-        queued: &QueueWords,
-        done: &DoneWords,
+        rows: &[u64],
+        order: &Order,
         book: &BookWords,
         h: u64,
     ) -> CallResult
-        requires { ⌜ Valid self (received log queued done book) ⌝ }
+        requires { ⌜ Valid self (received log rows order book) ⌝ }
         ensures { λ r. ⌜ ((ns : List ℕ) →
-            Steps self (oldWith ns log queued done book) (Call.Show h) r (newWith ns log queued done book)) ⌝ }
+            Steps self (oldWith ns log rows order book) (Call.Show h) r (newWith ns log rows order book)) ⌝ }
     {
         let n = self.count;
         if n as u64 <= h {

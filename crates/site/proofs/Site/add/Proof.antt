@@ -1,71 +1,76 @@
+-- What the checks saw is so in the site's state, so their verdict is the specification's; an operation that passes gets the first free entry,
+-- and is tried with the others.
 use denote.Ref.{now}
-use Prim.Native.Nat.{_≤_}
+use Prim.Native.Nat.{_≤_, _<_}
 use native.Mathlib.Omega.{arith}
-use mathlib.Core.Path.{_≡_, refl, sym, _∙_}
-use mathlib.Core.List.{[]}
+use mathlib.Core.Path.{_≡_, refl, sym, ap, _∙_}
+use mathlib.Core.List.{[], _∷_, _++_}
 use mathlib.Core.Option.{Option, none}
+use lib.Dec.{leb}
 use Rattle.forms.specs.Decimal.{top}
 use Rattle.forms.specs.declared.Refusal.{Refusal}
 use Rattle.rules.specs.Calls.{addRefusal}
 use Rattle.history.specs.Asking.{verdictOf}
-use Rattle.table.specs.Slots.{stored}
-use Rattle.site.specs.Representation.{Sound}
-use Rattle.site.specs.Model.{lent, represented, view}
-use Rattle.site.specs.ModelLaws.{refuses, does}
+use Rattle.table.specs.Tables.{liveCount, queueRows, Becomes}
+use Rattle.table.specs.TableLaws.{pushed}
+use Rattle.site.specs.Representation.{Representation, stateOf}
+use Rattle.site.specs.Model.{Lent, lent, represented, view}
+use Rattle.site.specs.ModelLaws.{refuses, does, accepts-rows}
 use Rattle.site.specs.ReplyLaws.{means-one, past-one}
 use Rattle.site.specs.ShowLaws.{count-most}
 use Rattle.site.specs.Trim.{updatesHeld}
 use Rattle.site.specs.TrimLaws.{updates-writable}
 use Rattle.site.specs.SeenLaws.{site-sees, passes-is, refused-is}
+use Rattle.site.specs.TableLaws.{usable-fewer, live-length, becomes-as, keeps-tried}
 use Rattle.site.specs.AddLaws.{add-refused, add-does, add-room, passed-usable, passed-enters}
 use borrow.Author.Needs.{needs}
 use Rattle.site.proofs.Site.add.Statement.{statement}
 use Rattle.site.proofs.Site.add.Tie as tie
 
--- what the specification says of the operation
-abbrev ruled : tie.After-add-refusal → Option Refusal
-ruled r =
-    let a = r .before .before .before .before .before .before .before .before .before .before .args in
-    addRefusal (a .id) (updatesHeld (a .asked)) (view (a .self) (lent (now (a .log)) (now (a .queued)) (now (a .done)) (now (a .book)) []))
-
--- what the checks said is what the specification says
-said : (r : tie.After-add-refusal) → r .add-refusal .result ≡ verdictOf (ruled r)
-said r =
-    let e = r .before .before .before .before .before .before .before .before .before .before in
-    let a = e .args in
-    let s = represented (a .self) (lent (now (a .log)) (now (a .queued)) (now (a .done)) (now (a .book)) []) in
-    let waits = r .before .before .has-id .ensures in
-    let stands = r .before .has-id2 .ensures in
-    r .add-refusal .ensures _ (r .before .before .before .before .before .before .before .before .trimmed-asked .ensures .is)
-    _ (site-sees s (now (a .log)) (e .pre) (a .id) _ _ _ waits stands refl)
-
--- .. and nothing where they passed
-free : (t : tie.After-enum-told) → ruled (t .before .before) ≡ none
-free t = passes-is _ (sym (t .enum-told .given .1) ∙ said (t .before .before))
-
 trimmed-asked-requires : tie.Need-trimmed-asked-requires
 trimmed-asked-requires c κs = search needs
 
+abbrev came : tie.Start → Lent
+came e = lent (now (e .args .log)) (now (e .args .rows)) (now (e .args .order)) (now (e .args .book)) (now (e .args .lists))
+
+abbrev site : tie.Start → Representation
+site e = represented (e .args .self) (came e)
+
+-- what the specification says of the operation
+abbrev ruled : tie.Start → Option Refusal
+ruled e = addRefusal (e .args .id) (updatesHeld (e .args .asked)) (stateOf (site e) (now (e .args .log)))
+
+-- what the checks said is what the specification says
+said : (r : tie.After-add-refusal) → r .add-refusal .result ≡ verdictOf (ruled (r .before .before .before .before .before .before .before .before .before .before))
+said r =
+    let e = r .before .before .before .before .before .before .before .before .before .before in
+    let a = e .args in
+    r .add-refusal .ensures _ (r .before .before .before .before .before .before .before .trimmed-asked .ensures .is)
+    _ (site-sees (site e) (now (a .log)) (e .pre .sound) (a .id) _ _ _ (r .before .before .before .has-id .ensures) (r .before .has-id2 .ensures)
+    (ap (leb 64) (sym (live-length _ _ _ (e .pre .owns)))))
+
+-- .. and nothing where they passed
+free : (t : tie.After-enum-told) → ruled (t .before .before .before .before .before .before .before .before .before .before .before .before) ≡ none
+free t = let r = t .before .before in passes-is _ (sym (t .enum-told .given .1) ∙ said r)
+
+-- so an entry is free
+room : (t : tie.After-enum-told) → liveCount (t .before .before .before .before .before .before .before .before .before .before .before .before .args .self .table) < 64
+room t =
+    let e = t .before .before .before .before .before .before .before .before .before .before .before .before in
+    omega (arith, add-room (site e) (now (e .args .log)) (e .pre .sound) (e .args .id) _ (free t), live-length _ _ _ (e .pre .owns))
+
 -- the operations that are live
 add-live : tie.Need-add-live
-unfolding Sound
-add-live c =
-    let k = c .before .before .before .before .before .before .pre .carries in
-    omega (arith, k .usable .few, k .finished .usable .few)
+add-live c = omega (arith, c .before .before .before .before .before .pre .owns .usable .few)
 
 has-id-requires : tie.Need-has-id-requires
-unfolding Sound
-has-id-requires c κs = c .before .before .before .before .before .before .before .pre .carries .usable
+has-id-requires c κs = (c .before .before .before .before .before .before .pre .owns .usable, omega arith)
 
 has-id-requires-2 : tie.Need-has-id-requires-2
-unfolding Sound
-has-id-requires-2 c κs = c .before .before .before .before .before .before .before .before .pre .carries .finished .usable
+has-id-requires-2 c κs = (usable-fewer _ _ _ (c .before .before .before .before .before .before .before .before .args .self .table .finished) (c .before .before .before .before .before .before .before .before .pre .owns .usable) (omega arith), omega arith)
 
 add-refusal-requires : tie.Need-add-refusal-requires
-add-refusal-requires c κs = (
-  count-most _ _ (c .before .before .before .before .before .before .before .before .before .pre),
-  (_, c .before .before .before .before .before .before .before .trimmed-asked .ensures .is),
-)
+add-refusal-requires c κs = (count-most _ _ (c .before .before .before .before .before .before .before .before .before .pre .sound), (_, c .before .before .before .before .before .before .trimmed-asked .ensures .is))
 
 enum-known-q : tie.Need-enum-known-q
 enum-known-q c = search needs
@@ -79,54 +84,60 @@ enum-told c = search needs
 entry-of-asked-requires : tie.Need-entry-of-asked-requires
 entry-of-asked-requires c κs =
     let e = c .before .before .before .before .before .before .before .before .before .before .before .before .before in
-    let a = e .args in
-    let s = represented (a .self) (lent (now (a .log)) (now (a .queued)) (now (a .done)) (now (a .book)) []) in
-    let t = c .before .before .before .before .before .before .before .before .before .before .before .trimmed-asked .ensures in
-    passed-usable s (now (a .log)) (e .pre) (a .id) _ (free (c .before)) _ (t .is)
+    let t = c .before in
+    passed-usable (site e) (now (e .args .log)) (e .pre .sound) (e .args .id) _ (free t) _ (c .before .before .before .before .before .before .before .before .before .before .trimmed-asked .ensures .is)
 
 push-requires : tie.Need-push-requires
-unfolding Sound
-push-requires c κs =
-    let e = c .before .before .before .before .before .before .before .before .before .before .before .before .before .before in
-    let a = e .args in
-    let s = represented (a .self) (lent (now (a .log)) (now (a .queued)) (now (a .done)) (now (a .book)) []) in
-    let room = add-room s (now (a .log)) (e .pre) (a .id) _ (free (c .before .before)) in
-    (e .pre .carries .usable, (room, (c .entry-of-asked .ensures .usable)))
+push-requires c κs = let e = c .before .before .before .before .before .before .before .before .before .before .before .before .before .before in let t = c .before .before in (room t, e .pre .owns .within _ (room t))
+
+-- the table with it
+pushing : (p : tie.After-push) → Becomes (now (p .before .before .before .before .before .before .before .before .before .before .before .before .before .before .before .args .order)) (now (p .before .before .before .before .before .before .before .before .before .before .before .before .before .before .before .args .rows)) (p .push .result) (now (p .before .before .before .before .before .before .before .before .before .before .before .before .before .before .before .args .order)) (p .push .last .1 .1 .0)
+    (site (p .before .before .before .before .before .before .before .before .before .before .before .before .before .before .before) .finished) (site (p .before .before .before .before .before .before .before .before .before .before .before .before .before .before .before) .queue ++ (p .before .entry-of-asked .result ∷ []))
+pushing p =
+    let e = p .before .before .before .before .before .before .before .before .before .before .before .before .before .before .before in
+    let t = p .before .before .before in
+    becomes-as (p .push .ensures .0)
+    (pushed _ _ _ (e .pre .owns) (p .before .entry-of-asked .result) _ (p .before .entry-of-asked .ensures .usable) (room t) (p .push .ensures .1))
 
 try-all-requires : tie.Need-try-all-requires
-try-all-requires c κs = (c .before .before .push .ensures .usable, omega arith)
+try-all-requires c κs = let p = c .before .before .before .before in (pushing p .owns, omega arith)
+
+same-length : tie.Need-same-length
+same-length c = search needs
 
 returns : tie.Need-returns
 returns c =
     let r = c .before .before .before .before in
-    let e = r .before .before .before .before .before .before .before .before .before .before in
+    let e = c .before .before .before .before .before .before .before .before .before .before .before .before .before .before in
     let a = e .args in
-    let m = lent (now (a .log)) (now (a .queued)) (now (a .done)) (now (a .book)) (now (a .lists)) in
-    let t = r .before .before .before .before .before .before .before .before .trimmed-asked .ensures in
+    let t = c .before .before .before .before .before .before .before .before .before .before .before .trimmed-asked .ensures in
     let le : a .id ≤ top = omega (arith, e .fits .id) in
-    refuses (a .self) m _ _ _
-    (add-refused (a .id) _ (view (a .self) m) le (updates-writable _ (t .writable)) _
+    refuses (a .self) (came e) _ _ _
+    (add-refused (a .id) _ (view (a .self) (came e)) le (updates-writable _ (t .writable)) _
     (refused-is _ _ (sym (c .before .before .q .given .1) ∙ said r))) (c .refusal .ensures (now (a .lists))) refl
+
+same-length-2 : tie.Need-same-length-2
+same-length-2 c = c .before .before .try-all .ensures .frame .long ∙ c .before .before .before .before .before .before .before .push .ensures .1 .long
 
 returns-2 : tie.Need-returns-2
 returns-2 c =
-    let r = c .before .before .before .before .before .before .before .before in
-    let e = r .before .before .before .before .before .before .before .before .before .before in
+    let e = c .before .before .before .before .before .before .before .before .before .before .before .before .before .before .before .before .before .before .before .before .before .before in
     let a = e .args in
-    let m = lent (now (a .log)) (now (a .queued)) (now (a .done)) (now (a .book)) (now (a .lists)) in
-    let s = represented (a .self) m in
-    let t = r .before .before .before .before .before .before .before .before .trimmed-asked .ensures in
+    let m = came e in
+    let t = c .before .before .before .before .before .before .before .before .before .before .before .before .before .before .before .before .before .before .before .trimmed-asked .ensures in
+    let g = c .before .before .before .before .before .before .before .before .before .before in
     let le : a .id ≤ top = omega (arith, e .fits .id) in
-    let f = free (c .before .before .before .before .before .before) in
-    let push = c .before .before .before .push in
-    let pushed = push .last .1 .0 in
-    let try = c .try-all in
-    let words = try .last .1 .0 in
-    does (a .self) m _ _ (lent (now (a .log)) words (now (a .done)) (now (a .book)) (try .last .1 .1 .1 .0))
-    (add-does s (now (a .log)) (e .pre) (a .id) _ le (updates-writable _ (t .writable)) f _
-    (passed-enters s (now (a .log)) (e .pre) (a .id) _ f _ (t .is) _ (c .before .before .before .before .entry-of-asked .ensures))
-    (stored (push .result) pushed) (push .ensures) (stored (push .result) words) (try .ensures .usable) (try .ensures .queue) _
-    (means-one (try .ensures .ready)) _) refl (past-one (try .ensures .ready))
+    let f = free g in
+    let p = c .before .before .before .before .before .before .before in
+    let b = pushing p in
+    let try = c .before .before .try-all in
+    let rows = try .last .1 .1 .0 in
+    does (a .self) m _ _ (lent (m .log) rows (m .order) (m .book) (try .last .1 .1 .1 .1 .0))
+    (accepts-rows (m .log) _ _ _ (m .log) (try .ensures .finished ∙ b .finishedIs) refl
+    (add-does (site e) (m .log) (e .pre .sound) (a .id) _ le (updates-writable _ (t .writable)) f _
+    (passed-enters (site e) (m .log) (e .pre .sound) (a .id) _ f _ (t .is) _ (c .before .before .before .before .before .before .before .before .entry-of-asked .ensures))
+    _ (b .queueIs) (queueRows (p .push .result) (m .order) rows) (try .ensures .queue) _ (means-one (try .ensures .ready)) _))
+    (keeps-tried b (try .ensures .owns) (try .ensures .frame)) refl (past-one (try .ensures .ready))
 
 pub add-spec : {M : Type 1} → statement M
 add-spec =
@@ -143,5 +154,7 @@ add-spec =
     entry-of-asked-requires
     push-requires
     try-all-requires
+    same-length
     returns
+    same-length-2
     returns-2)

@@ -1,3 +1,4 @@
+-- The numbers that are read are those of the history in the state, and nothing is written.
 use denote.Ref.{now}
 use mathlib.Core.Path.{refl, sym}
 use Prim.Native.Nat.{_≤_, _<_}
@@ -8,6 +9,7 @@ use Rattle.history.specs.WordLaws.{column-in}
 use Rattle.site.specs.Model.{lent, represented}
 use Rattle.site.specs.ModelLaws.{refuses, does}
 use Rattle.site.specs.ShowLaws.{count-most, show-refused, show-does}
+use Rattle.site.specs.TableLaws.{keeps-same}
 use borrow.Author.Needs.{needs}
 use Rattle.site.proofs.Site.show.Statement.{statement}
 use Rattle.site.proofs.Site.show.Tie as tie
@@ -18,20 +20,19 @@ refusal-requires c κs = search needs
 returns : tie.Need-returns
 returns c =
     λ ns.
-    let e = c .before .before .before in
+    let e = c .before .before .before .before in
     let a = e .args in
-    let m = lent (now (a .log)) (now (a .queued)) (now (a .done)) (now (a .book)) ns in
+    let m = lent (now (a .log)) (now (a .rows)) (now (a .order)) (now (a .book)) ns in
     let le : a .h ≤ top = omega (arith, e .fits .h) in
     refuses (a .self) m _ NoSuchHistory _ (show-refused (represented (a .self) m) (now (a .log)) (a .h) le (c .before .if1 .taken))
     (c .refusal .ensures ns) refl
 
 -- A history that there is, is one of sixteen.
-few : (e : tie.Else1) → e .before .before .args .h < 16
-few e = omega (arith, e .if1 .left, count-most _ _ (e .before .before .pre))
+few : (e : tie.Else1) → e .before .before .before .args .h < 16
+few e = omega (arith, e .if1 .left, count-most _ _ (e .before .before .before .pre .sound))
 
 history-at-requires : tie.Need-history-at-requires
-history-at-requires c κs =
-    few c
+history-at-requires c κs = few c
 
 mul-t17 : tie.Need-mul-t17
 mul-t17 c = omega (arith, few (c .before .before .before))
@@ -61,15 +62,15 @@ returns-2 : tie.Need-returns-2
 returns-2 c =
     λ ns.
     let i = c .before .before .before .before .before in
-    let e = i .before .before in
+    let e = c .before .before .before .before .before .before .before .before in
     let a = e .args in
     let book = now (a .book) in
-    let m = lent (now (a .log)) (now (a .queued)) (now (a .done)) book ns in
+    let m = lent (now (a .log)) (now (a .rows)) (now (a .order)) book ns in
     let few-h = few i in
     does (a .self) m _ _ m
-    (show-does (represented (a .self) m) (now (a .log)) (a .h) (e .pre) (omega (arith, e .fits .h)) (i .if1 .left)
+    (show-does (represented (a .self) m) (now (a .log)) (a .h) (e .pre .sound) (omega (arith, e .fits .h)) (i .if1 .left)
     _ (c .before .before .before .before .history-at .ensures) _ (sym (column-in 3 book (a .h) few-h))
-    _ (sym (column-in 4 book (a .h) few-h)) ns ns) refl refl
+    _ (sym (column-in 4 book (a .h) few-h)) ns ns) (keeps-same (a .self .table) (m .order) (m .rows) (e .pre .owns)) refl refl
 
 pub show-spec : {M : Type 1} → statement M
 show-spec =
