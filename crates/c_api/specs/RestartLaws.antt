@@ -13,13 +13,13 @@ use Rattle.rules.specs.Log.{ended}
 use Rattle.rules.specs.Session.{turnOf}
 use Rattle.site.specs.declared.Site.{Site}
 use Rattle.site.specs.declared.CallResult.{CallResult}
-use Rattle.site.specs.Model.{Lent, lent, Says, Does}
+use Rattle.site.specs.Model.{Lent, lent, Says, Opens}
 use Rattle.forms.specs.declared.writer.Written.{Written}
 use Rattle.forms.specs.Write.{Writes, withEnd}
 use Rattle.c_api.specs.Codes.{codeOf, PutsText, replyText}
 
 -- The reply of a call is the specification's.
-does-says : (s : Site) (old : Lent) (reply : Reply) (r : CallResult) (new : Lent) → Does s old reply r new →
+does-says : (s : Site) (old : Lent) (reply : Reply) (r : CallResult) (new : Lent) → Opens s old reply r new →
     Says (replied (r .reply) (new .lists)) (turnOf reply none .reply)
 unfolding turnOf
 does-says s old (refused q) r new d = d .answer
@@ -32,15 +32,15 @@ unlisted r = ap₂ (λ (xs ys : List ℕ). outcomeWith (r .form) xs ys) (take-ni
     (ap (λ (l : List ℕ). take (r .second) l) (drop-nil (r .first)) ∙ take-nil (r .second))
 
 -- What is written of it is the specification's reply.
-pub puts-reply : (s : Site) (old : Lent) (reply : Reply) (r : CallResult) (log book out written : List ℕ) (w : Written) (n : ℕ) →
-    Does s old reply r (lent log [] [] book []) → Writes out 0 (withEnd (outcomeText (outcomeWith (r .reply .form) [] []))) w written →
+pub puts-reply : (s : Site) (old : Lent) (reply : Reply) (r : CallResult) (log rows order book out written : List ℕ) (w : Written) (n : ℕ) →
+    Opens s old reply r (lent log rows order book []) → Writes out 0 (withEnd (outcomeText (outcomeWith (r .reply .form) [] []))) w written →
     n ≡ codeOf w →
     PutsText (replyText reply) out n written
 unfolding ended
-puts-reply s old reply r log book out written w n d text e =
+puts-reply s old reply r log rows order book out written w n d text e =
     record {
       written = w;
       code = e;
       stands = subst (λ (o : Outcome). Writes out 0 (withEnd (outcomeText o)) w written)
-          (sym (unlisted (r .reply)) ∙ does-says s old reply r (lent log [] [] book []) d .outcome) text;
+          (sym (unlisted (r .reply)) ∙ does-says s old reply r (lent log rows order book []) d .outcome) text;
     }

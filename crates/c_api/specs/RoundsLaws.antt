@@ -18,7 +18,7 @@ use Rattle.recovery.specs.Recovery.{run-append}
 use Rattle.site.specs.declared.Site.{Site}
 use Rattle.site.specs.declared.CallResult.{CallResult}
 use Rattle.site.specs.Representation.{Sound}
-use Rattle.site.specs.Model.{Lent, view, Valid, Does}
+use Rattle.site.specs.Model.{Lent, view, Valid, Does, Opens}
 use Rattle.site.specs.OpenLaws.{blankSite}
 use Rattle.site.specs.Trim.{padded, updatesHeld}
 use Rattle.stream.specs.Logging.{overlaid}
@@ -116,23 +116,23 @@ no-round s old v = reaches-none s old v
 -- A valid site has histories.
 no-histories : (s : Site) (m : Lent) → Valid s m → s .count ≡ 0 → ⊥
 unfolding Sound
-no-histories s m v e = let least = histories-least (s .count) (v .good .histories) in omega arith
+no-histories s m v e = let least = histories-least (s .count) (v .sound .good .histories) in omega arith
 
 -- Where no site was opened.
-pub not-opened : (reply : Reply) (n : ℕ) (old : Lent) (c : CallResult) (new : Lent) → Does blankSite old reply c new → c .site .count ≡ 0 →
+pub not-opened : (reply : Reply) (n : ℕ) (old : Lent) (c : CallResult) (new : Lent) → Opens blankSite old reply c new → c .site .count ≡ 0 →
     Rounds reply n (old .log) 0 (new .log)
 not-opened (refused q) n old c new d e = (refl, ap (λ (m : Lent). m .log) (d .kept))
 not-opened (ok st a) n old c new d e = absurd (no-histories (c .site) new (d .valid) e)
 
 -- An opened site is valid.
-pub opened-valid : (reply : Reply) (old : Lent) (c : CallResult) (new : Lent) → Does blankSite old reply c new → (c .site .count ≡ 0 → ⊥) →
+pub opened-valid : (reply : Reply) (old : Lent) (c : CallResult) (new : Lent) → Opens blankSite old reply c new → (c .site .count ≡ 0 → ⊥) →
     Valid (c .site) new
 opened-valid (refused q) old c new d e = absurd (e (ap (λ (s : Site). s .count) (d .site)))
 opened-valid (ok st a) old c new d e = d .valid
 
 -- What stands in the buffer after the rounds.
 pub rounds-stand : (reply : Reply) (n id : ℕ) (old : Lent) (c : CallResult) (mid : Lent) (t : Site) (new : Lent) →
-    Does blankSite old reply c mid →
+    Opens blankSite old reply c mid →
     (c .site .count ≡ 0 → ⊥) → id ≡ n → Reaches (c .site) mid (roundsCalls id) t new → Rounds reply n (old .log) (t .used) (new .log)
 unfolding Sound
 rounds-stand (refused q) n id old c mid t new d e same r = absurd (e (ap (λ (s : Site). s .count) (d .site)))
@@ -146,7 +146,7 @@ rounds-stand (ok st a) n id old c mid t new d e same r =
     }
   where
     size : t .used ≡ length (logBytes (view t new))
-    size = sym (length-take-le (t .used) (new .log) (r .valid .carries .within)) ∙ ap length (r .valid .carries .text)
+    size = sym (length-take-le (t .used) (new .log) (r .valid .sound .carries .within)) ∙ ap length (r .valid .sound .carries .text)
 
     reached : view t new ≡ run (roundsCalls n) st
     reached = r .state ∙ ap₂ (λ (x : State) (i : ℕ). run (roundsCalls i) x) (d .state) same

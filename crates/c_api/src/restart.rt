@@ -21,8 +21,10 @@ pub fn code(w: Written) -> usize
 pub extern "C" fn site_restart(log: &[u8], k: usize, out: &mut [u8]) -> usize
     ensures { λ r. ⌜ PutsText (replyText (restart (now (log .entry)) k)) (now (out .entry)) r (now (out .exit)) ⌝ }
 {
+    let rows = [0u64; 1472];
+    let mut order = [0u8; 64];
     let mut book = [0u64; 80];
-    let c = Site::restart(log, &mut book, k);
+    let c = Site::restart(log, &rows, &mut order, &mut book, k);
     let reply = c.reply;
     let form = reply.form;
     let w = write_reply(out, 0, form, &[], &[]);

@@ -15,8 +15,8 @@ use forms::Rule;
 use forms::Version;
 use history::book::BookWords;
 use site::Site;
-use table::slots::DoneWords;
-use table::slots::QueueWords;
+use table::order::Order;
+use table::rows::Rows;
 
 // One update: part 0 of a history's profile becomes 7.
 fn asked_inc(history: u64, version: u64) -> AskedHeld
@@ -38,20 +38,20 @@ fn asked_inc(history: u64, version: u64) -> AskedHeld
 fn one_operation(
     site: Site,
     log: &mut [u8],
-    queued: &mut QueueWords,
-    done: &mut DoneWords,
+    rows: &mut Rows,
+    order: &mut Order,
     book: &mut BookWords,
     lists: &mut ReplyNumbers,
     id: u64,
 ) -> Site
-    requires { ⌜ Valid site (received log queued done book) ⌝ }
-    ensures { λ r. ⌜ Reaches site (old log queued done book lists) (workCalls id) r
-        (new log queued done book lists) ⌝ }
+    requires { ⌜ Valid site (received log rows order book) ⌝ }
+    ensures { λ r. ⌜ Reaches site (old log rows order book lists) (workCalls id) r
+        (new log rows order book lists) ⌝ }
 {
     let asked = asked_inc(id % 4, id / 4 + 1);
-    let a = site.add(log, queued, done, book, lists, id, asked);
+    let a = site.add(log, rows, order, book, lists, id, asked);
     let added = a.site;
-    let f = added.finish(log, queued, done, book, lists, id);
+    let f = added.finish(log, rows, order, book, lists, id);
     f.site
 }
 
@@ -59,19 +59,19 @@ fn one_operation(
 fn mark(
     site: Site,
     log: &[u8],
-    queued: &QueueWords,
-    done: &mut DoneWords,
+    rows: &Rows,
+    order: &mut Order,
     book: &mut BookWords,
     lists: &mut ReplyNumbers,
     n: u64,
 ) -> Site
-    requires { ⌜ Valid site (received log queued done book) ⌝ }
-    ensures { λ r. ⌜ Reaches site (old log queued done book lists) (markCalls n) r
-        (new log queued done book lists) ⌝ }
+    requires { ⌜ Valid site (received log rows order book) ⌝ }
+    ensures { λ r. ⌜ Reaches site (old log rows order book lists) (markCalls n) r
+        (new log rows order book lists) ⌝ }
 {
-    let p = site.persistent(log, queued, done, book, lists, LogNumber(n));
+    let p = site.persistent(log, rows, order, book, lists, LogNumber(n));
     let kept = p.site;
-    let s = kept.stable(log, queued, done, book, lists, LogNumber(n));
+    let s = kept.stable(log, rows, order, book, lists, LogNumber(n));
     s.site
 }
 
@@ -79,20 +79,20 @@ fn mark(
 fn round(
     site: Site,
     log: &mut [u8],
-    queued: &mut QueueWords,
-    done: &mut DoneWords,
+    rows: &mut Rows,
+    order: &mut Order,
     book: &mut BookWords,
     lists: &mut ReplyNumbers,
     id: u64,
 ) -> Site
-    requires { ⌜ Valid site (received log queued done book) ⌝ }
+    requires { ⌜ Valid site (received log rows order book) ⌝ }
     requires { ⌜ id < 18446744073709551615 ⌝ }
-    ensures { λ r. ⌜ Reaches site (old log queued done book lists) (roundCalls id) r
-        (new log queued done book lists) ⌝ }
+    ensures { λ r. ⌜ Reaches site (old log rows order book lists) (roundCalls id) r
+        (new log rows order book lists) ⌝ }
 {
-    let worked = one_operation(site, log, queued, done, book, lists, id);
+    let worked = one_operation(site, log, rows, order, book, lists, id);
     if id % 32 == 31 {
-        return mark(worked, log, queued, done, book, lists, id + 1);
+        return mark(worked, log, rows, order, book, lists, id + 1);
     }
     worked
 }
@@ -102,18 +102,18 @@ fn round(
 pub extern "C" fn site_add_and_finish(log: &mut [u8], n: u64) -> usize
     ensures { λ r. ⌜ Rounds (openSite 4 (length (now (log .entry)))) n (now (log .entry)) r (now (log .exit)) ⌝ }
 {
+    let mut rows = [0u64; 1472];
+    let mut order = [0u8; 64];
     let mut book = [0u64; 80];
-    let c = Site::open(log, &mut book, 4);
+    let c = Site::open(log, &rows, &mut order, &mut book, 4);
     let mut site = c.site;
     if site.count == 0 {
         return 0;
     }
-    let mut queued = [0u64; 1472];
-    let mut done = [0u64; 640];
     let mut lists = [0u64; 68];
     let mut id: u64 = 0;
     while id < n {
-        site = round(site, log, &mut queued, &mut done, &mut book, &mut lists, id);
+        site = round(site, log, &mut rows, &mut order, &mut book, &mut lists, id);
         id += 1;
     }
     site.used

@@ -12,12 +12,16 @@ use Rattle.rules.specs.Book.{Cell, cell}
 use Rattle.rules.specs.Log.{didsText, logText}
 use Rattle.rules.specs.State.{State, Reply, refused, ok}
 use Rattle.rules.specs.Calls.{openSite, restart, Call, Show, Cut, End}
+use Rattle.rules.specs.Run.{run}
 use Rattle.rules.specs.Good.{didIds}
 use Rattle.recovery.specs.Claim.{counted, Fair, lostBy, came, Asked, Recovered}
 use Rattle.site.specs.declared.Site.{Site}
 use Rattle.site.specs.declared.CallResult.{CallResult}
+use Rattle.table.specs.declared.Lookup.{Lookup}
+use Rattle.table.specs.Tables.{liveNumbers, entryOf}
 use Rattle.site.specs.OpenLaws.{blankSite}
-use Rattle.site.specs.Model.{Lent, view, Valid, AcceptedAs, Does, Steps}
+use Rattle.site.specs.EntryOf.{EntryIs}
+use Rattle.site.specs.Model.{Lent, view, Valid, AcceptedAs, Opens, Steps}
 
 -- ### Calls of the code's site
 
@@ -51,7 +55,7 @@ pub data Transition (x : Memory) : Call → Memory → Type 0 where
   calls : (c : Call) (r : CallResult) (new : Lent) → Steps (x .site) (x .lent) c r new → Transition x c (memory (r .site) new)
   -- "A cut in the list is a restart from them": the first k bytes of the log stand in another buffer; `Site::restart` keeps its contract
   restarts : (k : ℕ) (buffer : Lent) (r : CallResult) (new : Lent) → k ≤ x .site .used → take k (buffer .log) ≡ take k (x .lent .log) →
-      Does blankSite buffer (restart (buffer .log) k) r new →
+      Opens blankSite buffer (restart (buffer .log) k) r new →
       Transition x (Cut k (length (buffer .log))) (goesOnFrom (restart (buffer .log) k) x (memory (r .site) new))
 
 -- A list of calls, one after the other: an execution.
@@ -63,16 +67,16 @@ pub data Execution : Memory → List Call → Memory → Type 0 where
 -- `Site::restart`, with the number of did lines counted persistent there.
 pub data StartsSite : ℕ → Memory → Type 0 where
   opens : (n : ℕ) (old : Lent) (r : CallResult) (new : Lent) (st : State) (a : Answer) →
-      Does blankSite old (openSite n (length (old .log))) r new → openSite n (length (old .log)) ≡ ok st a → StartsSite 0 (memory (r .site) new)
+      Opens blankSite old (openSite n (length (old .log))) r new → openSite n (length (old .log)) ≡ ok st a → StartsSite 0 (memory (r .site) new)
   restarted : (k : ℕ) (old : Lent) (r : CallResult) (new : Lent) (st : State) (a : Answer) →
-      Does blankSite old (restart (old .log) k) r new → restart (old .log) k ≡ ok st a →
+      Opens blankSite old (restart (old .log) k) r new → restart (old .log) k ≡ ok st a →
       StartsSite (length (stateIn (memory (r .site) new) .log)) (memory (r .site) new)
 
 -- ### What the site shows
 
 -- The reply to a call c of the site, by its contract, whatever is handed back: this answer.
 abbrev pub AnswersCall : Memory → Call → Answer → Type 0
-AnswersCall x c a = (r : CallResult) (new : Lent) → Steps (x .site) (x .lent) c r new → (st : State) × AcceptedAs (x .lent) st a r new
+AnswersCall x c a = (r : CallResult) (new : Lent) → Steps (x .site) (x .lent) c r new → (st : State) × AcceptedAs (x .lent .order) (x .lent) st a r new
 
 -- `show` replies version, place and profile of the cell.
 abbrev pub ShowsIn : Memory → ℕ → Cell → Type 0
@@ -108,3 +112,17 @@ SiteCallsClaim =
     Fair (counted m xs (stateIn start)) k room (stateIn before) (stateIn after) →
     Asked m (stateIn start) (λ a. xs ++ Cut k room ∷ a) ys (lostBy (stateIn before) (stateIn after)) chosen →
     RecoveredIn before after (lostBy (stateIn before) (stateIn after)) chosen (came (xs ++ Cut k room ∷ ys) (stateIn start)) final
+
+-- ### The entry of an id
+
+-- What `Site::entry_of` gives, by its contract.
+abbrev pub entryIn : Memory → ℕ → Lookup
+entryIn x id = entryOf (x .lent .rows) id (liveNumbers (x .site .table) (x .lent .order))
+
+-- In every state that calls reach from a site just opened or restarted, `entry_of` gives the one entry of a live id, and none exactly if the id
+-- is not live; live it is by the state that `run` of the calls gives.
+abbrev pub EntryClaim : Type 0
+EntryClaim =
+    (m : ℕ) (start : Memory) → StartsSite m start →
+    (cs : List Call) (x : Memory) → Execution start cs x →
+    (id : ℕ) → (stateIn x ≡ run cs (stateIn start)) × EntryIs (x .site) (x .lent) id (entryIn x id)

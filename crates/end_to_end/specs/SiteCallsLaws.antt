@@ -7,6 +7,7 @@ use native.Mathlib.Omega.{arith}
 use lib.ListN.{length}
 use Rattle.forms.specs.Decimal.{top}
 use Rattle.forms.specs.Forms.{Did, Answer}
+use Rattle.forms.specs.Lists.{below}
 use Rattle.rules.specs.Book.{Cell}
 use Rattle.rules.specs.Log.{logText}
 use Rattle.rules.specs.State.{State, Reply, refused, ok, settle, logBytes}
@@ -17,9 +18,10 @@ use Rattle.recovery.specs.Recovery.{run-append, recovery}
 use Rattle.site.specs.declared.CallResult.{CallResult}
 use Rattle.site.specs.Representation.{Sound}
 use Rattle.site.specs.OpenLaws.{blankSite}
-use Rattle.site.specs.Model.{Lent, represented, AcceptedAs, Does}
+use Rattle.site.specs.EntryOf.{entry-is}
+use Rattle.site.specs.Model.{Lent, represented, AcceptedAs, Does, Opens}
 use Rattle.site.specs.RestartLaws.{cut-restarts, log-limit, used-limit}
-use Rattle.end_to_end.specs.SiteCalls.{Memory, memory, stateIn, ValidIn, logIn, goesOnFrom, Transition, calls, restarts}
+use Rattle.end_to_end.specs.SiteCalls.{EntryClaim, Memory, memory, stateIn, ValidIn, logIn, goesOnFrom, Transition, calls, restarts}
 use Rattle.end_to_end.specs.SiteCalls.{Execution, none, next}
 use Rattle.end_to_end.specs.SiteCalls.{StartsSite, opens, restarted, AnswersCall, ShowsIn, RecoveredIn, SiteCallsClaim}
 
@@ -39,7 +41,7 @@ call-runs x v (refused q) r new d =
 call-runs x v (ok st a) r new d = record { valid = d .valid; state = d .state }
 
 -- .. and so does a restart into another buffer
-restart-runs : (x : Memory) → ValidIn x → (reply : Reply) (buffer : Lent) (r : CallResult) (new : Lent) → Does blankSite buffer reply r new →
+restart-runs : (x : Memory) → ValidIn x → (reply : Reply) (buffer : Lent) (r : CallResult) (new : Lent) → Opens blankSite buffer reply r new →
     RunsAs (goesOnFrom reply x (memory (r .site) new)) (settle reply (stateIn x))
 unfolding settle
 restart-runs x v (refused q) buffer r new d = record { valid = v; state = refl }
@@ -49,13 +51,13 @@ makes-runs : {x y : Memory} {c : Call} → ValidIn x → Transition x c y → Ru
 makes-runs {x} v (calls c r new d) = call-runs x v (step c (stateIn x)) r new d
 makes-runs {x} v (restarts k buffer r new le same d) =
     subst (λ (reply : Reply). RunsAs (goesOnFrom (restart (buffer .log) k) x (memory (r .site) new)) (settle reply (stateIn x)))
-    (sym (cut-restarts (represented (x .site) (x .lent)) (x .lent .log) v (buffer .log) k low le same))
+    (sym (cut-restarts (represented (x .site) (x .lent)) (x .lent .log) (v .sound) (buffer .log) k low le same))
     (restart-runs x v (restart (buffer .log) k) buffer r new d)
   where
     low : k ≤ top
     low =
-        let a = log-limit (represented (x .site) (x .lent)) (x .lent .log) v in
-        let b = used-limit (represented (x .site) (x .lent)) (x .lent .log) v in
+        let a = log-limit (represented (x .site) (x .lent)) (x .lent .log) (v .sound) in
+        let b = used-limit (represented (x .site) (x .lent)) (x .lent .log) (v .sound) in
         omega (arith, le, a, b)
 
 -- ### A list of calls
@@ -72,10 +74,10 @@ calls-run v (next {cs = cs} one more) =
 -- A list starts with a valid site, in a state at which the claim's lists start.
 starts-at : {m : ℕ} {x : Memory} → StartsSite m x → ValidIn x × Start m (stateIn x)
 starts-at (opens n old r new st a d e) =
-    let q : AcceptedAs old st a r new = subst (λ (reply : Reply). Does blankSite old reply r new) e d in
+    let q : AcceptedAs (below 64) old st a r new = subst (λ (reply : Reply). Opens blankSite old reply r new) e d in
     (q .valid, subst (Start 0) (sym (q .state)) (justOpened n (length (old .log)) st a e))
 starts-at (restarted k old r new st a d e) =
-    let q : AcceptedAs old st a r new = subst (λ (reply : Reply). Does blankSite old reply r new) e d in
+    let q : AcceptedAs (below 64) old st a r new = subst (λ (reply : Reply). Opens blankSite old reply r new) e d in
     (q .valid, subst (λ (s : State). Start (length (s .log)) s) (sym (q .state)) (justRestarted (old .log) k st a e))
 
 -- ### What the site shows
@@ -83,7 +85,7 @@ starts-at (restarted k old r new st a d e) =
 -- The bytes in use are the log's text.
 log-bytes : (x : Memory) → ValidIn x → logIn x ≡ logBytes (stateIn x)
 unfolding Sound
-log-bytes x v = v .carries .text
+log-bytes x v = v .sound .carries .text
 
 answers : (x : Memory) (c : Call) (st : State) (a : Answer) → step c (stateIn x) ≡ ok st a → AnswersCall x c a
 answers x c st a e = λ r new d. (st, subst (λ (reply : Reply). Does (x .site) (x .lent) reply r new) e d)
@@ -147,3 +149,12 @@ site-calls m start begins xs before first k room after cut ys final later chosen
 
     c : RunsAs final (run ys (stateIn after))
     c = calls-run (b .valid) later
+
+-- ### The entry of an id
+
+-- Calls keep the invariant, and a valid site gives the one entry of a live id.
+pub entry-claim : EntryClaim
+entry-claim m start begins cs x made id =
+    let b = starts-at begins in
+    let r = calls-run (b .0) made in
+    (r .state, entry-is (x .site) (x .lent) (r .valid) id)

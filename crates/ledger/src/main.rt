@@ -11,8 +11,8 @@ use history::book::BookWords;
 use libc::STDIN_FILENO;
 use libc::STDOUT_FILENO;
 use stream::Stream;
-use table::slots::DoneWords;
-use table::slots::QueueWords;
+use table::order::Order;
+use table::rows::Rows;
 
 // The stream after some input, and whether to go on.
 struct Serving {
@@ -24,21 +24,21 @@ struct Serving {
 fn answer(
     start: Stream,
     log: &mut [u8],
-    queued: &mut QueueWords,
-    done: &mut DoneWords,
+    rows: &mut Rows,
+    order: &mut Order,
     book: &mut BookWords,
     lists: &mut ReplyNumbers,
     chunk: &[u8],
     out: &mut [u8],
 ) -> Serving
-    requires { ⌜ ValidStream start (received log queued done book) ⌝ }
+    requires { ⌜ ValidStream start (received log rows order book) ⌝ }
     requires { ⌜ 2730 ≤ length (now out) ⌝ }
-    ensures { λ r. ⌜ ValidStream (r .stream) (newWith [] log queued done book) ⌝ }
+    ensures { λ r. ⌜ ValidStream (r .stream) (newWith [] log rows order book) ⌝ }
 {
     let mut stream = start;
     let mut at: usize = 0;
     while at < chunk.len() {
-        let f = stream.feed(log, queued, done, book, lists, &chunk[at..], out);
+        let f = stream.feed(log, rows, order, book, lists, &chunk[at..], out);
         let n = f.written;
         at += f.used;
         stream = f.stream;
@@ -62,16 +62,16 @@ fn close(stream: Stream, out: &mut [u8])
 fn step(
     stream: Stream,
     log: &mut [u8],
-    queued: &mut QueueWords,
-    done: &mut DoneWords,
+    rows: &mut Rows,
+    order: &mut Order,
     book: &mut BookWords,
     lists: &mut ReplyNumbers,
     chunk: &mut [u8],
     out: &mut [u8],
 ) -> Serving
-    requires { ⌜ ValidStream stream (received log queued done book) ⌝ }
+    requires { ⌜ ValidStream stream (received log rows order book) ⌝ }
     requires { ⌜ 2730 ≤ length (now out) ⌝ }
-    ensures { λ r. ⌜ ValidStream (r .stream) (newWith [] log queued done book) ⌝ }
+    ensures { λ r. ⌜ ValidStream (r .stream) (newWith [] log rows order book) ⌝ }
 {
     let got = libc::read(STDIN_FILENO, chunk);
     if got < 0 {
@@ -82,14 +82,14 @@ fn step(
         return Serving { stream, on: false };
     }
     let n = io::count(got, chunk);
-    answer(stream, log, queued, done, book, lists, &chunk[..n], out)
+    answer(stream, log, rows, order, book, lists, &chunk[..n], out)
 }
 
 // A proved loop has to end, and nothing says that the input does: it counts its turns down, from a number that no run uses up.
 fn serve(
     log: &mut [u8],
-    queued: &mut QueueWords,
-    done: &mut DoneWords,
+    rows: &mut Rows,
+    order: &mut Order,
     book: &mut BookWords,
     lists: &mut ReplyNumbers,
     chunk: &mut [u8],
@@ -100,7 +100,7 @@ fn serve(
     let mut stream = Stream::start();
     let mut turns = u64::MAX;
     while turns > 0 {
-        let s = step(stream, log, queued, done, book, lists, chunk, out);
+        let s = step(stream, log, rows, order, book, lists, chunk, out);
         let on = s.on;
         stream = s.stream;
         if on {
@@ -113,16 +113,16 @@ fn serve(
 
 fn main() {
     let mut log = io::large_buffer();
-    let mut queued = [0u64; 1472];
-    let mut done = [0u64; 640];
+    let mut rows = [0u64; 1472];
+    let mut order = [0u8; 64];
     let mut book = [0u64; 80];
     let mut lists = [0u64; 68];
     let mut chunk = io::large_buffer();
     let mut out = io::large_buffer();
     serve(
         &mut log,
-        &mut queued,
-        &mut done,
+        &mut rows,
+        &mut order,
         &mut book,
         &mut lists,
         &mut chunk,

@@ -2,7 +2,7 @@
 use Prim.Native.Nat.{ℕ, _+_, _*_, _≤_}
 use mathlib.Core.Path.{_≡_}
 use mathlib.Core.Bool.{Bool, true, false}
-use mathlib.Core.List.{List}
+use mathlib.Core.List.{List, []}
 use mathlib.Core.Option.{Option, none, some}
 use lib.ListN.{length, drop}
 use Rattle.forms.specs.Forms.{Outcome, Refused, Accepted, outcomeText}
@@ -19,8 +19,11 @@ use Rattle.forms.specs.declared.reader.CommandForm.{CommandForm}
 use Rattle.forms.specs.declared.reader.CommandRead.{CommandRead}
 use Rattle.site.specs.declared.Site.{Site}
 use Rattle.site.specs.declared.CallResult.{CallResult}
-use Rattle.site.specs.Representation.{Representation, Sound}
-use Rattle.site.specs.Model.{Lent, lent, Ends, was, left, represented, view, Says, Does}
+use Rattle.table.specs.declared.Table.{Table}
+use Rattle.table.specs.Ends.{Ends, was}
+use Rattle.table.specs.Tables.{liveNumbers, Frame}
+use Rattle.site.specs.Representation.{Representation}
+use Rattle.site.specs.Model.{Lent, oldWith, newWith, represented, view, ValidSite, Says, Does}
 use Rattle.site.specs.Trim.{updatesHeld, didHeld, redoOf}
 use Rattle.forms.specs.declared.writer.Written.{Written}
 use Rattle.forms.specs.Write.{Writes, withEnd}
@@ -39,11 +42,11 @@ abbrev pub sessionView : Session → Lent → Option State
 sessionView s bytes = viewIf (s .opened) (s .site) bytes
 
 -- The invariant: a site that is open is valid.
-pub record ValidOpened (opened : Bool) (w : Representation) (log : List ℕ) : Type 0 where
-  pub site : opened ≡ true → Sound w log
+pub record ValidOpened (opened : Bool) (w : Representation) (t : Table) (log order rows : List ℕ) : Type 0 where
+  pub site : opened ≡ true → ValidSite w t log order rows
 
 abbrev pub ValidSession : Session → Lent → Type 0
-ValidSession s m = ValidOpened (s .opened) (represented (s .site) m) (m .log)
+ValidSession s m = ValidOpened (s .opened) (represented (s .site) m) (s .site .table) (m .log) (m .order) (m .rows)
 
 -- how many bytes of the log buffer, and how many words of the histories, are in use
 abbrev pub usedIf : Bool → Site → ℕ
@@ -54,6 +57,11 @@ abbrev pub heldIf : Bool → Site → ℕ
 heldIf true s = width * s .count
 heldIf false s = 0
 
+-- .. and which entries of the table
+abbrev pub liveIf : Bool → Site → List ℕ → List ℕ
+liveIf true s order = liveNumbers (s .table) order
+liveIf false s order = []
+
 -- ### What a line does
 
 -- "A refusal returns its number only": nothing else has changed.
@@ -61,11 +69,12 @@ pub record Unchanged (s : Session) (old : Lent) (r : LineResult) (new : Lent) : 
   pub session : r .session ≡ s
   pub kept : new ≡ old
 
--- "An accepted call alters no byte of a lent buffer past those in use, or handed out, after it": of the log's buffer, of the histories'
--- numbers, and of the lists' numbers past those that the reply counts.
+-- "An accepted call alters no byte of a lent buffer past those in use, or handed out, after it": of the log's buffer, of the table's rows, of
+-- the histories' numbers, and of the lists' numbers past those that the reply counts.
 pub record UnusedKept (old : Lent) (r : LineResult) (new : Lent) : Type 0 where
   pub past : drop (usedIf (r .session .opened) (r .session .site)) (new .log)
       ≡ drop (usedIf (r .session .opened) (r .session .site)) (old .log)
+  pub frame : Frame (liveIf (r .session .opened) (r .session .site) (new .order)) (old .rows) (new .rows)
   pub pastHistories :
       drop (heldIf (r .session .opened) (r .session .site)) (new .book) ≡ drop (heldIf (r .session .opened) (r .session .site)) (old .book)
   pub pastLists : drop (r .reply .first + r .reply .second) (new .lists) ≡ drop (r .reply .first + r .reply .second) (old .lists)
@@ -159,8 +168,7 @@ TurnsForm s old c r new = Turns s old (obeyed (length (old .log)) c (sessionView
 abbrev pub DoesForm : Site → Lent → CommandRead → CallResult → Lent → Type 0
 DoesForm s old c r new = Does s old (siteReply (length (old .log)) (c .form) (c .asked) (c .did) (view s old)) r new
 
--- The session, which is not open, takes the turn of opening a site of n histories, whatever is lent beside the log and the histories.
-abbrev pub Opens : Session → ℕ → Ends → Ends → LineResult → Type 0
-Opens s n log book r =
-    (qs ds ns : List ℕ) → Turns s (lent (was log) qs ds (was book) ns) (turnOf (openSite n (length (was log))) none) r
-    (lent (left log) qs ds (left book) ns)
+-- The session, which is not open, takes the turn of opening a site of n histories.
+abbrev pub Opens : Session → ℕ → Ends → Ends → Ends → Ends → LineResult → Type 0
+Opens s n log rows order book r =
+    (ns : List ℕ) → Turns s (oldWith ns log rows order book) (turnOf (openSite n (length (was log))) none) r (newWith ns log rows order book)

@@ -81,7 +81,7 @@ call-turns s old (ok st a) r new e v d =
       answer = d .answer;
       after = ap some (d .state);
       valid = record { site = λ o. d .valid };
-      keeps = record { past = d .past; pastHistories = d .pastHistories; pastLists = d .pastLists };
+      keeps = record { past = d .past; frame = d .frame; pastHistories = d .pastHistories; pastLists = d .pastLists };
     }
 
 -- ### A form

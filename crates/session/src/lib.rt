@@ -3,7 +3,8 @@ ghost use mathlib.Core.Path.{_≡_};
 ghost use mathlib.Core.Bool.{false};
 ghost use mathlib.Core.List.{[]};
 ghost use Rattle.forms.specs.Held.{replied};
-ghost use Rattle.site.specs.Model.{Lent, was, left, received, old, new, Valid, RefusedAs, Printable};
+ghost use Rattle.table.specs.Ends.{was, left};
+ghost use Rattle.site.specs.Model.{Lent, received, old, new, Valid, RefusedAs, Printable};
 ghost use Rattle.session.specs.Model.{ValidSession, Refuses, Starts, TurnsLine, AnswersLine, WritesTurn};
 ghost use Rattle.session.specs.Model.{turnedOf, Opens, DoesForm, TurnsForm};
 ghost use Rattle.session.specs.Feeding.{Begins};
@@ -20,8 +21,8 @@ use history::book::BookWords;
 use site::CallResult;
 use site::Site;
 use site::refusal;
-use table::slots::DoneWords;
-use table::slots::QueueWords;
+use table::order::Order;
+use table::rows::Rows;
 
 // A session by value: whether its site is open, and that site. Its log buffer is lent to each call.
 pub struct Session {
@@ -85,14 +86,14 @@ fn called(r: CallResult) -> LineResult
 fn call(
     site: Site,
     log: &mut [u8],
-    queued: &mut QueueWords,
-    done: &mut DoneWords,
+    rows: &mut Rows,
+    order: &mut Order,
     book: &mut BookWords,
     lists: &mut ReplyNumbers,
     c: CommandRead,
 ) -> CallResult
-    requires { ⌜ Valid site (received log queued done book) ⌝ }
-    ensures { λ r. ⌜ DoesForm site (old log queued done book lists) c r (new log queued done book lists) ⌝ }
+    requires { ⌜ Valid site (received log rows order book) ⌝ }
+    ensures { λ r. ⌜ DoesForm site (old log rows order book lists) c r (new log rows order book lists) ⌝ }
 {
     let form = c.form;
     let asked = c.asked;
@@ -100,15 +101,15 @@ fn call(
     match form {
         CommandForm::Bad => refused(site, Refusal::Unreadable),
         CommandForm::SiteOf(_) => refused(site, Refusal::OutOfTurn),
-        CommandForm::Add(i) => site.add(log, queued, done, book, lists, i, asked),
-        CommandForm::Finish(i) => site.finish(log, queued, done, book, lists, i),
-        CommandForm::Withdraw(i) => site.withdraw(log, queued, done, book, lists, i),
-        CommandForm::Persistent(n) => site.persistent(log, queued, done, book, lists, LogNumber(n)),
-        CommandForm::Stable(n) => site.stable(log, queued, done, book, lists, LogNumber(n)),
-        CommandForm::Show(h) => site.show(log, queued, done, book, h),
-        CommandForm::Cut(k) => site.cut(log, queued, done, book, k),
-        CommandForm::Redo => site.redo_did(log, queued, done, book, did),
-        CommandForm::End => site.end(log, queued, done, book, lists),
+        CommandForm::Add(i) => site.add(log, rows, order, book, lists, i, asked),
+        CommandForm::Finish(i) => site.finish(log, rows, order, book, lists, i),
+        CommandForm::Withdraw(i) => site.withdraw(log, rows, order, book, lists, i),
+        CommandForm::Persistent(n) => site.persistent(log, rows, order, book, lists, LogNumber(n)),
+        CommandForm::Stable(n) => site.stable(log, rows, order, book, lists, LogNumber(n)),
+        CommandForm::Show(h) => site.show(log, rows, order, book, h),
+        CommandForm::Cut(k) => site.cut(log, rows, order, book, k),
+        CommandForm::Redo => site.redo_did(log, rows, order, book, did),
+        CommandForm::End => site.end(log, rows, order, book, lists),
     }
 }
 
@@ -136,11 +137,18 @@ impl Session {
     }
 
     // `(site N)` "before site": a refused opening hands back a site without histories.
-    fn open_site(self, log: &mut [u8], book: &mut BookWords, n: u64) -> LineResult
+    fn open_site(
+        self,
+        log: &mut [u8],
+        rows: &Rows,
+        order: &mut Order,
+        book: &mut BookWords,
+        n: u64,
+    ) -> LineResult
         requires { ⌜ self .opened ≡ false ⌝ }
-        ensures { λ r. ⌜ Opens self n log book r ⌝ }
+        ensures { λ r. ⌜ Opens self n log rows order book r ⌝ }
     {
-        let c = Site::open(log, book, n);
+        let c = Site::open(log, rows, order, book, n);
         let site = c.site;
         let reply = c.reply;
         if site.count == 0 {
@@ -157,23 +165,23 @@ impl Session {
     fn obey(
         self,
         log: &mut [u8],
-        queued: &mut QueueWords,
-        done: &mut DoneWords,
+        rows: &mut Rows,
+        order: &mut Order,
         book: &mut BookWords,
         lists: &mut ReplyNumbers,
         c: CommandRead,
     ) -> LineResult
-        requires { ⌜ ValidSession self (received log queued done book) ⌝ }
-        ensures { λ r. ⌜ TurnsForm self (old log queued done book lists) c r (new log queued done book lists) ⌝ }
+        requires { ⌜ ValidSession self (received log rows order book) ⌝ }
+        ensures { λ r. ⌜ TurnsForm self (old log rows order book lists) c r (new log rows order book lists) ⌝ }
     {
         let form = c.form;
         if self.opened {
             let site = self.site;
-            return called(call(site, log, queued, done, book, lists, c));
+            return called(call(site, log, rows, order, book, lists, c));
         }
         match form {
             CommandForm::Bad => self.refuse(Refusal::Unreadable),
-            CommandForm::SiteOf(n) => self.open_site(log, book, n),
+            CommandForm::SiteOf(n) => self.open_site(log, rows, order, book, n),
             _ => self.refuse(Refusal::OutOfTurn),
         }
     }
@@ -182,18 +190,18 @@ impl Session {
     pub fn turn(
         self,
         log: &mut [u8],
-        queued: &mut QueueWords,
-        done: &mut DoneWords,
+        rows: &mut Rows,
+        order: &mut Order,
         book: &mut BookWords,
         lists: &mut ReplyNumbers,
         line: &[u8],
     ) -> LineResult
-        requires { ⌜ ValidSession self (received log queued done book) ⌝ }
-        ensures { λ r. ⌜ TurnsLine self (old log queued done book lists) (was line) r
-            (new log queued done book lists) ⌝ }
+        requires { ⌜ ValidSession self (received log rows order book) ⌝ }
+        ensures { λ r. ⌜ TurnsLine self (old log rows order book lists) (was line) r
+            (new log rows order book lists) ⌝ }
     {
         let c = read_command(line);
-        self.obey(log, queued, done, book, lists, c)
+        self.obey(log, rows, order, book, lists, c)
     }
 
     // A session "before site".
@@ -210,18 +218,18 @@ impl Session {
     pub fn answer(
         self,
         log: &mut [u8],
-        queued: &mut QueueWords,
-        done: &mut DoneWords,
+        rows: &mut Rows,
+        order: &mut Order,
         book: &mut BookWords,
         lists: &mut ReplyNumbers,
         line: &[u8],
         out: &mut [u8],
     ) -> Answered
-        requires { ⌜ ValidSession self (received log queued done book) ⌝ }
-        ensures { λ r. ⌜ AnswersLine self (old log queued done book lists) (was line) r
-            (new log queued done book lists) (was out) (left out) ⌝ }
+        requires { ⌜ ValidSession self (received log rows order book) ⌝ }
+        ensures { λ r. ⌜ AnswersLine self (old log rows order book lists) (was line) r
+            (new log rows order book lists) (was out) (left out) ⌝ }
     {
-        let t = self.turn(log, queued, done, book, lists, line);
+        let t = self.turn(log, rows, order, book, lists, line);
         let session = t.session;
         let reply = t.reply;
         let next = write_turn(out, 0, reply, lists);

@@ -23,10 +23,10 @@ pub over-site : (s : Site) (m : Lent) (other : List ℕ) → Valid s m → drop 
 unfolding Sound
 over-site s m other v e =
     sym (take-append-drop (s .used) (m .log))
-    ∙ ap₂ (λ (a b : List ℕ). a ++ b) (v .carries .text) (e ∙ ap (λ (k : ℕ). drop k other) size)
+    ∙ ap₂ (λ (a b : List ℕ). a ++ b) (v .sound .carries .text) (e ∙ ap (λ (k : ℕ). drop k other) size)
   where
     size : s .used ≡ length (logBytes (view s m))
-    size = sym (length-take-le (s .used) (m .log) (v .carries .within)) ∙ ap length (v .carries .text)
+    size = sym (length-take-le (s .used) (m .log) (v .sound .carries .within)) ∙ ap length (v .sound .carries .text)
 
 over-view : (o : Bool) (s : Site) (m : Lent) (other : List ℕ) → (o ≡ true → Valid s m) →
     drop (usedIf o s) (m .log) ≡ drop (usedIf o s) other →

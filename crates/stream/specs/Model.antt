@@ -7,6 +7,7 @@ use mathlib.Core.Option.{none}
 use lib.ListN.{length, take, drop}
 use Rattle.rules.specs.Log.{linesFrom, linesOf}
 use Rattle.rules.specs.Session.{sessionIn}
+use Rattle.table.specs.declared.Table.{Table}
 use Rattle.site.specs.Representation.{Representation}
 use Rattle.site.specs.Model.{Lent, represented}
 use Rattle.session.specs.declared.PartialLine.{PartialLine}
@@ -20,12 +21,13 @@ use Rattle.stream.specs.declared.RunResult.{RunResult}
 -- ### The stream
 
 -- The invariant of a stream and what is lent to it.
-pub record ValidParts (opened : Bool) (w : Representation) (log : List ℕ) (b : PartialLine) : Type 0 where
-  pub session : ValidOpened opened w log
+pub record ValidParts (opened : Bool) (w : Representation) (t : Table) (log order rows : List ℕ) (b : PartialLine) : Type 0 where
+  pub session : ValidOpened opened w t log order rows
   pub begun : UsablePartial b
 
 abbrev pub ValidStream : Stream → Lent → Type 0
-ValidStream s m = ValidParts (s .session .opened) (represented (s .session .site) m) (m .log) (s .begun)
+ValidStream s m =
+    ValidParts (s .session .opened) (represented (s .session .site) m) (s .session .site .table) (m .log) (m .order) (m .rows) (s .begun)
 
 -- The specification's progress that a stream is, whose unended line is `line`, with nothing replied yet.
 abbrev pub standing : Stream → List ℕ → Lent → Progress

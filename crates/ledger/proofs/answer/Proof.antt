@@ -16,17 +16,17 @@ use Rattle.ledger.proofs.answer.Statement.{statement}
 use Rattle.ledger.proofs.answer.Tie as tie
 
 -- what holds between two calls of feed
-record Holds (log₀ chunk out₀ log queued done book out : List ℕ) (stream : Stream) (at : ℕ) : Type 0 where
+record Holds (log₀ chunk out₀ log rows order book out : List ℕ) (stream : Stream) (at : ℕ) : Type 0 where
   within : at ≤ length chunk
-  valid : ValidStream stream (lent log queued done book [])
+  valid : ValidStream stream (lent log rows order book [])
   room : length log ≡ length log₀
   long : length out ≡ length out₀
 
 abbrev Inv-loop : tie.InvT-loop
-Inv-loop log₀ queued₀ done₀ book₀ lists₀ chunk out₀ stream₀ at₀ log queued done book lists out stream at = Holds log₀ chunk out₀ log queued done book out stream at
+Inv-loop log₀ rows₀ order₀ book₀ lists₀ chunk out₀ stream₀ at₀ log rows order book lists out stream at = Holds log₀ chunk out₀ log rows order book out stream at
 
 abbrev μ-loop : tie.MeasureT-loop
-μ-loop log₀ queued₀ done₀ book₀ lists₀ chunk out₀ stream₀ at₀ log queued done book lists out stream at = length chunk - at
+μ-loop log₀ rows₀ order₀ book₀ lists₀ chunk out₀ stream₀ at₀ log rows order book lists out stream at = length chunk - at
 
 -- the call of feed moved on
 moved : (c : tie.After-feed Inv-loop μ-loop) → Moves (now (c .before .before .before .before .before .before .before .before .before .before .before .before .before .args .chunk)) (c .before .before .before .before .before .before .before .before .before .loop .at) (c .feed .result .used)
@@ -34,7 +34,7 @@ moved c =
     let l = c .before .before .before .before .before .before .before .before .before .loop in
     let f = c .feed in
     let long = l .inv .long in
-    moves-on (l .stream) (lent (l .log) (l .queued) (l .done) (l .book) (l .lists)) (now (c .before .before .before .before .before .before .before .before .before .before .before .before .before .args .chunk)) (l .at) (f .result)
+    moves-on (l .stream) (lent (l .log) (l .rows) (l .order) (l .book) (l .lists)) (now (c .before .before .before .before .before .before .before .before .before .before .before .before .before .args .chunk)) (l .at) (f .result)
     (lent (f .last .1 .0) (f .last .1 .1 .0) (f .last .1 .1 .1 .0) (f .last .1 .1 .1 .1 .0) (f .last .1 .1 .1 .1 .1 .0)) _ _ (l .inv .valid) (f .ensures)
     (omega (arith, long, c .before .before .before .before .before .before .before .before .before .before .before .before .before .pre .1)) (c .before .before .before .before .before .before .before .before .loop-test .taken)
 

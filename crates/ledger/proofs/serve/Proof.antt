@@ -13,17 +13,17 @@ use Rattle.ledger.proofs.serve.Statement.{statement}
 use Rattle.ledger.proofs.serve.Tie as tie
 
 -- what holds between two reads
-record Holds (log₀ chunk₀ out₀ log queued done book chunk out : List ℕ) (stream : Stream) : Type 0 where
-  valid : ValidStream stream (lent log queued done book [])
+record Holds (log₀ chunk₀ out₀ log rows order book chunk out : List ℕ) (stream : Stream) : Type 0 where
+  valid : ValidStream stream (lent log rows order book [])
   room : length log ≡ length log₀
   input : length chunk ≡ length chunk₀
   long : length out ≡ length out₀
 
 abbrev Inv-loop : tie.InvT-loop
-Inv-loop log₀ queued₀ done₀ book₀ lists₀ chunk₀ out₀ stream₀ turns₀ log queued done book lists chunk out stream turns = Holds log₀ chunk₀ out₀ log queued done book chunk out stream
+Inv-loop log₀ rows₀ order₀ book₀ lists₀ chunk₀ out₀ stream₀ turns₀ log rows order book lists chunk out stream turns = Holds log₀ chunk₀ out₀ log rows order book chunk out stream
 
 abbrev μ-loop : tie.MeasureT-loop
-μ-loop log₀ queued₀ done₀ book₀ lists₀ chunk₀ out₀ stream₀ turns₀ log queued done book lists chunk out stream turns = turns
+μ-loop log₀ rows₀ order₀ book₀ lists₀ chunk₀ out₀ stream₀ turns₀ log rows order book lists chunk out stream turns = turns
 
 -- the buffers keep their lengths
 kept : (c : tie.After-step Inv-loop μ-loop) →
@@ -41,7 +41,7 @@ start-requires : tie.Need-start-requires Inv-loop μ-loop
 start-requires c κs = search needs
 
 loop-holds : tie.Need-loop-holds Inv-loop μ-loop
-loop-holds c = let e = c .before .before .before .before in record { valid = c .start .ensures (lent (now (e .args .log)) (now (e .args .queued)) (now (e .args .done)) (now (e .args .book)) []) .valid; room = refl; input = refl; long = refl }
+loop-holds c = let e = c .before .before .before .before in record { valid = c .start .ensures (lent (now (e .args .log)) (now (e .args .rows)) (now (e .args .order)) (now (e .args .book)) []) .valid; room = refl; input = refl; long = refl }
 
 step-requires : tie.Need-step-requires Inv-loop μ-loop
 step-requires c κs = (c .before .before .before .before .before .before .before .before .loop .inv .valid, let l = c .before .before .before .before .before .before .before .before .loop .inv .long in omega (arith, l, c .before .before .before .before .before .before .before .before .before .before .before .before .before .pre))

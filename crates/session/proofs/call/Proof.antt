@@ -77,15 +77,15 @@ returns : tie.Need-returns
 unfolding siteReply
 returns c =
     let e = c .before .before .before .before .before .before in
-    formed (e .args .site) (lent (now (e .args .log)) (now (e .args .queued)) (now (e .args .done)) (now (e .args .book)) (now (e .args .lists))) (e .args .c) _ _ _ (c .before .enum-told .given .1)
-    (c .refused .ensures (lent (now (e .args .log)) (now (e .args .queued)) (now (e .args .done)) (now (e .args .book)) (now (e .args .lists))))
+    formed (e .args .site) (lent (now (e .args .log)) (now (e .args .rows)) (now (e .args .order)) (now (e .args .book)) (now (e .args .lists))) (e .args .c) _ _ _ (c .before .enum-told .given .1)
+    (c .refused .ensures (lent (now (e .args .log)) (now (e .args .rows)) (now (e .args .order)) (now (e .args .book)) (now (e .args .lists))))
 
 returns-2 : tie.Need-returns-2
 unfolding siteReply
 returns-2 c =
     let e = c .before .before .before .before .before .before in
-    formed (e .args .site) (lent (now (e .args .log)) (now (e .args .queued)) (now (e .args .done)) (now (e .args .book)) (now (e .args .lists))) (e .args .c) _ _ _ (c .before .enum-told2 .given .1)
-    (c .refused2 .ensures (lent (now (e .args .log)) (now (e .args .queued)) (now (e .args .done)) (now (e .args .book)) (now (e .args .lists))))
+    formed (e .args .site) (lent (now (e .args .log)) (now (e .args .rows)) (now (e .args .order)) (now (e .args .book)) (now (e .args .lists))) (e .args .c) _ _ _ (c .before .enum-told2 .given .1)
+    (c .refused2 .ensures (lent (now (e .args .log)) (now (e .args .rows)) (now (e .args .order)) (now (e .args .book)) (now (e .args .lists))))
 
 same-length : tie.Need-same-length
 same-length c = search needs
@@ -94,7 +94,7 @@ returns-3 : tie.Need-returns-3
 unfolding siteReply
 returns-3 c =
     let e = c .before .before .before .before .before .before .before .before .before .before .before .before in
-    formed (e .args .site) (lent (now (e .args .log)) (now (e .args .queued)) (now (e .args .done)) (now (e .args .book)) (now (e .args .lists))) (e .args .c) _ _ _ (c .before .before .before .before .before .before .before .form .given .1)
+    formed (e .args .site) (lent (now (e .args .log)) (now (e .args .rows)) (now (e .args .order)) (now (e .args .book)) (now (e .args .lists))) (e .args .c) _ _ _ (c .before .before .before .before .before .before .before .form .given .1)
     (c .add .ensures)
 
 same-length-2 : tie.Need-same-length-2
@@ -104,7 +104,7 @@ returns-4 : tie.Need-returns-4
 unfolding siteReply
 returns-4 c =
     let e = c .before .before .before .before .before .before .before .before .before .before .before .before .before .before in
-    formed (e .args .site) (lent (now (e .args .log)) (now (e .args .queued)) (now (e .args .done)) (now (e .args .book)) (now (e .args .lists))) (e .args .c) _ _ _ (c .before .before .before .before .before .before .before .before .before .form2 .given .1)
+    formed (e .args .site) (lent (now (e .args .log)) (now (e .args .rows)) (now (e .args .order)) (now (e .args .book)) (now (e .args .lists))) (e .args .c) _ _ _ (c .before .before .before .before .before .before .before .before .before .form2 .given .1)
     (c .before .before .finish .ensures)
 
 same-length-3 : tie.Need-same-length-3
@@ -113,8 +113,8 @@ same-length-3 c = search needs
 returns-5 : tie.Need-returns-5
 unfolding siteReply
 returns-5 c =
-    let e = c .before .before .before .before .before .before .before .before .before .before .before .before in
-    formed (e .args .site) (lent (now (e .args .log)) (now (e .args .queued)) (now (e .args .done)) (now (e .args .book)) (now (e .args .lists))) (e .args .c) _ _ _ (c .before .before .before .before .before .before .before .form3 .given .1)
+    let e = c .before .before .before .before .before .before .before .before .before .before .before .before .before in
+    formed (e .args .site) (lent (now (e .args .log)) (now (e .args .rows)) (now (e .args .order)) (now (e .args .book)) (now (e .args .lists))) (e .args .c) _ _ _ (c .before .before .before .before .before .before .before .before .form3 .given .1)
     (c .withdraw .ensures)
 
 same-length-4 : tie.Need-same-length-4
@@ -123,8 +123,8 @@ same-length-4 c = search needs
 returns-6 : tie.Need-returns-6
 unfolding siteReply
 returns-6 c =
-    let e = c .before .before .before .before .before .before .before .before .before .before .before .before in
-    formed (e .args .site) (lent (now (e .args .log)) (now (e .args .queued)) (now (e .args .done)) (now (e .args .book)) (now (e .args .lists))) (e .args .c) _ _ _ (c .before .before .before .before .before .before .before .form4 .given .1)
+    let e = c .before .before .before .before .before .before .before .before .before .before .before .before .before in
+    formed (e .args .site) (lent (now (e .args .log)) (now (e .args .rows)) (now (e .args .order)) (now (e .args .book)) (now (e .args .lists))) (e .args .c) _ _ _ (c .before .before .before .before .before .before .before .before .form4 .given .1)
     (c .persistent .ensures)
 
 same-length-5 : tie.Need-same-length-5
@@ -133,8 +133,8 @@ same-length-5 c = search needs
 returns-7 : tie.Need-returns-7
 unfolding siteReply
 returns-7 c =
-    let e = c .before .before .before .before .before .before .before .before .before .before .before .before in
-    formed (e .args .site) (lent (now (e .args .log)) (now (e .args .queued)) (now (e .args .done)) (now (e .args .book)) (now (e .args .lists))) (e .args .c) _ _ _ (c .before .before .before .before .before .before .before .form5 .given .1)
+    let e = c .before .before .before .before .before .before .before .before .before .before .before .before .before in
+    formed (e .args .site) (lent (now (e .args .log)) (now (e .args .rows)) (now (e .args .order)) (now (e .args .book)) (now (e .args .lists))) (e .args .c) _ _ _ (c .before .before .before .before .before .before .before .before .form5 .given .1)
     (c .stable .ensures)
 
 same-length-6 : tie.Need-same-length-6
@@ -143,8 +143,8 @@ same-length-6 c = search needs
 returns-8 : tie.Need-returns-8
 unfolding siteReply
 returns-8 c =
-    let e = c .before .before .before .before .before .before .before .before .before .before .before in
-    formed (e .args .site) (lent (now (e .args .log)) (now (e .args .queued)) (now (e .args .done)) (now (e .args .book)) (now (e .args .lists))) (e .args .c) _ _ _ (c .before .before .before .before .before .before .form6 .given .1)
+    let e = c .before .before .before .before .before .before .before .before .before .before .before .before in
+    formed (e .args .site) (lent (now (e .args .log)) (now (e .args .rows)) (now (e .args .order)) (now (e .args .book)) (now (e .args .lists))) (e .args .c) _ _ _ (c .before .before .before .before .before .before .before .form6 .given .1)
     (c .show .ensures (now (e .args .lists)))
 
 same-length-7 : tie.Need-same-length-7
@@ -153,8 +153,8 @@ same-length-7 c = search needs
 returns-9 : tie.Need-returns-9
 unfolding siteReply
 returns-9 c =
-    let e = c .before .before .before .before .before .before .before .before .before .before .before in
-    formed (e .args .site) (lent (now (e .args .log)) (now (e .args .queued)) (now (e .args .done)) (now (e .args .book)) (now (e .args .lists))) (e .args .c) _ _ _ (c .before .before .before .before .before .before .form7 .given .1)
+    let e = c .before .before .before .before .before .before .before .before .before .before .before .before in
+    formed (e .args .site) (lent (now (e .args .log)) (now (e .args .rows)) (now (e .args .order)) (now (e .args .book)) (now (e .args .lists))) (e .args .c) _ _ _ (c .before .before .before .before .before .before .before .form7 .given .1)
     (c .cut .ensures (now (e .args .lists)))
 
 same-length-8 : tie.Need-same-length-8
@@ -164,7 +164,7 @@ returns-10 : tie.Need-returns-10
 unfolding siteReply
 returns-10 c =
     let e = c .before .before .before .before .before .before .before .before .before .before .before .before in
-    formed (e .args .site) (lent (now (e .args .log)) (now (e .args .queued)) (now (e .args .done)) (now (e .args .book)) (now (e .args .lists))) (e .args .c) _ _ _ (c .before .before .before .before .before .before .before .enum-told3 .given .1)
+    formed (e .args .site) (lent (now (e .args .log)) (now (e .args .rows)) (now (e .args .order)) (now (e .args .book)) (now (e .args .lists))) (e .args .c) _ _ _ (c .before .before .before .before .before .before .before .enum-told3 .given .1)
     (c .before .before .redo-did .ensures (now (e .args .lists)))
 
 same-length-9 : tie.Need-same-length-9
@@ -173,8 +173,8 @@ same-length-9 c = search needs
 returns-11 : tie.Need-returns-11
 unfolding siteReply
 returns-11 c =
-    let e = c .before .before .before .before .before .before .before .before .before .before .before in
-    formed (e .args .site) (lent (now (e .args .log)) (now (e .args .queued)) (now (e .args .done)) (now (e .args .book)) (now (e .args .lists))) (e .args .c) _ _ _ (c .before .before .before .before .before .before .enum-told4 .given .1)
+    let e = c .before .before .before .before .before .before .before .before .before .before .before .before in
+    formed (e .args .site) (lent (now (e .args .log)) (now (e .args .rows)) (now (e .args .order)) (now (e .args .book)) (now (e .args .lists))) (e .args .c) _ _ _ (c .before .before .before .before .before .before .before .enum-told4 .given .1)
     (c .end .ensures)
 
 pub call-spec : {M : Type 1} → statement M

@@ -12,7 +12,7 @@ use Rattle.stream.proofs.run.Tie as tie
 
 -- what is lent at first: the log buffer and tables of zeros
 abbrev blank : List ℕ → Lent
-blank log = lent log (replicate 1472 0) (replicate 640 0) (replicate 80 0) (replicate 68 0)
+blank log = lent log (replicate 1472 0) (replicate 64 0) (replicate 80 0) (replicate 68 0)
 
 start-requires : tie.Need-start-requires
 start-requires c κs = search needs

@@ -19,7 +19,7 @@ returns : tie.Need-returns
 returns c =
     let e = c .before .before .before .before .before .before in
     let w = c .before .before .before .with-bytes in
-    let m = lent (now (e .args .log)) (now (e .args .queued)) (now (e .args .done)) (now (e .args .book)) (now (e .args .lists)) in
+    let m = lent (now (e .args .log)) (now (e .args .rows)) (now (e .args .order)) (now (e .args .book)) (now (e .args .lists)) in
     λ line h. turns-over (e .args .session) m _ _ (e .pre .0) (over-is (w .result) _ (w .ensures line h) (c .before .if1 .taken)) (c .refuse .ensures)
 
 array-share-prefix-bytes : tie.Need-array-share-prefix-bytes
@@ -48,7 +48,7 @@ returns-2 : tie.Need-returns-2
 returns-2 c =
     let e = c .before .before .before .before .before .before .before .before .before .before .before .before .before .before in
     let w = c .before .before .before .before .before .before .before .before .before .before .before .with-bytes in
-    let m = lent (now (e .args .log)) (now (e .args .queued)) (now (e .args .done)) (now (e .args .book)) (now (e .args .lists)) in
+    let m = lent (now (e .args .log)) (now (e .args .rows)) (now (e .args .order)) (now (e .args .book)) (now (e .args .lists)) in
     let held = c .before .before .before .before .before .before .before .before .before .if1 .left in
     λ line h. turns-as (e .args .session) m _ _ _ _ (held-is (w .result) _ (w .ensures line h) held) (c .before .before .turn .ensures)
 

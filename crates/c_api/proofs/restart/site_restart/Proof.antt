@@ -1,4 +1,4 @@
--- The contract of restart holds for whatever stands in the book's numbers, so zeros serve; its reply is then written as text.
+-- The contract of restart holds for whatever stands in the order and in the book's numbers, so zeros serve; its reply is then written as text.
 use denote.Ref.{now}
 use Prim.Native.Nat.{ℕ}
 use mathlib.Core.List.{List, []}
@@ -12,7 +12,13 @@ use Rattle.c_api.specs.RestartLaws.{puts-reply}
 use Rattle.c_api.proofs.restart.site_restart.Statement.{statement}
 use Rattle.c_api.proofs.restart.site_restart.Tie as tie
 
--- the words of the histories before the restart
+-- the rows, the order and the words of the histories before the restart
+abbrev rs : List ℕ
+rs = replicate 1472 0
+
+abbrev os : List ℕ
+os = replicate 64 0
+
 abbrev bs : List ℕ
 bs = replicate 80 0
 
@@ -36,12 +42,12 @@ same-length c = search needs
 
 returns : tie.Need-returns
 returns c =
-    let e = c .before .before .before .before .before .before .before .before .before .before .before .before in
+    let e = c .before .before .before .before .before .before .before .before .before .before .before .before .before .before in
     let bytes = now (e .args .log) in
     let r = c .before .before .before .before .before .before .before .before .restart in
     let w = c .before .before .before .write-reply in
-    puts-reply blankSite (lent bytes [] [] bs []) (restart bytes (e .args .k)) (r .result) bytes (r .last .1 .0) (now (e .args .out)) (w .last .0)
-    (w .result) (c .code .result) (r .ensures [] [] []) (w .ensures .0) (c .code .ensures)
+    puts-reply blankSite (lent bytes rs os bs []) (restart bytes (e .args .k)) (r .result) bytes rs (r .last .1 .1 .0) (r .last .1 .1 .1 .0)
+    (now (e .args .out)) (w .last .0) (w .result) (c .code .result) (r .ensures []) (w .ensures .0) (c .code .ensures)
 
 pub site-restart-spec : {M : Type 1} → statement M
 site-restart-spec =

@@ -7,26 +7,26 @@ use Rattle.c_api.proofs.rounds.mark.Statement.{statement}
 use Rattle.c_api.proofs.rounds.mark.Tie as tie
 
 persistent-requires : tie.Need-persistent-requires
-persistent-requires c κs = c .before .before .before .before .pre
+persistent-requires c κs = c .before .before .before .before .before .pre
 
 stable-requires : tie.Need-stable-requires
 stable-requires c κs =
-    let e = c .before .before .before .before .before .before .before .before .before in
-    let m = lent (now (e .args .log)) (now (e .args .queued)) (now (e .args .done)) (now (e .args .book)) (now (e .args .lists)) in
-    let p = c .before .before .before .before .persistent in
-    let mid = lent (now (e .args .log)) (now (e .args .queued)) (now (e .args .done)) (p .last .1 .1 .1 .1 .0) (p .last .1 .1 .1 .1 .1 .0) in
+    let e = c .before .before .before .before .before .before .before .before .before .before .before in
+    let m = lent (now (e .args .log)) (now (e .args .rows)) (now (e .args .order)) (now (e .args .book)) (now (e .args .lists)) in
+    let p = c .before .before .before .before .before .persistent in
+    let mid = lent (now (e .args .log)) (now (e .args .rows)) (now (e .args .order)) (p .last .1 .1 .1 .1 .0) (p .last .1 .1 .1 .1 .1 .0) in
     let valid = call-reaches (e .args .site) m (Call.Persistent (e .args .n)) (p .result) mid (e .pre) (p .ensures) .valid in
     valid
 
 returns : tie.Need-returns
 returns c =
-    let e = c .before .before .before .before .before .before .before .before .before .before .before in
-    let m = lent (now (e .args .log)) (now (e .args .queued)) (now (e .args .done)) (now (e .args .book)) (now (e .args .lists)) in
-    let p = c .before .before .before .before .before .before .persistent in
-    let mid = lent (now (e .args .log)) (now (e .args .queued)) (now (e .args .done)) (p .last .1 .1 .1 .1 .0) (p .last .1 .1 .1 .1 .1 .0) in
+    let e = c .before .before .before .before .before .before .before .before .before .before .before .before .before in
+    let m = lent (now (e .args .log)) (now (e .args .rows)) (now (e .args .order)) (now (e .args .book)) (now (e .args .lists)) in
+    let p = c .before .before .before .before .before .before .before .persistent in
+    let mid = lent (now (e .args .log)) (now (e .args .rows)) (now (e .args .order)) (p .last .1 .1 .1 .1 .0) (p .last .1 .1 .1 .1 .1 .0) in
     let s = c .before .stable in
     two-reach (e .args .site) m (Call.Persistent (e .args .n)) (p .result) mid (Call.Stable (e .args .n)) (s .result)
-    (lent (now (e .args .log)) (now (e .args .queued)) (s .last .1 .1 .1 .0) (s .last .1 .1 .1 .1 .0) (s .last .1 .1 .1 .1 .1 .0)) (e .pre) (p .ensures) (s .ensures)
+    (lent (now (e .args .log)) (now (e .args .rows)) (s .last .1 .1 .1 .0) (s .last .1 .1 .1 .1 .0) (s .last .1 .1 .1 .1 .1 .0)) (e .pre) (p .ensures) (s .ensures)
 
 pub mark-spec : {M : Type 1} → statement M
 mark-spec = tie.close (tie.spec persistent-requires stable-requires returns)

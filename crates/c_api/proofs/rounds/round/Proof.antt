@@ -24,7 +24,7 @@ returns : tie.Need-returns
 returns c =
     let e = c .before .before .before .before .before .before .before .before .before .before .before .before .before .before .before .before in
     let o = c .before .before .before .before .before .before .before .before .before .one-operation in
-    let m = lent (now (e .args .log)) (now (e .args .queued)) (now (e .args .done)) (now (e .args .book)) (now (e .args .lists)) in
+    let m = lent (now (e .args .log)) (now (e .args .rows)) (now (e .args .order)) (now (e .args .book)) (now (e .args .lists)) in
     let mid = lent (o .last .1 .0) (o .last .1 .1 .0) (o .last .1 .1 .1 .0) (o .last .1 .1 .1 .1 .0) (o .last .1 .1 .1 .1 .1 .0) in
     let new = lent (o .last .1 .0) (o .last .1 .1 .0) (c .mark .last .1 .1 .1 .0) (c .mark .last .1 .1 .1 .1 .0) (c .mark .last .1 .1 .1 .1 .1 .0) in
     marked-reach (e .args .site) m (e .args .id) (o .result) mid (c .mark .result) new _
@@ -37,7 +37,7 @@ returns-2 : tie.Need-returns-2
 returns-2 c =
     let e = c .before .before .before .before .before .before .before .before .before .before in
     let o = c .before .before .before .one-operation in
-    let m = lent (now (e .args .log)) (now (e .args .queued)) (now (e .args .done)) (now (e .args .book)) (now (e .args .lists)) in
+    let m = lent (now (e .args .log)) (now (e .args .rows)) (now (e .args .order)) (now (e .args .book)) (now (e .args .lists)) in
     unmarked-reach (e .args .site) m (e .args .id) (o .result)
     (lent (o .last .1 .0) (o .last .1 .1 .0) (o .last .1 .1 .1 .0) (o .last .1 .1 .1 .1 .0) (o .last .1 .1 .1 .1 .1 .0)) _ (ne-eqb (e .args .id % 32) 31 (c .if1 .left)) (o .ensures)
 

@@ -21,7 +21,7 @@ returns : tie.Need-returns
 returns c =
     let t = c .before .before .before .before .before .before .before .before .before .before in
     let e = t .before .before .before .before .before .before .before .before .before in
-    answers-turn (e .args .self) (lent (now (e .args .log)) (now (e .args .queued)) (now (e .args .done)) (now (e .args .book)) (now (e .args .lists))) _ (t .turn .result) _ _ (now (e .args .out)) _
+    answers-turn (e .args .self) (lent (now (e .args .log)) (now (e .args .rows)) (now (e .args .order)) (now (e .args .book)) (now (e .args .lists))) _ (t .turn .result) _ _ (now (e .args .out)) _
     (t .turn .ensures) (c .before .before .write-turn .ensures .text)
 
 pub answer-spec : {M : Type 1} → statement M

@@ -45,7 +45,7 @@ same-length c = search needs
 returns : tie.Need-returns
 returns c =
     let e = c .before .before .before .before .before .before .before .before .before .before .before .before in
-    form-called (e .args .self) (lent (now (e .args .log)) (now (e .args .queued)) (now (e .args .done)) (now (e .args .book)) (now (e .args .lists))) (e .args .c) _ _ _
+    form-called (e .args .self) (lent (now (e .args .log)) (now (e .args .rows)) (now (e .args .order)) (now (e .args .book)) (now (e .args .lists))) (e .args .c) _ _ _
     (c .before .before .before .before .before .before .before .before .before .before .if1 .taken) (e .pre) (c .before .before .before .call .ensures) (c .called .ensures)
 
 enum-told : tie.Need-enum-told
@@ -58,7 +58,7 @@ enum-known-form : tie.Need-enum-known-form
 enum-known-form c = search needs
 
 open-site-requires : tie.Need-open-site-requires
-open-site-requires c κs = c .before .before .before .before .before .if1 .left
+open-site-requires c κs = c .before .before .before .before .before .before .before .if1 .left
 
 refuse-requires-2 : tie.Need-refuse-requires-2
 refuse-requires-2 c κs = search needs
@@ -67,7 +67,7 @@ returns-2 : tie.Need-returns-2
 unfolding closedReply
 returns-2 c =
     let e = c .before .before .before .before .before in
-    form-refused (e .args .self) (lent (now (e .args .log)) (now (e .args .queued)) (now (e .args .done)) (now (e .args .book)) (now (e .args .lists))) (e .args .c) _ Unreadable _
+    form-refused (e .args .self) (lent (now (e .args .log)) (now (e .args .rows)) (now (e .args .order)) (now (e .args .book)) (now (e .args .lists))) (e .args .c) _ Unreadable _
     (c .before .before .before .if1 .left) (c .before .enum-told .given .1) refl (e .pre) (c .refuse .ensures)
 
 same-length-2 : tie.Need-same-length-2
@@ -75,15 +75,15 @@ same-length-2 c = search needs
 
 returns-3 : tie.Need-returns-3
 returns-3 c =
-    let e = c .before .before .before .before .before .before .before .before .before .before in
-    form-opens (e .args .self) (lent (now (e .args .log)) (now (e .args .queued)) (now (e .args .done)) (now (e .args .book)) (now (e .args .lists))) (e .args .c) _ _ _
-    (c .before .before .before .before .before .before .before .before .if1 .left) (c .before .before .before .before .before .before .form .given .1)
-    (c .before .before .open-site .ensures (now (e .args .queued)) (now (e .args .done)) (now (e .args .lists)))
+    let e = c .before .before .before .before .before .before .before .before .before .before .before .before in
+    form-opens (e .args .self) (lent (now (e .args .log)) (now (e .args .rows)) (now (e .args .order)) (now (e .args .book)) (now (e .args .lists))) (e .args .c) _ _ _
+    (c .before .before .before .before .before .before .before .before .before .before .if1 .left) (c .before .before .before .before .before .before .before .before .form .given .1)
+    (c .before .before .open-site .ensures (now (e .args .lists)))
 
 returns-4 : tie.Need-returns-4
 returns-4 c =
     let e = c .before .before .before .before in
-    form-refused (e .args .self) (lent (now (e .args .log)) (now (e .args .queued)) (now (e .args .done)) (now (e .args .book)) (now (e .args .lists))) (e .args .c) (e .args .c .form) OutOfTurn _
+    form-refused (e .args .self) (lent (now (e .args .log)) (now (e .args .rows)) (now (e .args .order)) (now (e .args .book)) (now (e .args .lists))) (e .args .c) (e .args .c .form) OutOfTurn _
     (c .before .before .if1 .left) refl (no-site (length (now (e .args .log))) (e .args .c .form) (c .before .match .keys3))
     (e .pre) (c .refuse2 .ensures)
 

@@ -17,19 +17,19 @@ same-length : tie.Need-same-length
 same-length c = search needs
 
 returns : tie.Need-returns
-returns c = λ qs ds ns.
+returns c = λ ns.
     let o = c .before .before .before .before .before .before in
-    let e = o .before .before .before .before in
-    opens-not (e .args .self) (lent (now (e .args .log)) qs ds (now (e .args .book)) ns) _ _ _ (e .pre) (o .«open» .ensures qs ds ns) (c .if1 .taken)
+    let e = c .before .before .before .before .before .before .before .before .before .before .before in
+    opens-not (e .args .self) (lent (now (e .args .log)) (now (e .args .rows)) (now (e .args .order)) (now (e .args .book)) ns) _ _ _ (e .pre) (o .«open» .ensures ns) (c .if1 .taken)
 
 same-length-2 : tie.Need-same-length-2
 same-length-2 c = search needs
 
 returns-2 : tie.Need-returns-2
-returns-2 c = λ qs ds ns.
+returns-2 c = λ ns.
     let o = c .before .before .before .before .before .before .before in
-    let e = o .before .before .before .before in
-    opens (e .args .self) (lent (now (e .args .log)) qs ds (now (e .args .book)) ns) _ _ _ _ (o .«open» .ensures qs ds ns) (omega (arith, c .before .if1 .left)) (c .called .ensures)
+    let e = c .before .before .before .before .before .before .before .before .before .before .before .before in
+    opens (e .args .self) (lent (now (e .args .log)) (now (e .args .rows)) (now (e .args .order)) (now (e .args .book)) ns) _ _ _ _ (o .«open» .ensures ns) (omega (arith, c .before .if1 .left)) (c .called .ensures)
 
 pub open-site-spec : {M : Type 1} → statement M
 open-site-spec =

@@ -18,7 +18,7 @@ returns : tie.Need-returns
 returns c =
     let e = c .before .before .before .before .before .before .before .before .before .before .before in
     turns-by (now (e .args .line)) _ (c .before .before .before .before .before .before .before .before .read-command .ensures)
-    (e .args .self) (lent (now (e .args .log)) (now (e .args .queued)) (now (e .args .done)) (now (e .args .book)) (now (e .args .lists))) _ _ (c .before .before .obey .ensures)
+    (e .args .self) (lent (now (e .args .log)) (now (e .args .rows)) (now (e .args .order)) (now (e .args .book)) (now (e .args .lists))) _ _ (c .before .before .obey .ensures)
 
 pub turn-spec : {M : Type 1} → statement M
 turn-spec = tie.close (tie.spec read-command-requires obey-requires same-length returns)

@@ -13,12 +13,12 @@ use Rattle.stream.proofs.Stream.feed.Statement.{statement}
 use Rattle.stream.proofs.Stream.feed.Tie as tie
 
 abbrev Inv-loop : tie.InvT-loop
-Inv-loop log₀ queued₀ done₀ book₀ lists₀ chunk out₀ session₀ begun₀ at₀ n₀ log queued done book lists out session begun at n =
-    Along (record { session = session₀; begun = begun₀ }) (lent log₀ queued₀ done₀ book₀ lists₀) chunk
-    (record { stream = record { session = session; begun = begun }; used = at; written = n }) (lent log queued done book lists) out₀ out
+Inv-loop log₀ rows₀ order₀ book₀ lists₀ chunk out₀ session₀ begun₀ at₀ n₀ log rows order book lists out session begun at n =
+    Along (record { session = session₀; begun = begun₀ }) (lent log₀ rows₀ order₀ book₀ lists₀) chunk
+    (record { stream = record { session = session; begun = begun }; used = at; written = n }) (lent log rows order book lists) out₀ out
 
 abbrev μ-loop : tie.MeasureT-loop
-μ-loop log₀ queued₀ done₀ book₀ lists₀ chunk out₀ session₀ begun₀ at₀ n₀ log queued done book lists out session begun at n = length chunk - at
+μ-loop log₀ rows₀ order₀ book₀ lists₀ chunk out₀ session₀ begun₀ at₀ n₀ log rows order book lists out session begun at n = length chunk - at
 
 -- the line end that was found
 ended : (c : tie.After-known-told Inv-loop μ-loop) →
@@ -29,7 +29,7 @@ ended c = rw (c .before .e .given .1) at (c .before .before .before .find-end .e
 loop-holds : tie.Need-loop-holds Inv-loop μ-loop
 loop-holds c =
     let a = c .before .before .before .before .before .args in
-    let m = lent (now (a .log)) (now (a .queued)) (now (a .done)) (now (a .book)) (now (a .lists)) in
+    let m = lent (now (a .log)) (now (a .rows)) (now (a .order)) (now (a .book)) (now (a .lists)) in
     along-start (a .self) m (now (a .chunk)) (now (a .out)) (c .before .before .before .before .before .pre)
 
 find-end-requires : tie.Need-find-end-requires Inv-loop μ-loop
