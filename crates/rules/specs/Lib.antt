@@ -32,5 +32,7 @@ pub mod RecordMasks
 pub mod When
 pub mod WhenLaws
 pub mod LiveLaws
+pub mod Poll
+pub mod PollLaws
 pub mod RuleTable
 pub mod OlderLogs

@@ -1,0 +1,218 @@
+-- The number of a history's future, in-progress and volatile updates: 0 exactly if the history is dry, and what each call makes of it.
+use mathlib.Core.Path.{_≡_, refl, sym, ap, ap₂, subst, _∙_}
+use mathlib.Core.Bool.{Bool, true, false, cond, not, _&&_, _||_}
+use mathlib.Core.List.{List, [], _∷_, _++_, map, map-append}
+use mathlib.Core.List.{List·Memᴰ as Mem, List·Memᴰ·head as here, List·Memᴰ·tail as there, Memᴰ·map, Memᴰ·append-left, Memᴰ·append-right}
+use Prim.Native.Nat.{ℕ, zero, suc, _+_, _≤_}
+use native.Mathlib.Omega.{arith}
+use borrow.Author.Tests.{ne-eqb}
+use lib.Dec.{T, leb, eqb, eqb-refl, eqb→eq}
+use lib.ListN.{length, take, drop, length-drop, take-append-drop}
+use lib.Seq.{drop-append-le}
+use Rattle.forms.specs.Lists.{any, keep, sum}
+use Rattle.forms.specs.ListLaws.{Nodup, nodup-right, nodup-mid, mem-split, mem-along, sum-append, sum-mid, keep-append, keep-all, T-true, true-T}
+use Rattle.forms.specs.Forms.{Update, Change, Did}
+use Rattle.forms.specs.declared.Refusal.the-variants.{NoSuchHistory}
+use Rattle.rules.specs.Book.{touches}
+use Rattle.rules.specs.State.{Operation, State, asks, dry, live, liveDone, liveLimit, withPending, withLog, withWaiting, withMarks}
+use Rattle.rules.specs.Calls.{attempt, tryAll, arrived, changeOf, lineOf, without, restarted}
+use Rattle.rules.specs.Good.{Good, operationIds, didIds}
+use Rattle.rules.specs.CheckLaws.{FormedUpdates, FormedChanges, formed-updates, formed-changes}
+use Rattle.rules.specs.PendingLaws.{try-same}
+use Rattle.rules.specs.Poll.{tell, asksIn, changesIn, busy, Polled, PollRefused, PollDry, PollBusy, poll}
+
+-- ### None of them, and a number that is 0
+
+-- a sum is 0 exactly if both parts are
+both-zero : (a b : ℕ) → (eqb a 0 && eqb b 0) ≡ eqb (a + b) 0
+both-zero zero b = let z : b ≡ 0 + b = omega arith in ap (λ (n : ℕ). eqb n 0) z
+both-zero (suc a) b =
+    ap (λ (t : Bool). t && eqb b 0) (ne-eqb (suc a) 0 (λ e. omega (arith, e)))
+    ∙ sym (ne-eqb (suc a + b) 0 (λ e. omega (arith, e)))
+
+not-or : (a b : Bool) → not (a || b) ≡ (not a && not b)
+not-or true b = refl
+not-or false b = refl
+
+-- No element passes a test exactly if the numbers that say so add up to 0.
+none-sum : {A : Type 0} (p : A → Bool) (n : A → ℕ) → ((x : A) → not (p x) ≡ eqb (n x) 0) → (l : List A) → not (any p l) ≡ eqb (sum n l) 0
+none-sum p n is [] = refl
+none-sum p n is (x ∷ l) =
+    not-or (p x) (any p l)
+    ∙ ap₂ (λ (a b : Bool). a && b) (is x) (none-sum p n is l)
+    ∙ both-zero (n x) (sum n l)
+
+tells : (b : Bool) → not b ≡ eqb (tell b) 0
+tells true = refl
+tells false = refl
+
+-- "dry: no future, in-progress or volatile update", by the number
+pub dry-is : (st : State) (h : ℕ) → dry st h ≡ eqb (busy st h) 0
+unfolding dry busy asks touches asksIn changesIn
+dry-is st h =
+    ap₂ (λ (a b : Bool). a && b)
+    (none-sum (asks h) (asksIn h) (λ x. none-sum (λ (u : Update). eqb (u .history) h) (λ u. tell (eqb (u .history) h)) (λ u. tells (eqb (u .history) h)) (x .updates)) (st .pending))
+    (none-sum (touches h) (changesIn h) (λ d. none-sum (λ (x : Change). eqb (x .history) h) (λ x. tell (eqb (x .history) h)) (λ x. tells (eqb (x .history) h)) (d .changes)) (drop (st .persistentTo) (st .log)))
+    ∙ both-zero (sum (asksIn h) (st .pending)) (sum (changesIn h) (drop (st .persistentTo) (st .log)))
+
+-- The poll by the number alone.
+pub poll-is : (h : ℕ) (st : State) → poll h st ≡ cond (leb (st .histories) h) (PollRefused NoSuchHistory) (cond (eqb (busy st h) 0) PollDry PollBusy)
+unfolding poll
+poll-is h st = ap (λ (b : Bool). cond (leb (st .histories) h) (PollRefused NoSuchHistory) (cond b PollDry PollBusy)) (dry-is st h)
+
+-- ### What each call makes of the number
+
+sum-map : {A : Type 0} (f : A → ℕ) (l : List A) → sum (λ (n : ℕ). n) (map f l) ≡ sum f l
+sum-map f [] = refl
+sum-map f (x ∷ l) = ap (λ (n : ℕ). f x + n) (sum-map f l)
+
+-- Tries change no update.
+pub asks-tried : (h : ℕ) (log : List Did) (xs : List Operation) → sum (asksIn h) (tryAll log xs) ≡ sum (asksIn h) xs
+unfolding asksIn attempt
+asks-tried h log xs =
+    sym (sum-map (asksIn h) (tryAll log xs))
+    ∙ ap (sum (λ (n : ℕ). n)) (try-same (asksIn h) log (λ others x. refl) xs)
+    ∙ sum-map (asksIn h) xs
+
+-- A line has an update in the histories of its operation.
+pub line-asks : (h : ℕ) (log : List Did) (x : Operation) → changesIn h (lineOf log x) ≡ asksIn h x
+unfolding changesIn asksIn lineOf changeOf
+line-asks h log x = go (x .updates)
+  where
+    go : (us : List Update) → sum (λ (y : Change). tell (eqb (y .history) h)) (map (changeOf log) us) ≡ sum (λ (u : Update). tell (eqb (u .history) h)) us
+    go [] = refl
+    go (u ∷ us) = ap (λ (n : ℕ). tell (eqb (u .history) h) + n) (go us)
+
+-- An operation added: its updates more.
+pub busy-added : (i : ℕ) (us : List Update) (st : State) (h : ℕ) →
+    busy (withPending (tryAll (st .log) (arrived i us st)) st) h ≡ busy st h + asksIn h (record { id = i; updates = us; running = false })
+unfolding busy arrived
+busy-added i us st h =
+    let x : Operation = record { id = i; updates = us; running = false } in
+    omega (arith, asks-tried h (st .log) (st .pending ++ (x ∷ [])), sum-append (asksIn h) (st .pending) (x ∷ []))
+
+-- Without the one of distinct ids: the others, as they stood.
+pub without-mid : (a : List Operation) (x : Operation) (b : List Operation) → Nodup (operationIds (a ++ x ∷ b)) → without (x .id) (a ++ x ∷ b) ≡ a ++ b
+unfolding without
+without-mid a x b once =
+    keep-append other a (x ∷ b)
+    ∙ ap₂ (λ (k l : List Operation). k ++ l) (keep-all other a (λ y m. away y (Memᴰ·append-left b m)))
+    (rw (T-true (eqb (x .id) (x .id)) (eqb-refl (x .id))) (keep-all other b (λ y m. away y (Memᴰ·append-right a m))))
+  where
+    other : Operation → Bool
+    other y = not (eqb (y .id) (x .id))
+
+    ids : Operation → ℕ
+    ids y = y .id
+
+    apart : Mem (x .id) (operationIds (a ++ b)) → ⊥
+    apart m =
+        nodup-mid (operationIds a) (x .id) (operationIds b) (subst Nodup (map-append ids a (x ∷ b)) once) .0
+        (mem-along (map-append ids a b) m)
+
+    away : (y : Operation) → Mem y (a ++ b) → T (other y)
+    away y m = rw (ne-eqb (y .id) (x .id) (λ e. apart (subst (λ (n : ℕ). Mem n (operationIds (a ++ b))) e (Memᴰ·map ids m)))) tt
+
+-- One of distinct ids taken out: its updates fewer.
+pub asks-without : (h : ℕ) (x : Operation) (xs : List Operation) → Nodup (operationIds xs) → Mem x xs →
+    sum (asksIn h) (without (x .id) xs) + asksIn h x ≡ sum (asksIn h) xs
+asks-without h x xs once m = go (mem-split m)
+  where
+    go : (a : List Operation) × (b : List Operation) × (xs ≡ a ++ x ∷ b) → sum (asksIn h) (without (x .id) xs) + asksIn h x ≡ sum (asksIn h) xs
+    go (a, b, e) =
+        let w : without (x .id) xs ≡ a ++ b = ap (without (x .id)) e ∙ without-mid a x b (subst (λ (l : List Operation). Nodup (operationIds l)) e once) in
+        omega (arith, ap (sum (asksIn h)) w, ap (sum (asksIn h)) e, sum-mid (asksIn h) a x b)
+
+-- the ids of pending operations are distinct
+pub pending-once : (st : State) → Good st → Nodup (operationIds (st .pending))
+pending-once st G =
+    nodup-right (didIds (st .waiting)) (operationIds (st .pending))
+    (nodup-right (didIds (liveDone st)) (didIds (st .waiting) ++ operationIds (st .pending)) (G .ids))
+
+-- An operation withdrawn: its updates fewer.
+pub busy-withdrawn : (st : State) (x : Operation) (h : ℕ) → Good st → Mem x (st .pending) →
+    busy (withPending (without (x .id) (st .pending)) st) h + asksIn h x ≡ busy st h
+unfolding busy
+busy-withdrawn st x h G m = omega (arith, asks-without h x (st .pending) (pending-once st G) m)
+
+-- What is done is volatile: lines behind the log add their updates.
+volatile-more : (h p : ℕ) (log more : List Did) → p ≤ length log →
+    sum (changesIn h) (drop p (log ++ more)) ≡ sum (changesIn h) (drop p log) + sum (changesIn h) more
+volatile-more h p log more le = ap (sum (changesIn h)) (drop-append-le p log more le) ∙ sum-append (changesIn h) (drop p log) more
+
+-- "Finish changes no number": the updates that were in progress are volatile.
+pub busy-finished : (st : State) (x : Operation) (h : ℕ) → Good st → Mem x (st .pending) →
+    (let log = st .log ++ (lineOf (st .log) x ∷ []) in
+    busy (withLog log (withPending (tryAll log (without (x .id) (st .pending))) st)) h ≡ busy st h)
+unfolding busy
+busy-finished st x h G m =
+    let log = st .log ++ (lineOf (st .log) x ∷ []) in
+    omega (arith, asks-tried h log (without (x .id) (st .pending)), asks-without h x (st .pending) (pending-once st G) m,
+    volatile-more h (st .persistentTo) (st .log) (lineOf (st .log) x ∷ []) (G .persistentBelow), line-asks h (st .log) x)
+
+-- A redo: the updates of the lines that ran more; lines that wait do not count.
+pub busy-redone : (st : State) (more waiting : List Did) (h : ℕ) → Good st →
+    busy (withLog (st .log ++ more) (withWaiting waiting st)) h ≡ busy st h + sum (changesIn h) more
+unfolding busy
+busy-redone st more waiting h G = omega (arith, volatile-more h (st .persistentTo) (st .log) more (G .persistentBelow))
+
+drop-take : {A : Type 0} (p q : ℕ) (l : List A) → p ≤ q → drop p l ≡ drop p (take q l) ++ drop q l
+drop-take zero q l le = sym (take-append-drop q l)
+drop-take (suc p) zero l le = absurd (omega arith)
+drop-take (suc p) (suc q) [] le = refl
+drop-take (suc p) (suc q) (x ∷ l) le = drop-take p q l (omega arith)
+
+-- Persistent: the updates of the lines that are volatile no longer fewer.
+pub busy-persistent : (st : State) (q s h : ℕ) → st .persistentTo ≤ q →
+    busy (withMarks q s st) h + sum (changesIn h) (drop (st .persistentTo) (take q (st .log))) ≡ busy st h
+unfolding busy
+busy-persistent st q s h le =
+    let p = st .persistentTo in
+    omega (arith, ap (sum (changesIn h)) (drop-take p q (st .log) le), sum-append (changesIn h) (drop p (take q (st .log))) (drop q (st .log)))
+
+drop-all : {A : Type 0} (l : List A) → drop (length l) l ≡ []
+drop-all [] = refl
+drop-all (x ∷ l) = drop-all l
+
+-- "After restart all are 0."
+pub busy-restarted : (room n : ℕ) (log : List Did) (h : ℕ) → busy (restarted room n log) h ≡ 0
+unfolding busy restarted
+busy-restarted room n log h = omega (arith, ap (sum (changesIn h)) (drop-all log))
+
+-- ### How large it can be
+
+-- A history that no other has counts at most once.
+once-few : {A : Type 0} (f : A → ℕ) (h : ℕ) (l : List A) → Nodup (map f l) → sum (λ (x : A). tell (eqb (f x) h)) l ≤ 1
+once-few f h [] once = omega arith
+once-few f h (x ∷ l) once = go (eqb (f x) h) refl (once-few f h l (once .1))
+  where
+    rest : eqb (f x) h ≡ true → sum (λ y. tell (eqb (f y) h)) l ≡ 0
+    rest e = none l (λ m. once .0 (subst (λ (k : ℕ). Mem k (map f l)) (sym (eqb→eq (f x) h (true-T (eqb (f x) h) e))) m))
+      where
+        none : (k : List _) → (Mem h (map f k) → ⊥) → sum (λ y. tell (eqb (f y) h)) k ≡ 0
+        none [] out = refl
+        none (y ∷ k) out = omega (arith, ap tell (ne-eqb (f y) h (λ e. out (here (sym e)))), none k (λ m. out (there m)))
+
+    go : (b : Bool) → eqb (f x) h ≡ b → sum (λ y. tell (eqb (f y) h)) l ≤ 1 → tell b + sum (λ y. tell (eqb (f y) h)) l ≤ 1
+    go true e below = omega (arith, rest e)
+    go false e below = omega (arith, below)
+
+-- "each at most 64"
+pub busy-few : (st : State) (h : ℕ) → Good st → busy st h ≤ liveLimit
+unfolding busy asksIn changesIn live liveDone
+busy-few st h G =
+    omega (arith, G .few, G .stableBelow, few (asksIn h) (st .pending) asked, few (changesIn h) (drop (st .persistentTo) (st .log)) changed,
+    length-drop (st .persistentTo) (st .log), length-drop (st .stableTo) (st .log))
+  where
+    few : {A : Type 0} (n : A → ℕ) (l : List A) → ((x : A) → Mem x l → n x ≤ 1) → sum n l ≤ length l
+    few n [] one = omega arith
+    few n (x ∷ l) one = let a = one x (here refl) in let b = few n l (λ y m. one y (there m)) in omega arith
+
+    asked : (x : Operation) → Mem x (st .pending) → asksIn h x ≤ 1
+    asked x m = once-few (λ (u : Update). u .history) h (x .updates) (formed-updates (st .histories) (x .updates) (G .pendingFormed x m .passes) .once)
+
+    changed : (d : Did) → Mem d (drop (st .persistentTo) (st .log)) → changesIn h d ≤ 1
+    changed d m =
+        once-few (λ (x : Change). x .history) h (d .changes)
+        (formed-changes (st .histories) (d .changes)
+        (G .formed d (mem-along (take-append-drop (st .persistentTo) (st .log)) (Memᴰ·append-right (take (st .persistentTo) (st .log)) m)) .passes) .once)
