@@ -9,7 +9,7 @@ use borrow.Author.Tests.{ne-eqb}
 use lib.Dec.{T, leb, eqb, eqb-refl, eqb→eq}
 use lib.ListN.{length, take, drop, length-drop, take-append-drop}
 use lib.Seq.{drop-append-le}
-use Rattle.forms.specs.Lists.{any, keep, sum}
+use Rattle.forms.specs.Lists.{any, sum}
 use Rattle.forms.specs.ListLaws.{Nodup, nodup-right, nodup-mid, mem-split, mem-along, sum-append, sum-mid, keep-append, keep-all, T-true, true-T}
 use Rattle.forms.specs.Forms.{Update, Change, Did}
 use Rattle.forms.specs.declared.Refusal.the-variants.{NoSuchHistory}
@@ -17,9 +17,9 @@ use Rattle.rules.specs.Book.{touches}
 use Rattle.rules.specs.State.{Operation, State, asks, dry, live, liveDone, liveLimit, withPending, withLog, withWaiting, withMarks}
 use Rattle.rules.specs.Calls.{attempt, tryAll, arrived, changeOf, lineOf, without, restarted}
 use Rattle.rules.specs.Good.{Good, operationIds, didIds}
-use Rattle.rules.specs.CheckLaws.{FormedUpdates, FormedChanges, formed-updates, formed-changes}
+use Rattle.rules.specs.CheckLaws.{formed-updates, formed-changes}
 use Rattle.rules.specs.PendingLaws.{try-same}
-use Rattle.rules.specs.Poll.{tell, asksIn, changesIn, busy, Polled, PollRefused, PollDry, PollBusy, poll}
+use Rattle.rules.specs.Poll.{tell, asksIn, changesIn, busy, PollRefused, PollDry, PollBusy, poll}
 
 -- ### None of them, and a number that is 0
 
