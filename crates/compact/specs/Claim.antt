@@ -7,7 +7,8 @@ use Prim.Native.Nat.{ℕ}
 use lib.Dec.{T, eqb}
 use Rattle.forms.specs.Lists.{all}
 use Rattle.forms.specs.Forms.{Did}
-use Rattle.rules.specs.State.{State, logLimit}
+use Rattle.forms.specs.Limits.{logLimit}
+use Rattle.rules.specs.State.{State}
 use Rattle.rules.specs.Calls.{opened, Call}
 use Rattle.recovery.specs.Claim.{Start, lostBy, Recovered}
 use Rattle.recovery.specs.Arrival.{every, SameWork, AllThree}

@@ -11,7 +11,8 @@ use native.Mathlib.Nat.{not-suc-le-zero, le-of-suc-le-suc}
 use lib.Dec.{T, leb→le, ltb→lt}
 use lib.ListN.{length}
 use Rattle.forms.specs.Lists.{sum}
-use Rattle.rules.specs.State.{State, liveLimit}
+use Rattle.forms.specs.Limits.{liveLimit}
+use Rattle.rules.specs.State.{State}
 use Rattle.rules.specs.Good.{Good}
 use Rattle.rules.specs.CheckLaws.{not-lt, not-le}
 use Rattle.compact.specs.Module.{slotLimit, entryLimit, least, Slot, unopened, Module, slotAt, withSlot, others, restoringIn, liveOf, lacks, free, taken, uncovered, made}

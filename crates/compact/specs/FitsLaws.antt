@@ -15,7 +15,8 @@ use Rattle.forms.specs.Refusals.{numberOf}
 use Rattle.forms.specs.declared.Refusal.the-variants.{AboveLimit, OutOfTurn, TableFull}
 use Rattle.rules.specs.Checks.{check}
 use Rattle.rules.specs.Log.{readLog}
-use Rattle.rules.specs.State.{State, Reply, refused, ok, liveLimit, live, settle}
+use Rattle.forms.specs.Limits.{liveLimit}
+use Rattle.rules.specs.State.{State, Reply, refused, ok, live, settle}
 use Rattle.rules.specs.Calls.{unless, tableFull, restart, Call, Add, Finish, Withdraw, Persistent, Stable, Show, Cut, Redo, End, step}
 use Rattle.rules.specs.When.{lastly, stepWhen, meets}
 use Rattle.rules.specs.WhenLaws.{when-ok, ten-why, ten-met, lastly-ten, lastly-ok, lastly-why, restart-not-ten, unless-over, unless-not-ten, check-not-ten, none-not-ten, isTenth, differs, refused-same}

@@ -12,7 +12,8 @@ use Rattle.forms.specs.Forms.{Command, Did, Answer, Shown, Ended, didText, comm
 use Rattle.forms.specs.Reading.{readCommand}
 use Rattle.rules.specs.Book.{Cell, cell}
 use Rattle.rules.specs.Log.{ended, linesOf, restOf, historiesFit}
-use Rattle.rules.specs.State.{State, ok, logLimit, versionAt}
+use Rattle.forms.specs.Limits.{logLimit}
+use Rattle.rules.specs.State.{State, ok, versionAt}
 use Rattle.rules.specs.Calls.{opened, openSite, Call}
 use Rattle.rules.specs.Good.{didIds}
 use Rattle.rules.specs.Run.{run}

@@ -19,7 +19,8 @@ use Rattle.forms.specs.declared.Refusal.the-variants.{Unreadable, WrongCount, N
 use Rattle.forms.specs.CommandLaws.{command-written}
 use Rattle.rules.specs.Book.{Cell, cell}
 use Rattle.rules.specs.Log.{ended, historiesFit}
-use Rattle.rules.specs.State.{State, Reply, refused, ok, settle, logLimit, versionAt}
+use Rattle.forms.specs.Limits.{logLimit}
+use Rattle.rules.specs.State.{State, Reply, refused, ok, settle, versionAt}
 use Rattle.rules.specs.Calls.{openFull, openRefusal, openSite, opened, Call, show, writable, perform, step}
 use Rattle.rules.specs.CheckLaws.{check-none, none-check, unless-none, le-not-lt, unless-ok, unless-check, not-false}
 use Rattle.rules.specs.LogLaws.{histories-most}

@@ -15,7 +15,8 @@ use Rattle.forms.specs.declared.Refusal.the-variants.{Unreadable, AboveLimit}
 use Rattle.rules.specs.Book.{cell}
 use Rattle.rules.specs.Log.{readLog}
 use Rattle.rules.specs.LogLaws.{read-printed}
-use Rattle.rules.specs.State.{State, ok, logLimit, logBytes}
+use Rattle.forms.specs.Limits.{logLimit}
+use Rattle.rules.specs.State.{State, ok, logBytes}
 use Rattle.rules.specs.Calls.{restarted, restartAs, restart, cutAbove, cut, Call, writable, perform, step}
 use Rattle.rules.specs.CheckLaws.{unless-none, none-check, le-not-lt, or-false}
 use Rattle.rules.specs.Good.{Good}

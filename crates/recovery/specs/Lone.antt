@@ -10,7 +10,8 @@ use native.Mathlib.Omega.{arith}
 use lib.Dec.{T, leb→le}
 use Rattle.forms.specs.Forms.{Did}
 use Rattle.forms.specs.declared.Refusal.the-variants.{TableFull}
-use Rattle.rules.specs.State.{State, Reply, refused, ok, settle, liveLimit, live}
+use Rattle.forms.specs.Limits.{liveLimit}
+use Rattle.rules.specs.State.{State, Reply, refused, ok, settle, live}
 use Rattle.rules.specs.Calls.{tableFull, Call, Cut, Redo, End, step}
 use Rattle.rules.specs.WhenLaws.{step-off, ten-why}
 use Rattle.rules.specs.Run.{run}

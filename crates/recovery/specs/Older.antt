@@ -9,7 +9,8 @@ use lib.ListN.{length, take}
 use Rattle.forms.specs.Forms.{Did, Restarted}
 use Rattle.rules.specs.Book.{cell, cellWith}
 use Rattle.rules.specs.Log.{journal, readLogWith}
-use Rattle.rules.specs.State.{State, ok, logLimit, logBytes}
+use Rattle.forms.specs.Limits.{logLimit}
+use Rattle.rules.specs.State.{State, ok, logBytes}
 use Rattle.rules.specs.Checks.{check}
 use Rattle.rules.specs.Calls.{unless, restart, restartAs, restarted, Call, Cut}
 use Rattle.rules.specs.OlderLogs.{olderParts, ReadAlike, read-alike}

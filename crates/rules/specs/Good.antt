@@ -15,7 +15,8 @@ use Rattle.forms.specs.Writable.{WritableDid}
 use Rattle.rules.specs.Book.{canRun}
 use Rattle.rules.specs.Checks.{updatesRefusal, changesRefusal}
 use Rattle.rules.specs.Log.{historiesFit}
-use Rattle.rules.specs.State.{Operation, State, liveLimit, logLimit, logBytes, liveDone, live, lineBytes}
+use Rattle.forms.specs.Limits.{liveLimit, logLimit}
+use Rattle.rules.specs.State.{Operation, State, logBytes, liveDone, live, lineBytes}
 use Rattle.rules.specs.Calls.{mayRunNow, blocked, nothingOrders, writableUpdate}
 
 -- A line that can stand in a log of n histories: it passes 2 to 5, and can be written.

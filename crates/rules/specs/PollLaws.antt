@@ -14,7 +14,8 @@ use Rattle.forms.specs.ListLaws.{Nodup, nodup-right, nodup-mid, mem-split, mem-
 use Rattle.forms.specs.Forms.{Update, Change, Did}
 use Rattle.forms.specs.declared.Refusal.the-variants.{NoSuchHistory}
 use Rattle.rules.specs.Book.{touches}
-use Rattle.rules.specs.State.{Operation, State, asks, dry, live, liveDone, liveLimit, withPending, withLog, withWaiting, withMarks}
+use Rattle.forms.specs.Limits.{liveLimit}
+use Rattle.rules.specs.State.{Operation, State, asks, dry, live, liveDone, withPending, withLog, withWaiting, withMarks}
 use Rattle.rules.specs.Calls.{attempt, tryAll, arrived, changeOf, lineOf, without, restarted}
 use Rattle.rules.specs.Good.{Good, operationIds, didIds}
 use Rattle.rules.specs.CheckLaws.{formed-updates, formed-changes}

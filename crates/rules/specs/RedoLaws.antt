@@ -18,7 +18,8 @@ use Rattle.forms.specs.Reading.{readDid}
 use Rattle.forms.specs.DidLaws.{readDid-read}
 use Rattle.forms.specs.declared.Refusal.the-variants.{Unreadable, IdPending, AlreadyDone, TableFull, NoRoom, OutOfTurn}
 use Rattle.rules.specs.Book.{canRun}
-use Rattle.rules.specs.State.{State, ok, liveLimit, logBytes, liveDone, live, lineBytes, withLog, withWaiting}
+use Rattle.forms.specs.Limits.{liveLimit}
+use Rattle.rules.specs.State.{State, ok, logBytes, liveDone, live, lineBytes, withLog, withWaiting}
 use Rattle.rules.specs.Calls.{idPending, idDone, tableFull, logFull, stale, redoRefusal, drain, delivered, redoRead, redo}
 use Rattle.rules.specs.Calls.{end, Call, perform, step}
 use Rattle.rules.specs.Good.{Good, FormedDid, Ran, didIds, operationIds}

@@ -8,7 +8,8 @@ use Rattle.forms.specs.Forms.{Command, Outcome, Refused, Accepted, outcomeText,
 use Rattle.forms.specs.Reading.{readCommand}
 use Rattle.forms.specs.declared.Refusal.the-variants.{Unreadable, OutOfTurn}
 use Rattle.rules.specs.Log.{ended, linesOf, restOf}
-use Rattle.rules.specs.State.{State, Reply, refused, ok, logLimit}
+use Rattle.forms.specs.Limits.{logLimit}
+use Rattle.rules.specs.State.{State, Reply, refused, ok}
 use Rattle.rules.specs.Calls.{openSite, Call, step}
 
 -- The session's state: none "before site".

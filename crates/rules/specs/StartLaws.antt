@@ -13,7 +13,8 @@ use Rattle.forms.specs.ListLaws.{true-T, mem-at, mem-along}
 use Rattle.forms.specs.Forms.{Did, Answer, siteText}
 use Rattle.forms.specs.declared.Refusal.the-variants.{WrongCount, NoRoom, AboveLimit, BadLog}
 use Rattle.rules.specs.Log.{Journal, journal, noJournal, historiesFit, ended, didsText, logText, restOf, readLog}
-use Rattle.rules.specs.State.{State, ok, logLimit, logBytes, liveDone, live}
+use Rattle.forms.specs.Limits.{logLimit}
+use Rattle.rules.specs.State.{State, ok, logBytes, liveDone, live}
 use Rattle.rules.specs.Calls.{openFull, openRefusal, opened, openSite, restarted, restartAs, restart, cutAbove, cut}
 use Rattle.rules.specs.Good.{Good, FormedDid, Ran}
 use Rattle.rules.specs.LogLaws.{read-accepted}

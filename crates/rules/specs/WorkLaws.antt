@@ -15,7 +15,8 @@ use Rattle.forms.specs.ListLaws.{Nodup, nodup-right, nodup-apart, mem-along, me
 use Rattle.forms.specs.ListLaws.{and-right, all-at}
 use Rattle.forms.specs.Forms.{Update, Did, Answer}
 use Rattle.forms.specs.declared.Refusal.the-variants.{NothingOrders, IdPending, AlreadyDone, ReadOvertaken, TableFull, WrongState, NoRoom, OutOfTurn}
-use Rattle.rules.specs.State.{Operation, State, ok, liveLimit, logBytes, liveDone, live, lineBytes, withPending, withLog}
+use Rattle.forms.specs.Limits.{liveLimit}
+use Rattle.rules.specs.State.{Operation, State, ok, logBytes, liveDone, live, lineBytes, withPending, withLog}
 use Rattle.rules.specs.Calls.{mayRunNow, tryAll, idPending, idDone, alreadyDone, tableFull}
 use Rattle.rules.specs.Calls.{addRefusal, arrived, add, lineOf, inProgress, without, logFull, finished, finishFound, finish, withdrawRefusal}
 use Rattle.rules.specs.Calls.{withdraw}
