@@ -148,8 +148,13 @@ pub busy-finished : (st : State) (x : Operation) (h : ℕ) → Good st → Mem x
 unfolding busy
 busy-finished st x h G m =
     let log = st .log ++ (lineOf (st .log) x ∷ []) in
-    omega (arith, asks-tried h log (without (x .id) (st .pending)), asks-without h x (st .pending) (pending-once st G) m,
-    volatile-more h (st .persistentTo) (st .log) (lineOf (st .log) x ∷ []) (G .persistentBelow), line-asks h (st .log) x)
+    omega (
+      arith,
+      asks-tried h log (without (x .id) (st .pending)),
+      asks-without h x (st .pending) (pending-once st G) m,
+      volatile-more h (st .persistentTo) (st .log) (lineOf (st .log) x ∷ []) (G .persistentBelow),
+      line-asks h (st .log) x,
+    )
 
 -- A redo: the updates of the lines that ran more; lines that wait do not count.
 pub busy-redone : (st : State) (more waiting : List Did) (h : ℕ) → Good st →
@@ -202,8 +207,15 @@ once-few f h (x ∷ l) once = go (eqb (f x) h) refl (once-few f h l (once .1))
 pub busy-few : (st : State) (h : ℕ) → Good st → busy st h ≤ liveLimit
 unfolding busy asksIn changesIn live liveDone
 busy-few st h G =
-    omega (arith, G .few, G .stableBelow, few (asksIn h) (st .pending) asked, few (changesIn h) (drop (st .persistentTo) (st .log)) changed,
-    length-drop (st .persistentTo) (st .log), length-drop (st .stableTo) (st .log))
+    omega (
+      arith,
+      G .few,
+      G .stableBelow,
+      few (asksIn h) (st .pending) asked,
+      few (changesIn h) (drop (st .persistentTo) (st .log)) changed,
+      length-drop (st .persistentTo) (st .log),
+      length-drop (st .stableTo) (st .log),
+    )
   where
     few : {A : Type 0} (n : A → ℕ) (l : List A) → ((x : A) → Mem x l → n x ≤ 1) → sum n l ≤ length l
     few n [] one = omega arith
