@@ -21,7 +21,8 @@ returns c =
     let f = c .before .before in
     let s = f .before .before in
     let a = s .args in
-    check-again (a .self) (now (a .words)) (s .pre) (a .id) (sitesOf (a .sent)) (sitesOf (a .full)) (a .threshold) _ (sym (f .find .ensures) ∙ c .enum-told2 .given .1)
+    check-again (a .self) (now (a .words)) (s .pre) (a .id) (sitesOf (a .sent)) (sitesOf (a .full)) (a .threshold) _
+    (sym (f .find .ensures) ∙ c .enum-told2 .given .1)
 
 returns-2 : tie.Need-returns-2
 returns-2 c =
@@ -29,7 +30,8 @@ returns-2 c =
     let f = fresh .before .before in
     let s = f .before .before in
     let a = s .args in
-    check-full (a .self) (now (a .words)) (s .pre) (a .id) (sitesOf (a .sent)) (sitesOf (a .full)) (a .threshold) (sym (f .find .ensures) ∙ fresh .enum-told .given .1) (c .if1 .taken)
+    check-full (a .self) (now (a .words)) (s .pre) (a .id) (sitesOf (a .sent)) (sitesOf (a .full)) (a .threshold)
+    (sym (f .find .ensures) ∙ fresh .enum-told .given .1) (c .if1 .taken)
 
 is-wrong-requires : tie.Need-is-wrong-requires
 is-wrong-requires c κs = search needs
@@ -41,7 +43,8 @@ returns-3 c =
     let f = fresh .before .before in
     let s = f .before .before in
     let a = s .args in
-    check-wrong (a .self) (now (a .words)) (s .pre) (a .id) (sitesOf (a .sent)) (sitesOf (a .full)) (a .threshold) (sym (f .find .ensures) ∙ fresh .enum-told .given .1)
+    check-wrong (a .self) (now (a .words)) (s .pre) (a .id) (sitesOf (a .sent)) (sitesOf (a .full)) (a .threshold)
+    (sym (f .find .ensures) ∙ fresh .enum-told .given .1)
     (below-limit (a .self .count) (s .pre .few) (room .if1 .left))
     (sym (c .before .is-wrong .ensures) ∙ c .if2 .taken)
 
@@ -55,9 +58,11 @@ returns-4 c =
     let f = fresh .before .before in
     let s = f .before .before in
     let a = s .args in
-    check-outside (a .self) (now (a .words)) (s .pre) (a .id) (sitesOf (a .sent)) (sitesOf (a .full)) (a .threshold) (sym (f .find .ensures) ∙ fresh .enum-told .given .1)
+    check-outside (a .self) (now (a .words)) (s .pre) (a .id) (sitesOf (a .sent)) (sitesOf (a .full)) (a .threshold)
+    (sym (f .find .ensures) ∙ fresh .enum-told .given .1)
     (below-limit (a .self .count) (s .pre .few) (room .if1 .left))
-    (sym (c .before .before .before .is-wrong .ensures) ∙ c .before .before .if2 .left) (sym (c .before .is-outside .ensures) ∙ c .if3 .taken)
+    (sym (c .before .before .before .is-wrong .ensures) ∙ c .before .before .if2 .left)
+    (sym (c .before .is-outside .ensures) ∙ c .if3 .taken)
 
 returns-5 : tie.Need-returns-5
 returns-5 c =
@@ -66,9 +71,11 @@ returns-5 c =
     let f = fresh .before .before in
     let s = f .before .before in
     let a = s .args in
-    check-ok (a .self) (now (a .words)) (s .pre) (a .id) (sitesOf (a .sent)) (sitesOf (a .full)) (a .threshold) (sym (f .find .ensures) ∙ fresh .enum-told .given .1)
+    check-ok (a .self) (now (a .words)) (s .pre) (a .id) (sitesOf (a .sent)) (sitesOf (a .full)) (a .threshold)
+    (sym (f .find .ensures) ∙ fresh .enum-told .given .1)
     (below-limit (a .self .count) (s .pre .few) (room .if1 .left))
-    (sym (c .before .before .before .is-wrong .ensures) ∙ c .before .before .if2 .left) (sym (c .before .is-outside .ensures) ∙ c .if3 .left)
+    (sym (c .before .before .before .is-wrong .ensures) ∙ c .before .before .if2 .left)
+    (sym (c .before .is-outside .ensures) ∙ c .if3 .left)
 
 pub check-new-spec : {M : Type 1} → statement M
 check-new-spec =

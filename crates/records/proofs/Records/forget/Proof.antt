@@ -29,7 +29,8 @@ returns c =
     let s = f .before .before .before in
     let a = s .args in
     not-sent (a .self) (now (a .words)) (s .pre) _
-    (forget-gone (a .self) (now (a .words)) (s .pre) (a .id) (sym (f .find .ensures) ∙ c .before .enum-told .given .1)) (c .refused .result) (c .refused .ensures)
+    (forget-gone (a .self) (now (a .words)) (s .pre) (a .id) (sym (f .find .ensures) ∙ c .before .enum-told .given .1))
+    (c .refused .result) (c .refused .ensures)
 
 sub-last : tie.Need-sub-last
 sub-last c =
@@ -73,7 +74,8 @@ returns-2 c =
     let a = s .args in
     let place = sym (f .find .ensures) ∙ k .i .given .1 in
     let low = found-low (a .self) (now (a .words)) (s .pre) (a .id) (k .i .given .0 .0) place in
-    forgets (a .self) (now (a .words)) (s .pre) (a .id) (k .i .given .0 .0) place (a .self .count - 1) (gap .close-gap .last .0) (omega (arith, low)) (gap .close-gap .ensures)
+    forgets (a .self) (now (a .words)) (s .pre) (a .id) (k .i .given .0 .0) place (a .self .count - 1) (gap .close-gap .last .0)
+    (omega (arith, low)) (gap .close-gap .ensures)
 
 pub forget-spec : {M : Type 1} → statement M
 forget-spec =

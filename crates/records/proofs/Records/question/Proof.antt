@@ -42,7 +42,8 @@ returns-2 c =
     let s = f .before .before in
     let a = s .args in
     c .answer-of .ensures
-    ∙ question-found (a .self) (now (a .words)) (s .pre) (a .id) (k .i .given .0 .0) (sym (f .find .ensures) ∙ k .i .given .1) (read .record-at .result) (read .record-at .ensures)
+    ∙ question-found (a .self) (now (a .words)) (s .pre) (a .id) (k .i .given .0 .0) (sym (f .find .ensures) ∙ k .i .given .1)
+    (read .record-at .result) (read .record-at .ensures)
 
 pub question-spec : {M : Type 1} → statement M
 question-spec =

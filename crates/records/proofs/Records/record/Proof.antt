@@ -20,7 +20,8 @@ put-record-requires c κs =
     let v = c .before .before .before in
     let s = v .before .before .before in
     let a = s .args in
-    records-fits (a .self) (now (a .words)) (s .pre) (a .id) (a .sent) (a .full) (a .threshold) (v .check-new .result) (v .check-new .ensures) (c .before .enum-told .given .1)
+    records-fits (a .self) (now (a .words)) (s .pre) (a .id) (a .sent) (a .full) (a .threshold) (v .check-new .result)
+    (v .check-new .ensures) (c .before .enum-told .given .1)
 
 add-t18 : tie.Need-add-t18
 add-t18 c = search needs
@@ -33,7 +34,8 @@ returns c =
     let v = c .before .before .before in
     let s = v .before .before .before in
     let a = s .args in
-    records-not (a .self) (now (a .words)) (s .pre) (a .id) (a .sent) (a .full) (a .threshold) (v .check-new .result) (v .check-new .ensures)
+    records-not (a .self) (now (a .words)) (s .pre) (a .id) (a .sent) (a .full) (a .threshold) (v .check-new .result)
+    (v .check-new .ensures)
     (c .before .verdict .given .0 .0) (c .before .verdict .given .1)
 
 same-length-2 : tie.Need-same-length-2
@@ -48,7 +50,8 @@ returns-2 c =
     let a = s .args in
     let sent-small : a .sent < 256 = search needs in
     let full-small : a .full < 256 = search needs in
-    records-as (a .self) (now (a .words)) (s .pre) (a .id) (a .sent) (a .full) (a .threshold) (v .check-new .result) (v .check-new .ensures) (told .enum-told .given .1)
+    records-as (a .self) (now (a .words)) (s .pre) (a .id) (a .sent) (a .full) (a .threshold) (v .check-new .result)
+    (v .check-new .ensures) (told .enum-told .given .1)
     (put .put-record .last .0) sent-small full-small (put .put-record .ensures)
 
 pub record-spec : {M : Type 1} → statement M

@@ -28,7 +28,8 @@ returns c =
     let s = f .before .before .before in
     let a = s .args in
     not-sent (a .self) (now (a .words)) (s .pre) _
-    (report-gone (a .self) (now (a .words)) (s .pre) (a .id) (sym (f .find .ensures) ∙ c .before .enum-told .given .1) (a .site)) (c .refused .result) (c .refused .ensures)
+    (report-gone (a .self) (now (a .words)) (s .pre) (a .id) (sym (f .find .ensures) ∙ c .before .enum-told .given .1) (a .site))
+    (c .refused .result) (c .refused .ensures)
 
 record-at-requires : tie.Need-record-at-requires
 record-at-requires c κs =
