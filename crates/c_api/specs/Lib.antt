@@ -6,3 +6,5 @@ pub mod KeeperCalls
 pub mod KeeperCallLaws
 pub mod Rounds
 pub mod RoundsLaws
+pub mod RecordCalls
+pub mod RecordCallLaws
