@@ -1,7 +1,8 @@
 //! The fitting ledger a second time, from its papers (documents 01 and 02) alone.
 //!
 //! From the bottom up: [`forms`] are the things that lines say, [`reader`] and [`writer`]
-//! turn bytes into them and back, [`rules`] decides, [`site`] and [`keeper`] carry the state,
+//! turn bytes into them and back, [`rules`] decides, [`site`], [`keeper`] and [`records`] carry
+//! the state,
 //! [`session`] turns a text of commands into a text of replies. [`program`] is the face that
 //! a test or a benchmark sees; the proved library shows the same face in `library`.
 
@@ -12,6 +13,7 @@ pub mod keeper;
 pub mod library;
 pub mod program;
 pub mod reader;
+pub mod records;
 pub mod refusal;
 pub mod rules;
 pub mod session;

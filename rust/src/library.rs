@@ -2,6 +2,7 @@
 
 use crate::keeper::Places;
 use crate::program::{Outcome, Program};
+use crate::records::RecordCall;
 
 /// The library's functions. A slice passes as its address and its length.
 mod linked {
@@ -47,6 +48,38 @@ mod linked {
             places_length: usize,
             out: *mut u8,
             out_length: usize,
+        ) -> u64;
+
+        pub fn records_record(
+            numbers: *mut u64,
+            numbers_length: usize,
+            count: usize,
+            id: u64,
+            sent: u8,
+            full: u8,
+            threshold: u64,
+        ) -> u64;
+
+        pub fn records_report(
+            numbers: *mut u64,
+            numbers_length: usize,
+            count: usize,
+            id: u64,
+            site: u64,
+        ) -> u64;
+
+        pub fn records_question(
+            numbers: *const u64,
+            numbers_length: usize,
+            count: usize,
+            id: u64,
+        ) -> u64;
+
+        pub fn records_forget(
+            numbers: *mut u64,
+            numbers_length: usize,
+            count: usize,
+            id: u64,
         ) -> u64;
 
         pub fn site_add_and_finish(log: *mut u8, log_length: usize, operations: u64) -> usize;
@@ -135,6 +168,23 @@ impl Program for Library {
 
     fn hand_out(&self, buffer: &[u8], used: usize, kept: &Places, out: &mut [u8]) -> Outcome {
         self.hand_out_above(buffer, used, kept, out)
+    }
+
+    fn records(&self, numbers: &mut [u64], count: usize, call: RecordCall) -> Outcome {
+        let (address, length) = (numbers.as_mut_ptr(), numbers.len());
+        // SAFETY: see above.
+        outcome(unsafe {
+            match call {
+                RecordCall::Record { id, sent, full, threshold } => {
+                    linked::records_record(address, length, count, id, sent, full, threshold)
+                }
+                RecordCall::Report { id, site } => {
+                    linked::records_report(address, length, count, id, site)
+                }
+                RecordCall::Question { id } => linked::records_question(address, length, count, id),
+                RecordCall::Forget { id } => linked::records_forget(address, length, count, id),
+            }
+        })
     }
 }
 

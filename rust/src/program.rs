@@ -2,6 +2,7 @@
 
 use crate::forms::{Answer, Reply};
 use crate::keeper::{Keeper, Places};
+use crate::records::{RecordCall, Records};
 use crate::refusal::Refusal;
 use crate::rules::Rules;
 use crate::session;
@@ -13,6 +14,10 @@ pub type Outcome = Result<usize, u64>;
 
 /// The number in place of a refusal's where the first bytes are not what a keeper keeps.
 pub const NO_KEEPER: u64 = 999;
+
+/// The number in place of a refusal's where there are more records than 64, or fewer numbers
+/// than those of 64.
+pub const NO_RECORDS: u64 = 999;
 
 /// The room that is lent behind the replies of a session. No reply has more bytes.
 pub const SPARE: usize = 2730;
@@ -38,6 +43,10 @@ pub trait Program {
 
     /// Hands out the lines above the kept places.
     fn hand_out(&self, buffer: &[u8], used: usize, kept: &Places, out: &mut [u8]) -> Outcome;
+
+    /// A call about the records in the first numbers. Gives how many records there are after
+    /// it; of a report or a question, 1 if the operation counts as persistent, else 0.
+    fn records(&self, numbers: &mut [u64], count: usize, call: RecordCall) -> Outcome;
 }
 
 /// The programs that are there to be compared, this one first.
@@ -100,6 +109,10 @@ impl Program for Second {
 
     fn hand_out(&self, buffer: &[u8], used: usize, kept: &Places, out: &mut [u8]) -> Outcome {
         outcome(self.keeper(buffer, used)?.hand_out(kept, buffer, out))
+    }
+
+    fn records(&self, numbers: &mut [u64], count: usize, call: RecordCall) -> Outcome {
+        outcome(Records::resume(numbers, count, self.rules).ok_or(NO_RECORDS)?.call(call))
     }
 }
 

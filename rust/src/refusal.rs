@@ -34,6 +34,10 @@ pub enum Refusal {
     WrongTime = 14,
     /// The log cannot be restarted from.
     BadLog = 15,
+    /// A threshold of 0, or above the number of full copies.
+    BadThreshold = 18,
+    /// A site that the operation was not sent to, or an operation without a record.
+    NotSent = 19,
     /// The line is in conflict with one that the keeper holds.
     Conflict = 20,
 }

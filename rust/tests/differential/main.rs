@@ -6,6 +6,7 @@ mod damage;
 mod laws;
 mod made_up;
 mod random;
+mod recorded;
 mod rounds;
 mod scribe;
 mod trial;
@@ -13,7 +14,7 @@ mod trial;
 use std::collections::BTreeMap;
 use std::sync::LazyLock;
 
-use second::program::{Program, Second, NO_KEEPER};
+use second::program::{Program, Second, NO_KEEPER, NO_RECORDS};
 use second::rules::{Flaw, Rules};
 
 use claim::ClaimTrial;
@@ -41,7 +42,7 @@ fn claims() -> impl Iterator<Item = &'static dyn Comparison> {
     CLAIMS.iter().flat_map(|trials| as_comparisons(trials))
 }
 
-/// Restarts, keepers and sessions, round by round.
+/// Restarts, keepers, records and sessions, round by round.
 fn trials() -> impl Iterator<Item = &'static dyn Comparison> {
     let rounds = OTHERS.iter().zip(SESSIONS.iter());
     rounds.flat_map(|(others, sessions)| {
@@ -101,7 +102,7 @@ mod library {
     }
 
     #[test]
-    fn its_restarts_and_keepers_agree() {
+    fn its_restarts_keepers_and_records_agree() {
         assert_agrees(OTHERS.iter().flatten().map(Box::as_ref), &Library);
     }
 
@@ -266,7 +267,11 @@ fn the_trials_reach_everything() {
             .map(|number| format!("(refused {number})"))
             .chain(refusals("keep ", &[1, 2, 3, 4, 5, 8, 12, 13, 20, NO_KEEPER]))
             .chain(refusals("drop ", &[3, 13, NO_KEEPER]))
-            .chain(refusals("hand out ", &[12, 13, NO_KEEPER])),
+            .chain(refusals("hand out ", &[12, 13, NO_KEEPER]))
+            .chain(refusals("record ", &[7, 10, 18, 19, NO_RECORDS]))
+            .chain(refusals("report ", &[19, NO_RECORDS]))
+            .chain(refusals("question ", &[19, NO_RECORDS]))
+            .chain(refusals("forget ", &[19, NO_RECORDS])),
     );
     for kind in expected {
         let times = met.get(&kind).copied().unwrap_or(0);
@@ -278,7 +283,7 @@ fn the_trials_reach_everything() {
 const LOOKS: [&str; 5] = ["(ok 0 1)", "(ok 0 2)", "(ok 1 1)", "(ok 1 3)", "(ok 2 3)"];
 
 /// The kinds of replies, refusals aside.
-const KINDS: [&str; 28] = [
+const KINDS: [&str; 34] = [
     "(ok)",
     "(ok (ready N))",
     "(ok (ready))",
@@ -307,6 +312,12 @@ const KINDS: [&str; 28] = [
     "keep ok",
     "drop ok",
     "hand out ok",
+    "record ok",
+    "report persistent",
+    "report not persistent",
+    "question persistent",
+    "question not persistent",
+    "forget ok",
 ];
 
 /// A reply with N for its numbers and lists of them, but for refusals and few lines run.

@@ -7,6 +7,7 @@ use crate::claim::ClaimTrial;
 use crate::damage;
 use crate::made_up::{self, Care, Now};
 use crate::random::Random;
+use crate::recorded;
 use crate::scribe::{Mood, Scribe};
 use crate::trial::{
     used_buffer, Comparison, KeeperCall, KeeperTrial, Kept, RestartTrial, SessionTrial,
@@ -15,10 +16,13 @@ use crate::trial::{
 /// All rounds together make well over 200,000 calls.
 pub const ROUNDS: u64 = 160;
 
-/// The restarts and keepers of a round.
+/// The restarts, keepers and records of a round.
 pub fn others(round: u64) -> Vec<Box<dyn Comparison>> {
     let restarts = restarts(round).into_iter().map(boxed);
-    restarts.chain(keepers(round).into_iter().map(boxed)).collect()
+    let keepers = keepers(round).into_iter().map(boxed);
+    let mut random = seeded(5, round);
+    let records = (0..12).map(|_| boxed(recorded::any(&mut random)));
+    restarts.chain(keepers).chain(records).collect()
 }
 
 fn boxed<T: Comparison + 'static>(trial: T) -> Box<dyn Comparison> {
