@@ -15,3 +15,4 @@ pub mod SiteCallsLaws
 pub mod RefusedReply
 pub mod OlderExamples
 pub mod BesideLines
+pub mod RecordsCalls
