@@ -16,3 +16,4 @@ pub mod RefusedReply
 pub mod OlderExamples
 pub mod BesideLines
 pub mod RecordsCalls
+pub mod RecordsLimit
