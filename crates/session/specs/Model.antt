@@ -169,6 +169,6 @@ abbrev pub DoesForm : Site → Lent → CommandRead → CallResult → Lent → 
 DoesForm s old c r new = Does s old (siteReply (length (old .log)) (c .form) (c .asked) (c .did) (view s old)) r new
 
 -- The session, which is not open, takes the turn of opening a site of n histories.
-abbrev pub Opens : Session → ℕ → Ends → Ends → Ends → Ends → LineResult → Type 0
-Opens s n log rows order book r =
+abbrev pub OpensLine : Session → ℕ → Ends → Ends → Ends → Ends → LineResult → Type 0
+OpensLine s n log rows order book r =
     (ns : List ℕ) → Turns s (oldWith ns log rows order book) (turnOf (openSite n (length (was log))) none) r (newWith ns log rows order book)

@@ -6,7 +6,7 @@ ghost use Rattle.forms.specs.Held.{replied};
 ghost use Rattle.table.specs.Ends.{was, left};
 ghost use Rattle.site.specs.Model.{Lent, received, old, new, Valid, RefusedAs, Printable};
 ghost use Rattle.session.specs.Model.{ValidSession, Refuses, Starts, TurnsLine, AnswersLine, WritesTurn};
-ghost use Rattle.session.specs.Model.{turnedOf, Opens, DoesForm, TurnsForm};
+ghost use Rattle.session.specs.Model.{turnedOf, OpensLine, DoesForm, TurnsForm};
 ghost use Rattle.session.specs.Feeding.{Begins};
 use forms::LogNumber;
 use forms::Refusal;
@@ -146,7 +146,7 @@ impl Session {
         n: u64,
     ) -> LineResult
         requires { ⌜ self .opened ≡ false ⌝ }
-        ensures { λ r. ⌜ Opens self n log rows order book r ⌝ }
+        ensures { λ r. ⌜ OpensLine self n log rows order book r ⌝ }
     {
         let c = Site::open(log, rows, order, book, n);
         let site = c.site;
