@@ -8,4 +8,5 @@ pub mod AtLog
 pub mod AskingLaws
 pub mod Words
 pub mod WordLaws
+pub mod BusyLaws
 pub mod Lists

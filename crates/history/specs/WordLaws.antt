@@ -12,7 +12,7 @@ use lib.Seq.{ext-getD, getD-at, getD-set-same, getD-set-other, drop-set-lt}
 use Rattle.forms.specs.Lists.{below}
 use Rattle.history.specs.declared.History.{History}
 use Rattle.history.specs.Entries.{noHistory}
-use Rattle.history.specs.Words.{within, UnchangedOutside, width, historyFrom, historiesIn, columnFrom, PastKept, MarksKept, PutHistory, PutColumn, PutFirst}
+use Rattle.history.specs.Words.{within, UnchangedOutside, width, bookLength, historyFrom, historiesIn, columnFrom, PastKept, MarksKept, PutHistory, PutColumn, PutFirst}
 
 -- a number below the limit
 pub within-of : (limit n : ℕ) → n < limit → within limit n ≡ n
@@ -172,17 +172,17 @@ column-versions ws i h = column-in 1 ws i h ∙ sym (ap (λ (x : History). x .ve
 -- ### Stores
 
 pub marks-same : (ws : List ℕ) → MarksKept ws ws
-marks-same ws = record { persisted = refl; stabilised = refl }
+marks-same ws = record { persisted = refl; stabilised = refl; busy = refl }
 
 pub marks-then : {x y z : List ℕ} → MarksKept x y → MarksKept y z → MarksKept x z
-marks-then a b = record { persisted = b .persisted ∙ a .persisted; stabilised = b .stabilised ∙ a .stabilised }
+marks-then a b = record { persisted = b .persisted ∙ a .persisted; stabilised = b .stabilised ∙ a .stabilised; busy = b .busy ∙ a .busy }
 
 -- a store into a word of the first n histories
 pub past-set : (n : ℕ) (old ws : List ℕ) (k v : ℕ) → k < width * n → PastKept n old ws → PastKept n old (set ws k v)
 past-set n old ws k v h e = drop-set-lt (width * n) ws k v h ∙ e
 
 -- The three stores of a history.
-module _ (ws : List ℕ) (i : ℕ) (h : History) (low : i < 16) (long : length ws ≡ 80) where
+module _ (ws : List ℕ) (i : ℕ) (h : History) (low : i < 16) (long : length ws ≡ bookLength) where
   abbrev first : List ℕ
   first = set ws (width * i) (h .profile)
 
@@ -237,6 +237,7 @@ module _ (ws : List ℕ) (i : ℕ) (h : History) (low : i < 16) (long : length w
             record {
               persisted = column-same 3 ws third (λ j l. elsewhere j 3 (omega arith) (inr (omega arith)));
               stabilised = column-same 4 ws third (λ j l. elsewhere j 4 (omega arith) (inr (omega arith)));
+              busy = column-same 5 ws third (λ j l. elsewhere j 5 (omega arith) (inr (omega arith)));
             };
         past =
             λ n l.
@@ -246,12 +247,12 @@ module _ (ws : List ℕ) (i : ℕ) (h : History) (low : i < 16) (long : length w
 
 -- A column stored number after number: the first m are those of the row, and nothing else has changed.
 pub record Stored (f m : ℕ) (row old ws : List ℕ) : Type 0 where
-  pub long : length ws ≡ 80
+  pub long : length ws ≡ bookLength
   pub done : (h : ℕ) → h < m → getD ws (width * h + f) 0 ≡ getD row h 0
   pub rest : (g h : ℕ) → g < width → (g ≡ f → ⊥) → getD ws (width * h + g) 0 ≡ getD old (width * h + g) 0
   pub past : (n : ℕ) → m ≤ n → PastKept n old ws
 
-pub stored-none : (f : ℕ) (row ws : List ℕ) → length ws ≡ 80 → Stored f 0 row ws ws
+pub stored-none : (f : ℕ) (row ws : List ℕ) → length ws ≡ bookLength → Stored f 0 row ws ws
 stored-none f row ws long =
     record { long = long; done = λ h l. absurd (let z : h < 0 = l in omega arith); rest = λ g h l ne. refl; past = λ n l. refl }
 
@@ -279,11 +280,11 @@ stored-all f n row old ws few le s =
 
 -- The words of the first histories, stored one after the other.
 pub record FirstStored (n : ℕ) (f : ℕ → ℕ) (i : ℕ) (old ws : List ℕ) : Type 0 where
-  pub long : length ws ≡ 80
+  pub long : length ws ≡ bookLength
   pub done : Filled (λ (k : ℕ). k) f i ws
   pub past : PastKept n old ws
 
-pub first-none : (n : ℕ) (f : ℕ → ℕ) (ws : List ℕ) → length ws ≡ 80 → FirstStored n f 0 ws ws
+pub first-none : (n : ℕ) (f : ℕ → ℕ) (ws : List ℕ) → length ws ≡ bookLength → FirstStored n f 0 ws ws
 first-none n f ws long = record { long = long; done = λ k h. absurd (let z : k < 0 = h in omega arith); past = refl }
 
 pub first-next : (n : ℕ) (f : ℕ → ℕ) (i : ℕ) (old ws : List ℕ) → i < width * n → n ≤ 16 → FirstStored n f i old ws → FirstStored n f (i + 1) old (set ws i (f i))

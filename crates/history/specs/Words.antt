@@ -2,13 +2,14 @@
 use Prim.Native.Nat.{ℕ, _+_, _*_, _≤_, _<_}
 use mathlib.Core.Path.{_≡_}
 use mathlib.Core.Bool.{cond}
-use mathlib.Core.List.{List, map}
-use lib.Dec.{ltb}
+use mathlib.Core.List.{List, [], _∷_, map}
+use lib.Dec.{ltb, eqb}
 use lib.ListN.{getD, set, drop}
 use Rattle.forms.specs.Lists.{below}
 use Rattle.history.specs.declared.History.{History}
+use Rattle.history.specs.declared.Item.{Item}
 use Rattle.history.specs.declared.Entry.{Entry}
-use Rattle.history.specs.Entries.{InFirst}
+use Rattle.history.specs.Entries.{itemsOf, InFirst}
 use Rattle.history.specs.Cells.{Applies}
 
 -- a number below a limit, and 0 for any other
@@ -22,9 +23,14 @@ pub record UnchangedOutside (at n : ℕ) (old new : List ℕ) : Type 0 where
 
 -- ### What the words mean
 
--- How many numbers a history has: its profile, version and place, its persistent and its stable version. Those of history i begin at `width * i`.
+-- How many numbers a history has: its profile, version and place, its persistent and its stable version, and how many of its updates are future, in
+-- progress or volatile. Those of history i begin at `width * i`.
 abbrev pub width : ℕ
-width = 5
+width = 6
+
+-- how many words all histories have
+abbrev pub bookLength : ℕ
+bookLength = 96
 
 -- history i: its profile, its version and its place
 unfoldable pub historyFrom : List ℕ → ℕ → History
@@ -50,18 +56,23 @@ persistedIn ws = columnFrom 3 ws
 abbrev pub stabilisedIn : List ℕ → List ℕ
 stabilisedIn ws = columnFrom 4 ws
 
+-- how many updates of each history are future, in progress or volatile
+abbrev pub busyIn : List ℕ → List ℕ
+busyIn ws = columnFrom 5 ws
+
 -- ### What is written
 
 -- The words past those of the first n histories are as they were.
 abbrev pub PastKept : ℕ → List ℕ → List ℕ → Type 0
 PastKept n old new = drop (width * n) new ≡ drop (width * n) old
 
--- The persistent and stable versions are as they were.
+-- The persistent and stable versions, and the numbers of updates that are not persistent, are as they were.
 pub record MarksKept (old new : List ℕ) : Type 0 where
   pub persisted : persistedIn new ≡ persistedIn old
   pub stabilised : stabilisedIn new ≡ stabilisedIn old
+  pub busy : busyIn new ≡ busyIn old
 
--- History i is h now; the other histories, and the persistent and stable versions, are as they were.
+-- History i is h now; the other histories, and the numbers that are not its profile, version and place, are as they were.
 pub record PutHistory (i : ℕ) (h : History) (old new : List ℕ) : Type 0 where
   pub histories : historiesIn new ≡ set (historiesIn old) i h
   pub marks : MarksKept old new
@@ -92,3 +103,17 @@ pub record AppliesIn (e : Entry) (old new : List ℕ) : Type 0 where
   pub applies : Applies (historiesIn old) e (historiesIn new)
   pub marks : MarksKept old new
   pub past : (n : ℕ) → InFirst n e → PastKept n old new
+
+-- ### Updates that are future, in progress or volatile
+
+-- how many of an entry's items are in history h
+unfoldable pub itemsIn : ℕ → List Item → ℕ
+itemsIn h [] = 0
+itemsIn h (x ∷ xs) = cond (eqb (x .history) h) 1 0 + itemsIn h xs
+
+-- Each history has its number of updates of the entry more in `high` than in `low`; nothing else differs.
+pub record CountsMore (e : Entry) (low high : List ℕ) : Type 0 where
+  pub numbers : (h : ℕ) → h < 16 → getD (busyIn high) h 0 ≡ getD (busyIn low) h 0 + itemsIn h (itemsOf e)
+  pub others : (g : ℕ) → g < width → (g ≡ 5 → ⊥) → columnFrom g high ≡ columnFrom g low
+  pub histories : historiesIn high ≡ historiesIn low
+  pub past : (n : ℕ) → InFirst n e → PastKept n low high

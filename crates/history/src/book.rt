@@ -3,13 +3,14 @@ ghost use mathlib.Core.Path.{_≡_};
 ghost use Prim.Native.Nat.{_≤_, _<_};
 ghost use lib.ListN.{getD};
 ghost use Rattle.history.specs.Entries.{noHistory};
-ghost use Rattle.history.specs.Words.{historiesIn, columnFrom, PutHistory, PutColumn, Cleared, Copied};
+ghost use Rattle.history.specs.Words.{width, historiesIn, columnFrom, PutHistory, PutColumn, Cleared, Copied};
 use super::History;
 use forms::Place;
 use forms::Version;
 
-// How many numbers a history has: profile, version, place, persistent version, stable version.
-pub const WIDTH: usize = 5;
+// How many numbers a history has: profile, version, place, persistent version, stable version, and how many of its updates are future, in
+// progress or volatile.
+pub const WIDTH: usize = 6;
 
 // The histories of a site, one behind the other: those of history i begin at WIDTH * i.
 pub type BookWords = [u64; 16 * WIDTH];
@@ -22,6 +23,8 @@ pub const PLACE: usize = 2;
 pub const PERSISTED: usize = 3;
 
 pub const STABILISED: usize = 4;
+
+pub const BUSY: usize = 5;
 
 // Words lent whole: there are as many as their type says.
 pub fn known_length(_words: &[u64]) {}
@@ -53,7 +56,7 @@ pub fn put_history(words: &mut BookWords, i: usize, h: History)
 
 // Number f of each history.
 pub fn column_at(words: &BookWords, f: usize) -> [u64; 16]
-    requires { ⌜ f < 5 ⌝ }
+    requires { ⌜ f < width ⌝ }
     ensures { λ r. ⌜ r ≡ columnFrom f (now (words .entry)) ⌝ }
 {
     let mut column = [0u64; 16];
@@ -67,7 +70,7 @@ pub fn column_at(words: &BookWords, f: usize) -> [u64; 16]
 
 // Number f of each of the first n histories becomes that of the column.
 pub fn put_column(words: &mut BookWords, f: usize, column: [u64; 16], n: usize)
-    requires { ⌜ (f < 5) × (n ≤ 16) ⌝ }
+    requires { ⌜ (f < width) × (n ≤ 16) ⌝ }
     ensures { λ r. ⌜ PutColumn f n column (now (words .entry)) (now (words .exit)) ⌝ }
 {
     known_length(words);

@@ -2,6 +2,7 @@
 use denote.Ref.{now}
 use mathlib.Core.Path.{_≡_}
 use lib.ListN.{length}
+use Rattle.history.specs.Words.{bookLength}
 use Rattle.history.specs.WordLaws.{history-put}
 use borrow.Author.Needs.{needs}
 use Rattle.history.proofs.book.put_history.Statement.{statement}
@@ -40,7 +41,7 @@ element-write-words-3 c = search needs
 returns : tie.Need-returns
 returns c =
     let e = c .before .before .before in
-    let long : length (now (e .args .words)) ≡ 80 = search needs in
+    let long : length (now (e .args .words)) ≡ bookLength = search needs in
     history-put (now (e .args .words)) (e .args .i) (e .args .h) (e .pre) long
 
 pub put-history-spec : {M : Type 1} → statement M

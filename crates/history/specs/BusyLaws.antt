@@ -1,0 +1,157 @@
+-- Counting an entry's updates item by item in the words of a book.
+use Prim.Native.Nat.{ℕ, zero, suc, _+_, _-_, _*_, _≤_, _<_}
+use native.Mathlib.Omega.{arith}
+use mathlib.Core.Path.{_≡_, refl, sym, ap, _∙_}
+use mathlib.Core.Bool.{Bool, true, false, cond}
+use mathlib.Core.List.{List, [], _∷_, _++_, map}
+use borrow.Author.Tests.{eqb-true, eqb-false}
+use native.Mathlib.Numerals.{add-one}
+use lib.Dec.{eqb, eqb-refl}
+use lib.ListN.{length, getD, set, take, length-set}
+use lib.Seq.{take-suc, getD-set-same, getD-set-other}
+use Rattle.forms.specs.Lists.{sum}
+use Rattle.forms.specs.ListLaws.{T-true}
+use Rattle.forms.specs.Forms.{Update, Change}
+use Rattle.rules.specs.Poll.{tell, asksIn, changesIn}
+use Rattle.history.specs.declared.Item.{Item}
+use Rattle.history.specs.declared.Entry.{Entry}
+use Rattle.history.specs.Entries.{noItem, itemsOf, itemUpdate, itemChange, operationOf, didOfEntry}
+use Rattle.history.specs.Words.{width, bookLength, busyIn, itemsIn, PastKept, CountsMore}
+use Rattle.history.specs.WordLaws.{column-in, column-same, histories-same, past-set}
+
+items-snoc : (h : ℕ) (xs : List Item) (x : Item) → itemsIn h (xs ++ (x ∷ [])) ≡ itemsIn h xs + cond (eqb (x .history) h) 1 0
+unfolding itemsIn
+items-snoc h [] x = omega arith
+items-snoc h (y ∷ xs) x = omega (arith, items-snoc h xs x)
+
+-- one more of the items
+items-next : (h : ℕ) (xs : List Item) (i : ℕ) → i < length xs → itemsIn h (take (i + 1) xs) ≡ itemsIn h (take i xs) + cond (eqb (getD xs i noItem .history) h) 1 0
+items-next h xs i lt = rw (add-one i, take-suc xs i noItem lt) (items-snoc h (take i xs) (getD xs i noItem))
+
+-- The first i items counted: each history has its number of them more in `high` than in `low`, and nothing else differs.
+pub record Counted (xs : List Item) (i : ℕ) (low high : List ℕ) : Type 0 where
+  pub long : length low ≡ bookLength
+  pub wide : length high ≡ bookLength
+  pub numbers : (h : ℕ) → h < 16 → getD high (width * h + 5) 0 ≡ getD low (width * h + 5) 0 + itemsIn h (take i xs)
+  pub rest : (g h : ℕ) → g < width → (g ≡ 5 → ⊥) → getD high (width * h + g) 0 ≡ getD low (width * h + g) 0
+  pub past : (n : ℕ) → ((j : ℕ) → j < i → getD xs j noItem .history < n) → PastKept n low high
+
+pub counted-none : (xs : List Item) (ws : List ℕ) → length ws ≡ bookLength → Counted xs 0 ws ws
+unfolding itemsIn
+counted-none xs ws long =
+    record { long = long; wide = long; numbers = λ h l. omega arith; rest = λ g h l ne. refl; past = λ n into. refl }
+
+-- a number of one history stored
+module _ (ws : List ℕ) (k v : ℕ) (low : k < 16) (long : length ws ≡ bookLength) where
+  pub stored-here : (h : ℕ) → k ≡ h → getD (set ws (width * k + 5) v) (width * h + 5) 0 ≡ v
+  stored-here h e =
+      ap (λ (n : ℕ). getD (set ws (width * k + 5) v) (width * n + 5) 0) (sym e)
+      ∙ getD-set-same ws (width * k + 5) v 0 (omega (arith, long, low))
+
+  pub stored-other : (g h : ℕ) → g < width → ((g ≡ 5) → (h ≡ k) → ⊥) → getD (set ws (width * k + 5) v) (width * h + g) 0 ≡ getD ws (width * h + g) 0
+  stored-other g h l ne =
+      getD-set-other ws (width * k + 5) (width * h + g) v 0
+      (λ (e : width * h + g ≡ width * k + 5). ne (omega (arith, e, l)) (omega (arith, e, l)))
+
+module _ (xs : List Item) (i : ℕ) (low high : List ℕ) (s : Counted xs i low high) (lt : i < length xs) (few : getD xs i noItem .history < 16) where
+  abbrev k : ℕ
+  k = getD xs i noItem .history
+
+  -- the item counted where the numbers are higher
+  pub counted-up : Counted xs (i + 1) low (set high (width * k + 5) (getD high (width * k + 5) 0 + 1))
+  counted-up =
+      record {
+        long = s .long;
+        wide = length-set high (width * k + 5) (getD high (width * k + 5) 0 + 1) ∙ s .wide;
+        numbers = λ h l. go h l (eqb k h) refl;
+        rest = λ g h l ne. stored-other high k _ few (s .wide) g h l (λ e _. ne e) ∙ s .rest g h l ne;
+        past = λ n into. past-set n low high (width * k + 5) _ (omega (arith, into i (omega arith))) (s .past n (λ j l. into j (omega (arith, l))));
+      }
+    where
+      go : (h : ℕ) → h < 16 → (b : Bool) → eqb k h ≡ b →
+          getD (set high (width * k + 5) (getD high (width * k + 5) 0 + 1)) (width * h + 5) 0 ≡ getD low (width * h + 5) 0 + itemsIn h (take (i + 1) xs)
+      go h l true e =
+          let q : k ≡ h = eqb-true k h e in
+          let at : getD high (width * k + 5) 0 ≡ getD high (width * h + 5) 0 = ap (λ (n : ℕ). getD high (width * n + 5) 0) q in
+          let one : _≡_ {A = ℕ} (cond (eqb k h) 1 0) 1 = ap (λ (b : Bool). cond b 1 0) e in
+          omega (arith, stored-here high k (getD high (width * k + 5) 0 + 1) few (s .wide) h q, at, s .numbers h l, items-next h xs i lt, one)
+      go h l false e =
+          let none : _≡_ {A = ℕ} (cond (eqb k h) 1 0) 0 = ap (λ (b : Bool). cond b 1 0) e in
+          omega (
+            arith,
+            stored-other high k (getD high (width * k + 5) 0 + 1) few (s .wide) 5 h (omega arith) (λ _ q. eqb-false k h e (sym q)),
+            s .numbers h l,
+            items-next h xs i lt,
+            none,
+          )
+
+  -- .. where they are lower
+  pub counted-down : 1 ≤ getD low (width * k + 5) 0 → Counted xs (i + 1) (set low (width * k + 5) (getD low (width * k + 5) 0 - 1)) high
+  counted-down some =
+      record {
+        long = length-set low (width * k + 5) (getD low (width * k + 5) 0 - 1) ∙ s .long;
+        wide = s .wide;
+        numbers = λ h l. go h l (eqb k h) refl;
+        rest = λ g h l ne. s .rest g h l ne ∙ sym (stored-other low k _ few (s .long) g h l (λ e _. ne e));
+        past = λ n into. s .past n (λ j l. into j (omega (arith, l))) ∙ sym (past-set n low low (width * k + 5) _ (omega (arith, into i (omega arith))) refl);
+      }
+    where
+      go : (h : ℕ) → h < 16 → (b : Bool) → eqb k h ≡ b →
+          getD high (width * h + 5) 0 ≡ getD (set low (width * k + 5) (getD low (width * k + 5) 0 - 1)) (width * h + 5) 0 + itemsIn h (take (i + 1) xs)
+      go h l true e =
+          let q : k ≡ h = eqb-true k h e in
+          let at : getD low (width * k + 5) 0 ≡ getD low (width * h + 5) 0 = ap (λ (n : ℕ). getD low (width * n + 5) 0) q in
+          let one : _≡_ {A = ℕ} (cond (eqb k h) 1 0) 1 = ap (λ (b : Bool). cond b 1 0) e in
+          omega (arith, stored-here low k (getD low (width * k + 5) 0 - 1) few (s .long) h q, at, some, s .numbers h l, items-next h xs i lt, one)
+      go h l false e =
+          let none : _≡_ {A = ℕ} (cond (eqb k h) 1 0) 0 = ap (λ (b : Bool). cond b 1 0) e in
+          omega (
+            arith,
+            stored-other low k (getD low (width * k + 5) 0 - 1) few (s .long) 5 h (omega arith) (λ _ q. eqb-false k h e (sym q)),
+            s .numbers h l,
+            items-next h xs i lt,
+            none,
+          )
+
+-- what a prefix has, all have
+items-part : (h : ℕ) (xs : List Item) (i n : ℕ) → i ≤ n → itemsIn h (take i xs) ≤ itemsIn h (take n xs)
+unfolding itemsIn
+items-part h xs zero n le = omega arith
+items-part h [] (suc i) n le = omega arith
+items-part h (x ∷ xs) (suc i) zero le = absurd (omega arith)
+items-part h (x ∷ xs) (suc i) (suc n) le = omega (arith, items-part h xs i n (omega arith))
+
+-- the next item is among those counted in all
+pub items-some : (xs : List Item) (i n : ℕ) → i < n → i < length xs → itemsIn (getD xs i noItem .history) (take i xs) + 1 ≤ itemsIn (getD xs i noItem .history) (take n xs)
+items-some xs i n l lt =
+    let k = getD xs i noItem .history in
+    let one : _≡_ {A = ℕ} (cond (eqb k k) 1 0) 1 = ap (λ (b : Bool). cond b 1 0) (T-true (eqb k k) (eqb-refl k)) in
+    omega (arith, items-part k xs (i + 1) n (omega arith), items-next k xs i lt, one)
+
+-- All items counted.
+pub counted-all : (e : Entry) (i : ℕ) (low high : List ℕ) → i ≡ e .count → Counted (e .items) i low high → CountsMore e low high
+counted-all e i low high z s =
+    record {
+      numbers = λ h l. column-in 5 high h l ∙ s .numbers h l
+          ∙ ap (λ (n : ℕ). n + itemsIn h (take i (e .items))) (sym (column-in 5 low h l)) ∙ ap (λ (n : ℕ). getD (busyIn low) h 0 + itemsIn h (take n (e .items))) z;
+      others = λ g l ne. column-same g low high (λ h _. s .rest g h l ne);
+      histories = histories-same low high (λ h f _ l. s .rest f h (omega (arith, l)) (λ (q : f ≡ 5). omega (arith, q, l)));
+      past = λ n into. s .past n (λ j l. into j (omega (arith, l, z)));
+    }
+
+-- The items of an entry count as the updates of its operation, and as those of its did line.
+pub items-asked : (h : ℕ) (e : Entry) → itemsIn h (itemsOf e) ≡ asksIn h (operationOf e)
+unfolding itemsIn asksIn operationOf
+items-asked h e = go (itemsOf e)
+  where
+    go : (xs : List Item) → itemsIn h xs ≡ sum (λ (u : Update). tell (eqb (u .history) h)) (map itemUpdate xs)
+    go [] = refl
+    go (x ∷ xs) = ap (λ (n : ℕ). cond (eqb (x .history) h) 1 0 + n) (go xs)
+
+pub items-changed : (h : ℕ) (e : Entry) → itemsIn h (itemsOf e) ≡ changesIn h (didOfEntry e)
+unfolding itemsIn changesIn didOfEntry
+items-changed h e = go (itemsOf e)
+  where
+    go : (xs : List Item) → itemsIn h xs ≡ sum (λ (x : Change). tell (eqb (x .history) h)) (map itemChange xs)
+    go [] = refl
+    go (x ∷ xs) = ap (λ (n : ℕ). cond (eqb (x .history) h) 1 0 + n) (go xs)
