@@ -10,13 +10,13 @@ use lib.Dec.{eqb, eqb-refl}
 use lib.ListN.{length, getD, set, take, length-set}
 use lib.Seq.{take-suc, getD-set-same, getD-set-other}
 use Rattle.forms.specs.Lists.{sum}
-use Rattle.forms.specs.ListLaws.{T-true}
+use Rattle.forms.specs.ListLaws.{T-true, sum-append}
 use Rattle.forms.specs.Forms.{Update, Change}
 use Rattle.rules.specs.Poll.{tell, asksIn, changesIn}
 use Rattle.history.specs.declared.Item.{Item}
 use Rattle.history.specs.declared.Entry.{Entry}
-use Rattle.history.specs.Entries.{noItem, itemsOf, itemUpdate, itemChange, operationOf, didOfEntry}
-use Rattle.history.specs.Words.{width, bookLength, busyIn, itemsIn, PastKept, CountsMore}
+use Rattle.history.specs.Entries.{noItem, itemsOf, itemUpdate, itemChange, operationOf, didOfEntry, UsableEntry, InFirst}
+use Rattle.history.specs.Words.{width, bookLength, itemsIn, entryIn, AllInFirst, PastKept, CountsMore}
 use Rattle.history.specs.WordLaws.{column-in, column-same, histories-same, past-set}
 
 items-snoc : (h : ℕ) (xs : List Item) (x : Item) → itemsIn h (xs ++ (x ∷ [])) ≡ itemsIn h xs + cond (eqb (x .history) h) 1 0
@@ -128,19 +128,59 @@ items-some xs i n l lt =
     let one : _≡_ {A = ℕ} (cond (eqb k k) 1 0) 1 = ap (λ (b : Bool). cond b 1 0) (T-true (eqb k k) (eqb-refl k)) in
     omega (arith, items-part k xs (i + 1) n (omega arith), items-next k xs i lt, one)
 
+-- a history that has one of the first k items is among the first n, when their histories are
+items-low : (n h : ℕ) (xs : List Item) (k : ℕ) → ((j : ℕ) → j < k → getD xs j noItem .history < n) → 1 ≤ itemsIn h (take k xs) → h < n
+unfolding itemsIn
+items-low n h xs zero low l = absurd (let z : 1 ≤ 0 = l in omega arith)
+items-low n h [] (suc k) low l = absurd (let z : 1 ≤ 0 = l in omega arith)
+items-low n h (x ∷ xs) (suc k) low l =
+    by (eqb (x .history) h) refl (items-low n h xs k (λ j lt. low (suc j) (omega (arith, lt)))) l
+  where
+    by : (b : Bool) → eqb (x .history) h ≡ b → (1 ≤ itemsIn h (take k xs) → h < n) → 1 ≤ cond b 1 0 + itemsIn h (take k xs) → h < n
+    by true e rest l = omega (arith, eqb-true (x .history) h e, low 0 (omega arith))
+    by false e rest l = rest (omega (arith, l))
+
+-- the histories of an entry's updates, by index and by number
+in-first : (n : ℕ) (e : Entry) → UsableEntry e → AllInFirst n (e ∷ []) → InFirst n e
+in-first n e u into j l = into (getD (e .items) j noItem .history) (omega (arith, items-some (e .items) j (e .count) l (omega (arith, u .few, u .long))))
+
+pub all-in-first : (n : ℕ) (e : Entry) → InFirst n e → AllInFirst n (e ∷ [])
+all-in-first n e within h some = items-low n h (e .items) (e .count) within (omega (arith, some))
+
 -- All items counted.
-pub counted-all : (e : Entry) (i : ℕ) (low high : List ℕ) → i ≡ e .count → Counted (e .items) i low high → CountsMore e low high
-counted-all e i low high z s =
+pub counted-all : (e : Entry) (i : ℕ) (low high : List ℕ) → UsableEntry e → i ≡ e .count → Counted (e .items) i low high → CountsMore (e ∷ []) low high
+counted-all e i low high u z s =
     record {
-      numbers = λ h l. column-in 5 high h l ∙ s .numbers h l
-          ∙ ap (λ (n : ℕ). n + itemsIn h (take i (e .items))) (sym (column-in 5 low h l)) ∙ ap (λ (n : ℕ). getD (busyIn low) h 0 + itemsIn h (take n (e .items))) z;
+      numbers = λ h l.
+          let n : itemsIn h (take i (e .items)) ≡ entryIn h e = ap (λ (n : ℕ). itemsIn h (take n (e .items))) z in
+          omega (arith, column-in 5 high h l, column-in 5 low h l, s .numbers h l, n);
       others = λ g l ne. column-same g low high (λ h _. s .rest g h l ne);
       histories = histories-same low high (λ h f _ l. s .rest f h (omega (arith, l)) (λ (q : f ≡ 5). omega (arith, q, l)));
-      past = λ n into. s .past n (λ j l. into j (omega (arith, l, z)));
+      past = λ n into. s .past n (λ j l. in-first n e u into j (omega (arith, l, z)));
     }
 
+-- ### Entries one after the other
+
+-- no entries
+pub counts-none : (ws : List ℕ) → CountsMore [] ws ws
+counts-none ws = record { numbers = λ h l. omega arith; others = λ g l ne. refl; histories = refl; past = λ n into. refl }
+
+-- two lists of entries, those behind counted where the numbers are lower
+pub counts-then : (es fs : List Entry) (low mid high : List ℕ) → CountsMore fs low mid → CountsMore es mid high → CountsMore (es ++ fs) low high
+counts-then es fs low mid high a b =
+    record {
+      numbers = λ h l. omega (arith, a .numbers h l, b .numbers h l, sum-append (entryIn h) es fs);
+      others = λ g l ne. b .others g l ne ∙ a .others g l ne;
+      histories = b .histories ∙ a .histories;
+      past = λ n into.
+          b .past n (λ h l. into h (omega (arith, l, sum-append (entryIn h) es fs)))
+          ∙ a .past n (λ h l. into h (omega (arith, l, sum-append (entryIn h) es fs)));
+    }
+
+-- ### In the specification
+
 -- The items of an entry count as the updates of its operation, and as those of its did line.
-pub items-asked : (h : ℕ) (e : Entry) → itemsIn h (itemsOf e) ≡ asksIn h (operationOf e)
+pub items-asked : (h : ℕ) (e : Entry) → entryIn h e ≡ asksIn h (operationOf e)
 unfolding itemsIn asksIn operationOf
 items-asked h e = go (itemsOf e)
   where
@@ -148,7 +188,7 @@ items-asked h e = go (itemsOf e)
     go [] = refl
     go (x ∷ xs) = ap (λ (n : ℕ). cond (eqb (x .history) h) 1 0 + n) (go xs)
 
-pub items-changed : (h : ℕ) (e : Entry) → itemsIn h (itemsOf e) ≡ changesIn h (didOfEntry e)
+pub items-changed : (h : ℕ) (e : Entry) → entryIn h e ≡ changesIn h (didOfEntry e)
 unfolding itemsIn changesIn didOfEntry
 items-changed h e = go (itemsOf e)
   where

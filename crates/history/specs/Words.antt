@@ -5,7 +5,7 @@ use mathlib.Core.Bool.{cond}
 use mathlib.Core.List.{List, [], _∷_, map}
 use lib.Dec.{ltb, eqb}
 use lib.ListN.{getD, set, drop}
-use Rattle.forms.specs.Lists.{below}
+use Rattle.forms.specs.Lists.{below, sum}
 use Rattle.history.specs.declared.History.{History}
 use Rattle.history.specs.declared.Item.{Item}
 use Rattle.history.specs.declared.Entry.{Entry}
@@ -106,14 +106,22 @@ pub record AppliesIn (e : Entry) (old new : List ℕ) : Type 0 where
 
 -- ### Updates that are future, in progress or volatile
 
--- how many of an entry's items are in history h
+-- how many of some items are in history h
 unfoldable pub itemsIn : ℕ → List Item → ℕ
 itemsIn h [] = 0
 itemsIn h (x ∷ xs) = cond (eqb (x .history) h) 1 0 + itemsIn h xs
 
--- Each history has its number of updates of the entry more in `high` than in `low`; nothing else differs.
-pub record CountsMore (e : Entry) (low high : List ℕ) : Type 0 where
-  pub numbers : (h : ℕ) → h < 16 → getD (busyIn high) h 0 ≡ getD (busyIn low) h 0 + itemsIn h (itemsOf e)
+-- how many updates in history h an entry has
+abbrev pub entryIn : ℕ → Entry → ℕ
+entryIn h e = itemsIn h (itemsOf e)
+
+-- All updates of the entries are in the first n histories.
+abbrev pub AllInFirst : ℕ → List Entry → Type 0
+AllInFirst n es = (h : ℕ) → 1 ≤ sum (entryIn h) es → h < n
+
+-- Each history has its number of updates of the entries more in `high` than in `low`; nothing else differs.
+pub record CountsMore (es : List Entry) (low high : List ℕ) : Type 0 where
+  pub numbers : (h : ℕ) → h < 16 → getD (busyIn high) h 0 ≡ getD (busyIn low) h 0 + sum (entryIn h) es
   pub others : (g : ℕ) → g < width → (g ≡ 5 → ⊥) → columnFrom g high ≡ columnFrom g low
   pub histories : historiesIn high ≡ historiesIn low
-  pub past : (n : ℕ) → InFirst n e → PastKept n low high
+  pub past : (n : ℕ) → AllInFirst n es → PastKept n low high

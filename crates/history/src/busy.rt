@@ -1,9 +1,10 @@
 // The numbers of updates that are future, in progress or volatile: an entry's updates more, or fewer.
-ghost use Prim.Native.Nat.{ℕ, _+_, _≤_, _<_};
+ghost use mathlib.Core.List.{[], _∷_};
+ghost use Prim.Native.Nat.{ℕ, _+_, _≤_};
 ghost use lib.ListN.{getD};
 ghost use Rattle.forms.specs.Decimal.{top};
-ghost use Rattle.history.specs.Entries.{UsableEntry, itemsOf};
-ghost use Rattle.history.specs.Words.{busyIn, itemsIn, CountsMore};
+ghost use Rattle.history.specs.Entries.{UsableEntry};
+ghost use Rattle.history.specs.Words.{busyIn, entryIn, CountsMore};
 use super::Entry;
 use super::book::BUSY;
 use super::book::BookWords;
@@ -12,8 +13,8 @@ use super::book::known_length;
 
 // Each history of the entry's updates has one more of them.
 pub fn raise(book: &mut BookWords, e: Entry)
-    requires { ⌜ UsableEntry e × ((h : ℕ) → h < 16 → getD (busyIn (now book)) h 0 + itemsIn h (itemsOf e) ≤ top) ⌝ }
-    ensures { λ r. ⌜ CountsMore e (now (book .entry)) (now (book .exit)) ⌝ }
+    requires { ⌜ UsableEntry e × ((h : ℕ) → 1 ≤ entryIn h e → getD (busyIn (now book)) h 0 + entryIn h e ≤ top) ⌝ }
+    ensures { λ r. ⌜ CountsMore (e ∷ []) (now (book .entry)) (now (book .exit)) ⌝ }
 {
     known_length(book);
     let n = e.count;
@@ -28,8 +29,8 @@ pub fn raise(book: &mut BookWords, e: Entry)
 
 // Each history of the entry's updates has one fewer of them.
 pub fn lower(book: &mut BookWords, e: Entry)
-    requires { ⌜ UsableEntry e × ((h : ℕ) → h < 16 → itemsIn h (itemsOf e) ≤ getD (busyIn (now book)) h 0) ⌝ }
-    ensures { λ r. ⌜ CountsMore e (now (book .exit)) (now (book .entry)) ⌝ }
+    requires { ⌜ UsableEntry e × ((h : ℕ) → 1 ≤ entryIn h e → entryIn h e ≤ getD (busyIn (now book)) h 0) ⌝ }
+    ensures { λ r. ⌜ CountsMore (e ∷ []) (now (book .exit)) (now (book .entry)) ⌝ }
 {
     known_length(book);
     let n = e.count;

@@ -54,7 +54,8 @@ sub-book c =
     let xs = e .args .t2 .items in
     let k = getD xs (l .i) noItem .history in
     let lt : l .i < length xs = omega (arith, taken, e .pre .0 .few, e .pre .0 .long) in
-    omega (arith, l .inv .2 .numbers k low, items-some xs (l .i) (e .args .t2 .count) taken lt, e .pre .1 k low, column-in 5 (now (e .args .book)) k low)
+    let some = items-some xs (l .i) (e .args .t2 .count) taken lt in
+    omega (arith, l .inv .2 .numbers k low, some, e .pre .1 k (omega (arith, some)), column-in 5 (now (e .args .book)) k low)
 
 mul-book-2 : tie.Need-mul-book-2 Inv-loop μ-loop
 mul-book-2 c = omega (arith, c .before .before .before .before .before .before .before .before .pre .0 .each (c .before .before .before .before .loop .i) (c .before .before .before .loop-test .taken) .history)
@@ -76,18 +77,19 @@ loop-again c =
     let low = e .pre .0 .each (l .i) taken .history in
     let xs = e .args .t2 .items in
     let k = getD xs (l .i) noItem .history in
-    let lt : l .i < length xs = omega (arith, taken, e .pre .0 .few, e .pre .0 .long) in (
+    let lt : l .i < length xs = omega (arith, taken, e .pre .0 .few, e .pre .0 .long) in
+    let some = items-some xs (l .i) (e .args .t2 .count) taken lt in (
       omega (arith, taken),
       refl,
       counted-down xs (l .i) (l .book) (now (e .args .book)) (l .inv .2) lt low
-          (omega (arith, l .inv .2 .numbers k low, items-some xs (l .i) (e .args .t2 .count) taken lt, e .pre .1 k low, column-in 5 (now (e .args .book)) k low)),
+          (omega (arith, l .inv .2 .numbers k low, some, e .pre .1 k (omega (arith, some)), column-in 5 (now (e .args .book)) k low)),
     )
 
 returns : tie.Need-returns Inv-loop μ-loop
 returns c =
     let e = c .before .before .before .before .before in
     let l = c .before .loop in
-    counted-all (e .args .t2) (l .i) (l .book) (now (e .args .book)) (omega (arith, l .inv .0, c .loop-test .left)) (l .inv .2)
+    counted-all (e .args .t2) (l .i) (l .book) (now (e .args .book)) (e .pre .0) (omega (arith, l .inv .0, c .loop-test .left)) (l .inv .2)
 
 pub lower-spec : {M : Type 1} → statement M
 lower-spec =
