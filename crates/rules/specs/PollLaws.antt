@@ -3,7 +3,8 @@ use mathlib.Core.Path.{_≡_, refl, sym, ap, ap₂, subst, _∙_}
 use mathlib.Core.Bool.{Bool, true, false, cond, not, _&&_, _||_}
 use mathlib.Core.List.{List, [], _∷_, _++_, map, map-append}
 use mathlib.Core.List.{List·Memᴰ as Mem, List·Memᴰ·head as here, List·Memᴰ·tail as there, Memᴰ·map, Memᴰ·append-left, Memᴰ·append-right}
-use Prim.Native.Nat.{ℕ, zero, suc, _+_, _≤_}
+use mathlib.Core.Option.{none}
+use Prim.Native.Nat.{ℕ, zero, suc, _+_, _≤_, _<_}
 use native.Mathlib.Omega.{arith}
 use borrow.Author.Tests.{ne-eqb}
 use lib.Dec.{T, leb, eqb, eqb-refl, eqb→eq}
@@ -14,6 +15,7 @@ use Rattle.forms.specs.ListLaws.{Nodup, nodup-right, nodup-mid, mem-split, mem-
 use Rattle.forms.specs.Forms.{Update, Change, Did}
 use Rattle.forms.specs.declared.Refusal.the-variants.{NoSuchHistory}
 use Rattle.rules.specs.Book.{touches}
+use Rattle.rules.specs.Checks.{changesRefusal}
 use Rattle.forms.specs.Limits.{liveLimit}
 use Rattle.rules.specs.State.{Operation, State, asks, dry, live, liveDone, withPending, withLog, withWaiting, withMarks}
 use Rattle.rules.specs.Calls.{attempt, tryAll, arrived, changeOf, lineOf, without, restarted}
@@ -157,10 +159,10 @@ busy-finished st x h G m =
     )
 
 -- A redo: the updates of the lines that ran more; lines that wait do not count.
-pub busy-redone : (st : State) (more waiting : List Did) (h : ℕ) → Good st →
+pub busy-redone : (st : State) (more waiting : List Did) (h : ℕ) → st .persistentTo ≤ length (st .log) →
     busy (withLog (st .log ++ more) (withWaiting waiting st)) h ≡ busy st h + sum (changesIn h) more
 unfolding busy
-busy-redone st more waiting h G = omega (arith, volatile-more h (st .persistentTo) (st .log) more (G .persistentBelow))
+busy-redone st more waiting h le = omega (arith, volatile-more h (st .persistentTo) (st .log) more le)
 
 drop-take : {A : Type 0} (p q : ℕ) (l : List A) → p ≤ q → drop p l ≡ drop p (take q l) ++ drop q l
 drop-take zero q l le = sym (take-append-drop q l)
@@ -203,13 +205,31 @@ once-few f h (x ∷ l) once = go (eqb (f x) h) refl (once-few f h l (once .1))
     go true e below = omega (arith, rest e)
     go false e below = omega (arith, below)
 
--- "each at most 64"
-pub busy-few : (st : State) (h : ℕ) → Good st → busy st h ≤ liveLimit
+-- a history that one of them has is among the first n, when theirs are
+known-low : {A : Type 0} (f : A → ℕ) (n h : ℕ) (l : List A) → ((x : A) → Mem x l → f x < n) → 1 ≤ sum (λ (x : A). tell (eqb (f x) h)) l → h < n
+known-low f n h [] low some = absurd (let z : 1 ≤ 0 = some in omega arith)
+known-low f n h (x ∷ l) low some = by (eqb (f x) h) refl (known-low f n h l (λ y m. low y (there m))) some
+  where
+    by : (b : Bool) → eqb (f x) h ≡ b → (1 ≤ sum (λ y. tell (eqb (f y) h)) l → h < n) → 1 ≤ tell b + sum (λ y. tell (eqb (f y) h)) l → h < n
+    by true e rest l = omega (arith, eqb→eq (f x) h (true-T (eqb (f x) h) e), low x (here refl))
+    by false e rest l = rest (omega (arith, l))
+
+-- A line that passed 2 to 5 counts at most once in a history, and not at all in one that is not there.
+module _ (n h : ℕ) (d : Did) (formed : changesRefusal n (d .changes) ≡ none) where
+  pub line-once : changesIn h d ≤ 1
+  unfolding changesIn
+  line-once = once-few (λ (x : Change). x .history) h (d .changes) (formed-changes n (d .changes) formed .once)
+
+  pub line-known : 1 ≤ changesIn h d → h < n
+  unfolding changesIn
+  line-known some = known-low (λ (x : Change). x .history) n h (d .changes) (formed-changes n (d .changes) formed .known) some
+
+-- A live operation counts at most once, a line that waits not at all.
+pub busy-live : (st : State) (h : ℕ) → Good st → busy st h + length (st .waiting) ≤ live st
 unfolding busy asksIn changesIn live liveDone
-busy-few st h G =
+busy-live st h G =
     omega (
       arith,
-      G .few,
       G .stableBelow,
       few (asksIn h) (st .pending) asked,
       few (changesIn h) (drop (st .persistentTo) (st .log)) changed,
@@ -226,6 +246,9 @@ busy-few st h G =
 
     changed : (d : Did) → Mem d (drop (st .persistentTo) (st .log)) → changesIn h d ≤ 1
     changed d m =
-        once-few (λ (x : Change). x .history) h (d .changes)
-        (formed-changes (st .histories) (d .changes)
-        (G .formed d (mem-along (take-append-drop (st .persistentTo) (st .log)) (Memᴰ·append-right (take (st .persistentTo) (st .log)) m)) .passes) .once)
+        line-once (st .histories) h d
+        (G .formed d (mem-along (take-append-drop (st .persistentTo) (st .log)) (Memᴰ·append-right (take (st .persistentTo) (st .log)) m)) .passes)
+
+-- "each at most 64"
+pub busy-few : (st : State) (h : ℕ) → Good st → busy st h ≤ liveLimit
+busy-few st h G = omega (arith, G .few, busy-live st h G)

@@ -1,42 +1,31 @@
--- What the done operations say of the log: the histories they touch, and the versions after each of them.
+-- What the done operations say of the log: the versions after each of them; and the histories that replies name.
 use Prim.Native.Nat.{ℕ, zero, suc, _+_, _≤_, _<_}
 use native.Mathlib.Omega.{arith}
-use mathlib.Core.Path.{_≡_, refl, sym, ap, ap₂, subst, fun-ext, _∙_}
-use mathlib.Core.Bool.{Bool, true, false, cond, not, _&&_, _||_}
+use mathlib.Core.Path.{_≡_, refl, sym, ap, ap₂, subst, _∙_}
+use mathlib.Core.Bool.{Bool, true, false, cond, not, _&&_}
 use mathlib.Core.List.{List, [], _∷_, _++_, map, append-assoc, append-nil}
 use mathlib.Core.List.{List·Memᴰ as Mem, List·Memᴰ·head as here, List·Memᴰ·tail as there, Memᴰ·append-right, Memᴰ·map}
-use borrow.Author.Tests.{eqb-true, ne-eqb}
+use borrow.Author.Tests.{eqb-true, ne-eqb, lt-ltb}
 use lib.Dec.{T, eqb, ltb}
 use lib.ListN.{getD, take, drop, take-append-drop}
 use lib.Seq.{take-add, take-take}
-use Rattle.forms.specs.Lists.{any, keep, below}
+use Rattle.forms.specs.Lists.{keep, below}
 use Rattle.forms.specs.ListLaws.{Nodup, Prefix, mem-along, keep-append}
 use Rattle.forms.specs.Forms.{Change, Did}
-use Rattle.rules.specs.Book.{Cell, cell, entered, enterAll, enterAllWith, enterWith, touches, runsAt, canRun}
-use Rattle.rules.specs.State.{State, asks, dry, becameDry, rose, versionAt}
+use Rattle.rules.specs.Book.{Cell, cell, entered, enterAll, enterAllWith, enterWith, runsAt, canRun}
+use Rattle.rules.specs.Poll.{busy}
+use Rattle.rules.specs.PollLaws.{dry-is}
+use Rattle.rules.specs.State.{State, dry, becameDry, rose, versionAt}
 use Rattle.rules.specs.Good.{FormedDid, Ran}
 use Rattle.rules.specs.BookLaws.{once-formed, enterAll-other, entered-version, can-run-at, cell-snoc}
 use Rattle.rules.specs.LogLaws.{ran-front, mem-front}
 use Rattle.history.specs.declared.Item.{Item}
 use Rattle.history.specs.declared.Entry.{Entry}
-use Rattle.history.specs.Entries.{itemChange, itemsOf, operationOf, didOfEntry}
-use Rattle.history.specs.Tests.{any-map}
-use Rattle.table.specs.Arrays.{Tabulates, rises, ceases}
-use Rattle.table.specs.Tables.{rowsIn, entryTouches, versionBy, versionFrom}
-use Rattle.table.specs.Tries.{operationsOf}
-use Rattle.table.specs.ArrayLaws.{says-like}
-use Rattle.table.specs.EntryLaws.{entry-asks, entry-touches}
+use Rattle.history.specs.Entries.{itemChange, itemsOf, didOfEntry}
+use Rattle.table.specs.declared.versions.Naming.the-variants.{Risen, Dried}
+use Rattle.table.specs.Arrays.{names, singled}
+use Rattle.table.specs.Tables.{rowsIn, versionBy, versionFrom}
 use Rattle.table.specs.RangeLaws.{map-take, map-drop, range-part}
-
--- ### Histories
-
--- the histories that done operations touch
-pub touched-is : (h : ℕ) (es : List Entry) → any (entryTouches h) es ≡ any (touches h) (map didOfEntry es)
-touched-is h es = ap (λ (p : Entry → Bool). any p es) (fun-ext (entry-touches h)) ∙ sym (any-map didOfEntry (touches h) es)
-
--- the histories that operations not done ask for
-pub asked-is : (h : ℕ) (es : List Entry) → any (entryTouches h) es ≡ any (asks h) (operationsOf es)
-asked-is h es = ap (λ (p : Entry → Bool). any p es) (fun-ext (entry-asks h)) ∙ sym (any-map operationOf (asks h) es)
 
 -- ### Versions
 
@@ -165,33 +154,24 @@ keep-below p q (suc n) e =
 -- the histories whose persistent (stable) version rose
 pub rose-is : (before after : List ℕ) (m k : ℕ) (st : State)
     → ((h : ℕ) → h < st .histories → getD before h 0 ≡ versionAt m h st) → ((h : ℕ) → h < st .histories → getD after h 0 ≡ versionAt k h st)
-    → keep (rises before after) (below (st .histories)) ≡ rose m k st
-unfolding rose
+    → keep (singled Risen before after) (below (st .histories)) ≡ rose m k st
+unfolding rose names
 rose-is before after m k st a b =
-    keep-below (rises before after) (λ (h : ℕ). ltb (versionAt m h st) (versionAt k h st)) (st .histories)
+    keep-below (singled Risen before after) (λ (h : ℕ). ltb (versionAt m h st) (versionAt k h st)) (st .histories)
     (λ h l. ap₂ ltb (a h l) (b h l))
 
--- marks of what keeps a history from being dry
-pub wet-is : (r : List Bool) (st : State)
-    → Tabulates false r (λ (h : ℕ). any (asks h) (st .pending) || any (touches h) (drop (st .persistentTo) (st .log)))
-    → Tabulates false r (λ (h : ℕ). not (dry st h))
-unfolding dry
-wet-is r st a = says-like false r _ _ a (λ h l. either (any (asks h) (st .pending)) (any (touches h) (drop (st .persistentTo) (st .log))))
-  where
-    either : (x y : Bool) → (x || y) ≡ not (not x && not y)
-    either true y = refl
-    either false true = refl
-    either false false = refl
+-- a number above 0
+above-zero : (n : ℕ) → ltb 0 n ≡ not (eqb n 0)
+above-zero zero = refl
+above-zero (suc n) = lt-ltb 0 (suc n) (omega arith) ∙ ap not (sym (ne-eqb (suc n) 0 (λ e. omega (arith, e))))
 
--- the histories that became dry
-pub became-dry-is : (before after : List Bool) (st next : State) → st .histories ≤ 16
-    → Tabulates false before (λ (h : ℕ). not (dry st h)) → Tabulates false after (λ (h : ℕ). not (dry next h))
-    → keep (ceases before after) (below (st .histories)) ≡ becameDry st next
-unfolding becameDry
-became-dry-is before after st next le a b =
-    keep-below (ceases before after) (λ (h : ℕ). not (dry st h) && dry next h) (st .histories)
-    (λ h l. ap₂ _&&_ (a .each h (omega arith)) (ap not (b .each h (omega arith)) ∙ twice (dry next h)))
-  where
-    twice : (x : Bool) → not (not x) ≡ x
-    twice true = refl
-    twice false = refl
+-- the histories that became dry, by the numbers of their updates that are future, in progress or volatile
+pub dried-is : (before after : List ℕ) (st next : State)
+    → ((h : ℕ) → h < st .histories → getD before h 0 ≡ busy st h) → ((h : ℕ) → h < st .histories → getD after h 0 ≡ busy next h)
+    → keep (singled Dried before after) (below (st .histories)) ≡ becameDry st next
+unfolding becameDry names
+dried-is before after st next a b =
+    keep-below (singled Dried before after) (λ (h : ℕ). not (dry st h) && dry next h) (st .histories)
+    (λ h l. ap₂ _&&_
+    (ap (ltb 0) (a h l) ∙ above-zero (busy st h) ∙ ap not (sym (dry-is st h)))
+    (ap (λ (n : ℕ). eqb n 0) (b h l) ∙ sym (dry-is next h)))

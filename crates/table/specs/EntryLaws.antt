@@ -6,19 +6,17 @@ use mathlib.Core.Logic.{_⊎_, inl, inr}
 use mathlib.Core.Bool.{Bool}
 use mathlib.Core.List.{List, [], _∷_, map}
 use mathlib.Core.List.{List·Memᴰ as Mem, List·Memᴰ·not-nil, List·Memᴰ·cases-cons}
-use lib.Dec.{eqb}
 use lib.ListN.{length, getD, take}
 use Rattle.forms.specs.Forms.{Update, Change, Did}
 use Rattle.rules.specs.Rules.{mayRun}
-use Rattle.rules.specs.Book.{Cell, cell, runsAt, canRun, canRunWith, touches}
-use Rattle.rules.specs.State.{asks}
+use Rattle.rules.specs.Book.{Cell, cell, runsAt, canRun, canRunWith}
 use Rattle.history.specs.declared.History.{History}
 use Rattle.history.specs.declared.Item.{Item}
 use Rattle.history.specs.declared.Entry.{Entry}
-use Rattle.history.specs.Entries.{noHistory, cellOf, cellsOf, noItem, itemUpdate, itemChange, itemsOf, operationOf, didOfEntry, canRunIn}
+use Rattle.history.specs.Entries.{noHistory, cellOf, cellsOf, noItem, itemUpdate, itemChange, operationOf, didOfEntry, canRunIn}
 use Rattle.history.specs.Entries.{mayRunIn, UsableEntry}
-use Rattle.history.specs.Tests.{all-agree, any-map}
-use Rattle.table.specs.Tables.{canRunEntry, entryTouches}
+use Rattle.history.specs.Tests.{all-agree}
+use Rattle.table.specs.Tables.{canRunEntry}
 use Rattle.table.specs.Tries.{entryUpdates}
 
 -- what is made of the items of a usable entry keeps their histories
@@ -59,12 +57,3 @@ module _ (hs : List History) (y : Item) {h : History} {b : Bool} where
       → mayRunIn (cellsOf hs) (itemUpdate y) ≡ b
   unfolding mayRunIn
   may-read f g = sym (g ∙ ap (λ (k : History). mayRun (y .rule) (k .version .0) (y .version .0)) f)
-
--- An entry has an update in a history where its operation asks for it, and where its did line touches it.
-pub entry-asks : (h : ℕ) (e : Entry) → entryTouches h e ≡ asks h (operationOf e)
-unfolding entryTouches asks operationOf
-entry-asks h e = sym (any-map itemUpdate (λ (u : Update). eqb (u .history) h) (itemsOf e))
-
-pub entry-touches : (h : ℕ) (e : Entry) → entryTouches h e ≡ touches h (didOfEntry e)
-unfolding entryTouches touches didOfEntry
-entry-touches h e = sym (any-map itemChange (λ (x : Change). eqb (x .history) h) (itemsOf e))

@@ -20,6 +20,7 @@ pub mod NumberLaws
 pub mod MarkLaws
 pub mod LookupLaws
 pub mod VersionLaws
+pub mod BusyLaws
 pub mod TryLaws
 pub mod PassLaws
 pub mod FindLaws

@@ -15,12 +15,12 @@ use Rattle.rules.specs.State.{Operation}
 use Rattle.rules.specs.Calls.{blockedBy, blocked}
 use Rattle.history.specs.declared.Item.{Item}
 use Rattle.history.specs.declared.Entry.{Entry}
-use Rattle.history.specs.Entries.{noItem, itemUpdate, itemsOf, operationOf, UsableEntry}
+use Rattle.history.specs.Entries.{noItem, itemUpdate, operationOf, UsableEntry}
 use Rattle.history.specs.Tests.{any-map}
 use Rattle.table.specs.declared.Marks.{Marks}
 use Rattle.table.specs.Arrays.{Tabulates}
 use Rattle.table.specs.Rows.{rowAt}
-use Rattle.table.specs.Tables.{rowsIn, entryTouches}
+use Rattle.table.specs.Tables.{rowsIn}
 use Rattle.table.specs.Tries.{gather, inHistory, strongIn, entryUpdates, held, MarksOf, More, freeBy}
 use Rattle.table.specs.LoopLaws.{any-append}
 use Rattle.table.specs.ArrayLaws.{says-like, says-start, says-next, says-nothing}
@@ -131,15 +131,6 @@ pub marked-start : (f : Entry → List Update) (o ws : List ℕ) (from : ℕ)
     → MarksOf (record { any = replicate 16 false; strong = replicate 16 false }) (gather f (rowsIn o ws from from))
 unfolding gather
 marked-start f o ws from = subst (MarksOf _) (ap (gather f) (sym (range-none o ws from))) marked-none
-
--- the histories that the entries' updates are in
-pub touched-by : (m : Marks) (l : List Entry) → MarksOf m (gather entryUpdates l)
-    → Tabulates false (m .any) (λ (h : ℕ). any (entryTouches h) l)
-unfolding entryTouches operationOf
-touched-by m l a =
-    says-like false (m .any) _ _ (a .each)
-    (λ h k. any-gather entryUpdates (inHistory h) l
-    ∙ ap (λ (p : Entry → Bool). any p l) (fun-ext (λ e. any-map itemUpdate (inHistory h) (itemsOf e))))
 
 -- ### Blocked
 

@@ -2,7 +2,7 @@
 use Prim.Native.Nat.{ℕ, _+_, _-_, _≤_, _<_}
 use native.Mathlib.Omega.{arith}
 use mathlib.Core.Path.{_≡_, sym, ap, subst, _∙_}
-use mathlib.Core.Bool.{Bool, true, false, _&&_}
+use mathlib.Core.Bool.{Bool, true, false}
 use mathlib.Core.List.{List, [], _∷_, _++_, map, map-append, append-nil}
 use lib.ListN.{length, getD}
 use Rattle.forms.specs.Lists.{keep, below}
@@ -54,10 +54,6 @@ module _ (p : ℕ → Bool) (old : List ℕ) (at n : ℕ) (ws : List ℕ) (h : �
         few = omega (arith, a .few);
         is = subst (IsNumbers old at n ws) (sym (append-nil (keep p (below h))) ∙ sym (below-next p h false e)) (a .is);
       }))
-
--- a test that fails in its first half
-pub and-no : (a b : Bool) → a ≡ false → (a && b) ≡ false
-and-no a b e = ap (λ (t : Bool). t && b) e
 
 pub kept-none : (p : ℕ → Bool) (ws : List ℕ) (at : ℕ) → length ws ≡ 68 → KeptBelow p 0 ws at 0 ws
 unfolding below

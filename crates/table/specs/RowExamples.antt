@@ -1,16 +1,15 @@
 -- Three rows and an order of two live entries, computed: the ids and versions of a range, and the entry of an id, that of a free one not.
 use Prim.Native.Nat.{ℕ}
 use mathlib.Core.Path.{_≡_, refl}
-use mathlib.Core.Bool.{true, false}
 use mathlib.Core.List.{List, [], _∷_, _++_, map}
 use lib.ListN.{take, replicate}
-use Rattle.forms.specs.Lists.{any}
-use Rattle.history.specs.Words.{within}
+use Rattle.forms.specs.Lists.{sum}
+use Rattle.history.specs.Words.{within, itemsIn, entryIn}
 use Rattle.table.specs.declared.Found.the-variants.{At as FoundAt}
 use Rattle.table.specs.declared.Lookup.the-variants.{At, Nothing}
 use Rattle.table.specs.Lists.{firstAt}
 use Rattle.table.specs.Rows.{ruleNamed, itemAt, entryFrom}
-use Rattle.table.specs.Tables.{rowsIn, idOf, hasId, entryOf, entryTouches, versionBy, versionFrom}
+use Rattle.table.specs.Tables.{rowsIn, idOf, hasId, entryOf, versionBy, versionFrom}
 
 -- a row with one update: history 1 set at this version
 abbrev oneRow : ℕ → ℕ → List ℕ
@@ -40,13 +39,14 @@ pub freed-example : entryOf words 9 (take 2 order) ≡ Nothing
 unfolding entryFrom entryOf
 freed-example = refl
 
-pub touched-example : any (entryTouches 1) (rowsIn order words 0 2) ≡ true
-unfolding entryFrom itemAt within ruleNamed entryTouches
-touched-example = refl
+-- both are in history 1
+pub counted-example : sum (entryIn 1) (rowsIn order words 0 2) ≡ 2
+unfolding entryFrom itemAt within ruleNamed itemsIn
+counted-example = refl
 
-pub untouched-example : any (entryTouches 2) (rowsIn order words 0 2) ≡ false
-unfolding entryFrom itemAt within ruleNamed entryTouches
-untouched-example = refl
+pub uncounted-example : sum (entryIn 2) (rowsIn order words 0 2) ≡ 0
+unfolding entryFrom itemAt within ruleNamed itemsIn
+uncounted-example = refl
 
 -- each operation sets the version to its own, the later one last
 pub versions-example : versionFrom 1 3 (rowsIn order words 0 2) ≡ 4

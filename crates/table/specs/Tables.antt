@@ -5,7 +5,6 @@ use mathlib.Core.Bool.{Bool, cond, not, _&&_}
 use mathlib.Core.List.{List, [], _∷_, map}
 use lib.Dec.{eqb}
 use lib.ListN.{length, getD, take, drop}
-use Rattle.forms.specs.Lists.{any}
 use Rattle.rules.specs.Book.{Cell}
 use Rattle.history.specs.declared.Item.{Item}
 use Rattle.history.specs.declared.Entry.{Entry}
@@ -56,10 +55,6 @@ idOf e = e .id
 -- Can the entry run, as a did line?
 abbrev pub canRunEntry : (ℕ → Cell) → Entry → Bool
 canRunEntry cells e = canRunIn cells (didOfEntry e)
-
--- Has the entry an update in history h?
-unfoldable pub entryTouches : ℕ → Entry → Bool
-entryTouches h e = any (λ (x : Item). eqb (x .history) h) (itemsOf e)
 
 -- The version of history h after some updates, each of which sets it to its own, v before them.
 unfoldable pub versionBy : ℕ → ℕ → List Item → ℕ

@@ -1,13 +1,12 @@
 // What blocks an update: of each history, whether an update of some entries is in it, and whether a strong one is.
 ghost use mathlib.Core.Path.{_≡_};
-ghost use mathlib.Core.Bool.{false, _||_};
-ghost use Prim.Native.Nat.{ℕ, _≤_, _<_};
+ghost use mathlib.Core.Bool.{_||_};
+ghost use Prim.Native.Nat.{_≤_, _<_};
 ghost use lib.ListN.{length};
 ghost use Rattle.forms.specs.Lists.{any};
 ghost use Rattle.history.specs.Entries.{UsableEntry, itemUpdate};
-ghost use Rattle.table.specs.Arrays.{Tabulates};
 ghost use Rattle.table.specs.Ends.{was};
-ghost use Rattle.table.specs.Tables.{rowsIn, Usable, entryTouches};
+ghost use Rattle.table.specs.Tables.{rowsIn, Usable};
 ghost use Rattle.table.specs.Tries.{entryUpdates, heldOf, gather, MarksOf, More, freeBy};
 use super::Marks;
 use super::order::Order;
@@ -68,24 +67,6 @@ pub fn is_free(m: Marks, x: Item) -> bool
     } else {
         !m.strong[at]
     }
-}
-
-// Which histories the entries' updates are in.
-pub fn touched(order: &Order, rows: &[u64], from: usize, to: usize) -> [bool; 16]
-    requires { ⌜ Usable (now order) (now rows) to × (from ≤ to) ⌝ }
-    ensures { λ r. ⌜ Tabulates false r (λ (h : ℕ). any (entryTouches h) (rowsIn (was order) (was rows) from to)) ⌝ }
-{
-    let mut m = Marks {
-        any: [false; 16],
-        strong: [false; 16],
-    };
-    let mut i = from;
-    while i < to {
-        let e = row_at(rows, order[i] as usize);
-        m = marked(m, e);
-        i += 1;
-    }
-    m.any
 }
 
 // The marks of what is in progress.

@@ -16,6 +16,7 @@ use rows::put_row;
 use rows::row_at;
 
 pub mod blocking;
+pub mod busy;
 pub mod order;
 pub mod rows;
 pub mod search;

@@ -1,11 +1,12 @@
 // Versions after done operations, and lists of histories that two arrays single out.
+ghost use mathlib.Core.Path.{_≡_};
 ghost use mathlib.Core.List.{[], _∷_};
 ghost use Prim.Native.Nat.{ℕ, _≤_};
 ghost use lib.ListN.{getD};
 ghost use Rattle.forms.specs.Lists.{keep, below};
 ghost use Rattle.history.specs.Entries.{UsableEntry};
 ghost use Rattle.history.specs.Lists.{Lists};
-ghost use Rattle.table.specs.Arrays.{Tabulates, rises, ceases};
+ghost use Rattle.table.specs.Arrays.{Tabulates, names, singled};
 ghost use Rattle.table.specs.Ends.{was, left};
 ghost use Rattle.table.specs.Rows.{HasRow, rowAt};
 ghost use Rattle.table.specs.Tables.{rowsIn, Usable, versionFrom};
@@ -15,6 +16,12 @@ use super::rows::item_in;
 use super::search::push_number;
 use forms::ReplyNumbers;
 use history::book::known_length;
+
+// What a reply names histories for: a version that rose, or that the last update which kept it from being dry is gone.
+pub enum Naming {
+    Risen,
+    Dried,
+}
 
 // The histories' versions after the done operation in the row of entry e.
 fn stamp(versions: [u64; 16], rows: &[u64], e: usize) -> [u64; 16]
@@ -54,8 +61,19 @@ pub fn advance(
     vs
 }
 
-// The histories below `n` whose version is greater after than before, rising, as a list from `at` on; how many they are.
-pub fn rose(
+// Whether a reply names a history by its number before and after.
+fn is_named(naming: Naming, before: u64, after: u64) -> bool
+    ensures { λ r. ⌜ r ≡ names naming before after ⌝ }
+{
+    match naming {
+        Naming::Risen => before < after,
+        Naming::Dried => 0 < before && after == 0,
+    }
+}
+
+// The histories below `n` that a reply names by their numbers before and after, rising, as a list from `at` on; how many they are.
+pub fn name_histories(
+    naming: Naming,
     before: [u64; 16],
     after: [u64; 16],
     n: usize,
@@ -63,37 +81,13 @@ pub fn rose(
     at: usize,
 ) -> usize
     requires { ⌜ (n ≤ 16) × (at ≤ 16) ⌝ }
-    ensures { λ r. ⌜ Lists (was lists) at (keep (rises before after) (below n)) r (left lists) ⌝ }
+    ensures { λ r. ⌜ Lists (was lists) at (keep (singled naming before after) (below n)) r (left lists) ⌝ }
 {
     known_length(lists);
     let mut count: usize = 0;
     let mut h = 0;
     while h < n {
-        if before[h] < after[h] {
-            push_number(lists, at + count, h as u64);
-            count += 1;
-        }
-        h += 1;
-    }
-    count
-}
-
-// The histories below `n` that are marked before and not after, rising, as a list from `at` on; how many they are.
-pub fn became_dry(
-    before: [bool; 16],
-    after: [bool; 16],
-    n: usize,
-    lists: &mut ReplyNumbers,
-    at: usize,
-) -> usize
-    requires { ⌜ (n ≤ 16) × (at ≤ 16) ⌝ }
-    ensures { λ r. ⌜ Lists (was lists) at (keep (ceases before after) (below n)) r (left lists) ⌝ }
-{
-    known_length(lists);
-    let mut count: usize = 0;
-    let mut h = 0;
-    while h < n {
-        if before[h] && !after[h] {
+        if is_named(naming, before[h], after[h]) {
             push_number(lists, at + count, h as u64);
             count += 1;
         }
