@@ -1,13 +1,13 @@
 -- Counting an entry's updates item by item in the words of a book.
 use Prim.Native.Nat.{ℕ, zero, suc, _+_, _-_, _*_, _≤_, _<_}
 use native.Mathlib.Omega.{arith}
-use mathlib.Core.Path.{_≡_, refl, sym, ap, _∙_}
+use mathlib.Core.Path.{_≡_, refl, sym, ap, ap₂, _∙_}
 use mathlib.Core.Bool.{Bool, true, false, cond}
 use mathlib.Core.List.{List, [], _∷_, _++_, map}
 use borrow.Author.Tests.{eqb-true, eqb-false}
 use native.Mathlib.Numerals.{add-one}
 use lib.Dec.{eqb, eqb-refl}
-use lib.ListN.{length, getD, set, take, length-set}
+use lib.ListN.{length, getD, set, take, length-set, length-take}
 use lib.Seq.{take-suc, getD-set-same, getD-set-other}
 use Rattle.forms.specs.Lists.{sum}
 use Rattle.forms.specs.ListLaws.{T-true, sum-append}
@@ -195,3 +195,20 @@ items-changed h e = go (itemsOf e)
     go : (xs : List Item) → itemsIn h xs ≡ sum (λ (x : Change). tell (eqb (x .history) h)) (map itemChange xs)
     go [] = refl
     go (x ∷ xs) = ap (λ (n : ℕ). cond (eqb (x .history) h) 1 0 + n) (go xs)
+
+pub lines-changed : (h : ℕ) (es : List Entry) → sum (entryIn h) es ≡ sum (changesIn h) (map didOfEntry es)
+lines-changed h [] = refl
+lines-changed h (e ∷ es) = ap₂ _+_ (items-changed h e) (lines-changed h es)
+
+-- An entry has at most four updates.
+pub entry-few : (h : ℕ) (e : Entry) → UsableEntry e → entryIn h e ≤ 4
+unfolding itemsIn
+entry-few h e u = omega (arith, few (itemsOf e), length-take (e .count) (e .items), u .few)
+  where
+    few : (xs : List Item) → itemsIn h xs ≤ length xs
+    few [] = omega arith
+    few (x ∷ xs) = by (eqb (x .history) h) (few xs)
+      where
+        by : (b : Bool) → itemsIn h xs ≤ length xs → cond b 1 0 + itemsIn h xs ≤ length (x ∷ xs)
+        by true l = omega (arith, l)
+        by false l = omega (arith, l)

@@ -224,6 +224,16 @@ module _ (n h : ℕ) (d : Did) (formed : changesRefusal n (d .changes) ≡ none)
   unfolding changesIn
   line-known some = known-low (λ (x : Change). x .history) n h (d .changes) (formed-changes n (d .changes) formed .known) some
 
+-- .. so too of some lines
+pub lines-known : (n h : ℕ) (ds : List Did) → ((d : Did) → Mem d ds → changesRefusal n (d .changes) ≡ none) → 1 ≤ sum (changesIn h) ds → h < n
+lines-known n h [] formed some = absurd (let z : 1 ≤ 0 = some in omega arith)
+lines-known n h (d ∷ ds) formed some =
+    by (changesIn h d) refl (line-known n h d (formed d (here refl))) (lines-known n h ds (λ x m. formed x (there m))) some
+  where
+    by : (k : ℕ) → changesIn h d ≡ k → (1 ≤ changesIn h d → h < n) → (1 ≤ sum (changesIn h) ds → h < n) → 1 ≤ changesIn h d + sum (changesIn h) ds → h < n
+    by zero e one rest l = rest (omega (arith, e, l))
+    by (suc k) e one rest l = one (omega (arith, e))
+
 -- A live operation counts at most once, a line that waits not at all.
 pub busy-live : (st : State) (h : ℕ) → Good st → busy st h + length (st .waiting) ≤ live st
 unfolding busy asksIn changesIn live liveDone

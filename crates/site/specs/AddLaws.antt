@@ -8,10 +8,10 @@ use mathlib.Core.List.{List·Memᴰ as Mem}
 use mathlib.Core.Logic.{_⊎_, inl, inr}
 use mathlib.Core.Option.{Option, none, some}
 use lib.Dec.{T, leb}
-use lib.ListN.{length}
+use lib.ListN.{length, getD}
 use borrow.Author.Tests.{le-leb}
 use Rattle.forms.specs.Decimal.{top}
-use Rattle.forms.specs.Lists.{all, any}
+use Rattle.forms.specs.Lists.{all, any, sum}
 use Rattle.forms.specs.ListLaws.{T-true, mem-snoc}
 use Rattle.forms.specs.Forms.{Update, Added}
 use Rattle.forms.specs.Held.{outcomeWith, heldUpdates, updatesOf, Numbers, listed}
@@ -22,6 +22,8 @@ use Rattle.forms.specs.declared.Refusal.{Refusal}
 use Rattle.forms.specs.declared.Refusal.the-variants.{NothingOrders, IdPending, AlreadyDone, ReadOvertaken, TableFull, OutOfTurn}
 use Rattle.rules.specs.Checks.{check, andThen, updatesRefusal}
 use Rattle.rules.specs.CheckLaws.{check-none, andThen-none, formed-updates, not-le}
+use Rattle.rules.specs.Poll.{asksIn, busy}
+use Rattle.rules.specs.PollLaws.{busy-added, busy-few}
 use Rattle.rules.specs.State.{Operation, State, refused, ok, live, withPending}
 use Rattle.rules.specs.Calls.{Call, unless, writable, writableUpdate, perform, step, tryAll, madeReady}
 use Rattle.rules.specs.Calls.{add, addRefusal, arrived, nothingOrders, idPending, idDone, alreadyDone, readOvertaken, tableFull}
@@ -32,6 +34,8 @@ use Rattle.history.specs.declared.Verdict.the-variants.{Refused}
 use Rattle.history.specs.Asking.{verdictOf, UsableHeld, Enters}
 use Rattle.history.specs.AskingLaws.{usable-held}
 use Rattle.history.specs.Entries.{cellsOf, operationOf, InFirst}
+use Rattle.history.specs.Words.{entryIn}
+use Rattle.history.specs.BusyLaws.{items-asked, all-in-first, entry-few}
 use Rattle.history.specs.Cells.{alreadyDoneIn, readOvertakenIn}
 use Rattle.history.specs.AtLog.{asked-first, already-done-book, read-overtaken-book}
 use Rattle.table.specs.Tries.{tryAllIn, operationsOf}
@@ -137,7 +141,8 @@ module _ (s : Representation) (bytes : List ℕ) (v : Sound s bytes) (i : ℕ) (
     (free : addRefusal i us (stateOf s bytes) ≡ none) (e : Entry) (x : Enters (addedOperation i us) e)
     (q : List Entry) (more : q ≡ s .queue ++ (e ∷ [])) (tq : List Entry)
     (queue : operationsOf tq ≡ tryAllIn (cellsOf (s .histories)) (operationsOf q)) (ns : Numbers)
-    (ids : Means ns (madeReady (operationsOf q) (tryAllIn (cellsOf (s .histories)) (operationsOf q)))) where
+    (ids : Means ns (madeReady (operationsOf q) (tryAllIn (cellsOf (s .histories)) (operationsOf q))))
+    (numbers : List ℕ) (counts : (h : ℕ) → h < 16 → getD numbers h 0 ≡ getD (s .busy) h 0 + sum (entryIn h) (e ∷ [])) where
   abbrev st : State
   st = stateOf s bytes
 
@@ -171,7 +176,19 @@ module _ (s : Representation) (bytes : List ℕ) (v : Sound s bytes) (i : ℕ) (
   ready = means-is ids (ap₂ madeReady entries tried)
 
   abbrev after : Representation
-  after = withQueue tq (s .restoring) (s .reserved) s
+  after = withQueue tq (s .restoring) (s .reserved) numbers s
+
+  counted : (h : ℕ) → h < s .count → getD numbers h 0 ≡ busy (withPending (tryAll (st .log) (arrived i us st)) st) h
+  unfolding Sound
+  counted h lt =
+      omega (
+        arith,
+        counts h (omega (arith, lt, count-most s bytes v)),
+        v .carries .busy h lt,
+        busy-added i us st h,
+        items-asked h e,
+        ap (asksIn h) (x .operation),
+      )
 
   pub add-does : (ys : List ℕ) →
       AcceptsCall bytes (step (Call.Add i us) st) (record { site = after; reply = record { form = ReplyForm.Added; first = ns; second = listed 0 ys } }) bytes
@@ -181,10 +198,10 @@ module _ (s : Representation) (bytes : List ℕ) (v : Sound s bytes) (i : ℕ) (
       (Added (madeReady (arrived i us st) (tryAll (st .log) (arrived i us st)))) _ bytes v
       (add-accepted i us st le w free)
       (says-lists _ (madeReady (arrived i us st) (tryAll (st .log) (arrived i us st))) [] ready (means-none ys))
-      (carries-queue s bytes st (v .carries) tq (s .restoring) (s .reserved) (tryAll (st .log) (arrived i us st)) (st .waiting)
+      (carries-queue s bytes st (v .carries) tq (s .restoring) (s .reserved) numbers (tryAll (st .log) (arrived i us st)) (st .waiting)
       (ap (λ (z : Bool). pendingIn z after) idle ∙ queue ∙ tried)
       (ap (λ (z : Bool). waitingIn z after) idle ∙ sym (ap (λ (z : Bool). waitingIn z s) idle))
-      (v .carries .reserved))
+      (v .carries .reserved) counted)
       refl
 
 -- ### From the code's tests
@@ -200,6 +217,18 @@ module _ (s : Representation) (bytes : List ℕ) (v : Sound s bytes) (i : ℕ) (
   pub add-room : length (s .finished) + length (s .queue) < 64
   unfolding Sound
   add-room = omega (arith, live-is s bytes (v .carries), free-of i us (stateOf s bytes) free .room)
+
+  -- its histories are those of the site, whose numbers are small
+  pub passed-first : (e : Entry) → Enters (addedOperation i us) e → InFirst (s .count) e
+  passed-first e x =
+      asked-first (s .count) e (x .usable)
+      (ap (λ (y : Operation). updatesRefusal (s .count) (y .updates)) (x .operation) ∙ free-of i us (stateOf s bytes) free .formed)
+
+  pub passed-counts : (e : Entry) → Enters (addedOperation i us) e → (k : ℕ) → 1 ≤ entryIn k e → getD (s .busy) k 0 + entryIn k e ≤ top
+  unfolding Sound
+  passed-counts e x k one =
+      let lt : k < s .count = all-in-first (s .count) e (passed-first e x) k (omega (arith, one)) in
+      omega (arith, v .carries .busy k lt, busy-few (stateOf s bytes) k (v .good), entry-few k e (x .usable))
 
   module _ (a : AskedHeld) (h : a ≡ heldUpdates us) where
     pub passed-usable : UsableHeld a

@@ -5,12 +5,11 @@ pub mod TableLaws
 pub mod ReplyLaws
 pub mod QueueLaws
 pub mod MarkLaws
-pub mod Busy
-pub mod BusyLaws
 pub mod WithdrawLaws
 pub mod StableLaws
 pub mod PersistentLaws
 pub mod ShowLaws
+pub mod Polls
 pub mod EndLaws
 pub mod LineLaws
 pub mod Trim

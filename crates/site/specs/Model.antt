@@ -10,7 +10,7 @@ use Rattle.forms.specs.Held.{Numbers, Replied, replied, outcomeOf}
 use Rattle.forms.specs.declared.Refusal.{Refusal}
 use Rattle.rules.specs.State.{State, Reply, refused, ok}
 use Rattle.rules.specs.Calls.{Call, step}
-use Rattle.history.specs.Words.{width, historiesIn, persistedIn, stabilisedIn}
+use Rattle.history.specs.Words.{width, historiesIn, persistedIn, stabilisedIn, busyIn}
 use Rattle.table.specs.declared.Table.{Table}
 use Rattle.table.specs.Ends.{Ends, was, left}
 use Rattle.table.specs.Order.{tally}
@@ -65,6 +65,7 @@ represented s m =
       histories = historiesIn (m .book);
       persisted = persistedIn (m .book);
       stabilised = stabilisedIn (m .book);
+      busy = busyIn (m .book);
       queue = queueRows (s .table) (m .order) (m .rows);
       finished = finishedRows (s .table) (m .order) (m .rows);
     }

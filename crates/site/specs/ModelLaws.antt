@@ -81,9 +81,9 @@ pub valid-is : (s : Representation) (bytes : List ℕ) (st : State) → Represen
 unfolding Sound
 valid-is s bytes st h = subst (Represents s bytes) (sym (view-is s bytes st h)) h
 
--- the site with these histories and versions
-abbrev pub withBook : List History → List ℕ → List ℕ → Representation → Representation
-withBook histories persisted stabilised w =
+-- the site with these numbers of its histories
+abbrev pub withBook : List History → List ℕ → List ℕ → List ℕ → Representation → Representation
+withBook histories persisted stabilised busy w =
     record {
       count = w .count;
       used = w .used;
@@ -95,13 +95,15 @@ withBook histories persisted stabilised w =
       histories = histories;
       persisted = persisted;
       stabilised = stabilised;
+      busy = busy;
       queue = w .queue;
       finished = w .finished;
     }
 
 -- .. which is the site itself, when they are the same
-pub same-book : (w : Representation) {hs : List History} {ps ss : List ℕ} → hs ≡ w .histories → ps ≡ w .persisted → ss ≡ w .stabilised → w ≡ withBook hs ps ss w
-same-book w h p s = λ i. withBook (sym h i) (sym p i) (sym s i) w
+pub same-book : (w : Representation) {hs : List History} {ps ss bs : List ℕ} → hs ≡ w .histories → ps ≡ w .persisted → ss ≡ w .stabilised →
+    bs ≡ w .busy → w ≡ withBook hs ps ss bs w
+same-book w h p s b = λ i. withBook (sym h i) (sym p i) (sym s i) (sym b i) w
 
 -- ### What a call does
 
@@ -120,12 +122,12 @@ pub record AcceptsCall (old : List ℕ) (x : Reply) (r : Taken) (new : List ℕ)
   pub state : stateOf (r .site) new ≡ next
   pub past : drop (r .site .used) new ≡ drop (r .site .used) old
 
--- .. so too with these histories and versions, when they are the same
-pub accepts-book : (old : List ℕ) (x : Reply) (w : Representation) (reply : Replied) (new : List ℕ) {hs : List History} {ps ss : List ℕ} →
-    hs ≡ w .histories → ps ≡ w .persisted → ss ≡ w .stabilised →
-    AcceptsCall old x (record { site = w; reply = reply }) new → AcceptsCall old x (record { site = withBook hs ps ss w; reply = reply }) new
-accepts-book old x w reply new h p s a =
-    subst (λ (z : Representation). AcceptsCall old x (record { site = z; reply = reply }) new) (same-book w h p s) a
+-- .. so too with these numbers of its histories, when they are the same
+pub accepts-book : (old : List ℕ) (x : Reply) (w : Representation) (reply : Replied) (new : List ℕ) {hs : List History} {ps ss bs : List ℕ} →
+    hs ≡ w .histories → ps ≡ w .persisted → ss ≡ w .stabilised → bs ≡ w .busy →
+    AcceptsCall old x (record { site = w; reply = reply }) new → AcceptsCall old x (record { site = withBook hs ps ss bs w; reply = reply }) new
+accepts-book old x w reply new h p s b a =
+    subst (λ (z : Representation). AcceptsCall old x (record { site = z; reply = reply }) new) (same-book w h p s b) a
 
 -- .. likewise the site with these rows
 abbrev pub withRows : List Entry → List Entry → Representation → Representation
@@ -141,6 +143,7 @@ withRows finished queue w =
       histories = w .histories;
       persisted = w .persisted;
       stabilised = w .stabilised;
+      busy = w .busy;
       queue = queue;
       finished = finished;
     }

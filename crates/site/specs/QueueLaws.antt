@@ -1,17 +1,19 @@
--- A call that leaves the log as it is: the queue, the restoring flag and the reserved bytes change.
-use Prim.Native.Nat.{ℕ}
+-- A call that leaves the log as it is: the queue, the numbers of updates that are not persistent, the restoring flag and the reserved bytes change.
+use Prim.Native.Nat.{ℕ, _<_}
 use mathlib.Core.Path.{_≡_, refl}
 use mathlib.Core.Bool.{Bool}
 use mathlib.Core.List.{List}
+use lib.ListN.{getD}
 use Rattle.forms.specs.Lists.{sum}
 use Rattle.forms.specs.Forms.{Did}
+use Rattle.rules.specs.Poll.{busy}
 use Rattle.rules.specs.State.{Operation, State, logBytes, versionAt, liveDone, lineBytes}
 use Rattle.history.specs.declared.Entry.{Entry}
 use Rattle.site.specs.Representation.{Representation, pendingIn, waitingIn, Carries}
 
--- the site with another queue
-abbrev pub withQueue : List Entry → Bool → ℕ → Representation → Representation
-withQueue q restoring reserved s =
+-- the site with another queue, and other numbers of updates that are future, in progress or volatile
+abbrev pub withQueue : List Entry → Bool → ℕ → List ℕ → Representation → Representation
+withQueue q restoring reserved busy s =
     record {
       count = s .count;
       used = s .used;
@@ -23,6 +25,7 @@ withQueue q restoring reserved s =
       histories = s .histories;
       persisted = s .persisted;
       stabilised = s .stabilised;
+      busy = busy;
       queue = q;
       finished = s .finished;
     }
@@ -41,12 +44,13 @@ withOpen pending waiting restoring st =
       restoring = restoring;
     }
 
-pub carries-queue : (s : Representation) (bytes : List ℕ) (st : State) → Carries s bytes st → (q : List Entry) (restoring : Bool) (reserved : ℕ)
-    (pending : List Operation) (waiting : List Did) → pendingIn restoring (withQueue q restoring reserved s) ≡ pending →
-    waitingIn restoring (withQueue q restoring reserved s) ≡ waiting → reserved ≡ sum lineBytes waiting →
-    Carries (withQueue q restoring reserved s) bytes (withOpen pending waiting restoring st)
+pub carries-queue : (s : Representation) (bytes : List ℕ) (st : State) → Carries s bytes st → (q : List Entry) (restoring : Bool) (reserved : ℕ) (numbers : List ℕ)
+    (pending : List Operation) (waiting : List Did) → pendingIn restoring (withQueue q restoring reserved numbers s) ≡ pending →
+    waitingIn restoring (withQueue q restoring reserved numbers s) ≡ waiting → reserved ≡ sum lineBytes waiting →
+    ((h : ℕ) → h < s .count → getD numbers h 0 ≡ busy (withOpen pending waiting restoring st) h) →
+    Carries (withQueue q restoring reserved numbers s) bytes (withOpen pending waiting restoring st)
 unfolding logBytes versionAt liveDone
-carries-queue s bytes st c q restoring reserved pending waiting p w n =
+carries-queue s bytes st c q restoring reserved numbers pending waiting p w n b =
     record {
       within = c .within;
       text = c .text;
@@ -65,5 +69,6 @@ carries-queue s bytes st c q restoring reserved pending waiting p w n =
       persisted = c .persisted;
       stabilisedLong = c .stabilisedLong;
       stabilised = c .stabilised;
+      busy = b;
       finished = c .finished;
     }

@@ -10,6 +10,7 @@ use Rattle.forms.specs.declared.LogNumber.{LogNumber}
 use Rattle.rules.specs.Book.{cell}
 use Rattle.rules.specs.Log.{Journal, journal, noJournal, readLog}
 use Rattle.rules.specs.State.{Operation, State, logBytes, versionAt, liveDone, lineBytes}
+use Rattle.rules.specs.Poll.{busy as busyIn}
 use Rattle.rules.specs.Good.{Good}
 use Rattle.history.specs.declared.History.{History}
 use Rattle.history.specs.declared.Entry.{Entry}
@@ -27,6 +28,7 @@ pub record Representation : Type 0 where
   pub histories : List History
   pub persisted : List ℕ
   pub stabilised : List ℕ
+  pub busy : List ℕ
   pub queue : List Entry
   pub finished : List Entry
 
@@ -80,6 +82,8 @@ pub record Carries (s : Representation) (bytes : List ℕ) (st : State) : Type 0
   pub persisted : (h : ℕ) → h < s .count → getD (s .persisted) h 0 ≡ versionAt (st .persistentTo) h st
   pub stabilisedLong : length (s .stabilised) ≡ 16
   pub stabilised : (h : ℕ) → h < s .count → getD (s .stabilised) h 0 ≡ versionAt (st .stableTo) h st
+  -- "for every history the number of its future, in-progress and volatile updates"
+  pub busy : (h : ℕ) → h < s .count → getD (s .busy) h 0 ≡ busyIn st h
   -- done operations that are not yet stable, in log order
   pub finished : map didOfEntry (s .finished) ≡ liveDone st
 

@@ -1,36 +1,43 @@
 -- Withdraw against the specification.
-use Prim.Native.Nat.{ℕ, _+_, _-_, _≤_, _<_}
+use Prim.Native.Nat.{ℕ, suc, _+_, _≤_, _<_}
 use native.Mathlib.Omega.{arith}
 use mathlib.Core.Path.{_≡_, refl, sym, ap, subst, _∙_}
-use mathlib.Core.Bool.{Bool, true, false, not}
-use mathlib.Core.List.{List, [], _++_}
-use lib.ListN.{length, take, drop}
-use borrow.Author.Tests.{le-leb}
+use mathlib.Core.Bool.{Bool, true, false, _&&_}
+use mathlib.Core.List.{List, [], _∷_, _++_, Memᴰ·map}
+use mathlib.Core.List.{List·Memᴰ as Mem}
+use lib.ListN.{length, take, drop, getD}
+use lib.Seq.{split-at}
+use borrow.Author.Tests.{le-leb, eqb-true}
 use Rattle.forms.specs.Decimal.{top}
-use Rattle.forms.specs.Lists.{keep, below}
-use Rattle.forms.specs.ListLaws.{Nodup, nodup-right}
+use Rattle.forms.specs.Lists.{keep, below, sum}
+use Rattle.forms.specs.ListLaws.{Nodup, nodup-right, mem-at, mem-along}
 use Rattle.forms.specs.Forms.{Withdrawn}
 use Rattle.forms.specs.Held.{outcomeWith, Numbers, listed}
 use Rattle.forms.specs.declared.ReplyForm.{ReplyForm}
 use Rattle.forms.specs.declared.Refusal.the-variants.{WrongState, OutOfTurn}
 use Rattle.rules.specs.Checks.{check}
-use Rattle.rules.specs.State.{State, refused, ok, liveDone, dry, becameDry, withPending}
+use Rattle.rules.specs.Poll.{busy}
+use Rattle.rules.specs.PollLaws.{busy-withdrawn}
+use Rattle.rules.specs.State.{Operation, State, refused, ok, liveDone, becameDry, withPending}
 use Rattle.rules.specs.Calls.{Call, unless, writable, perform, step, without, withdrawRefusal, withdraw}
 use Rattle.rules.specs.Good.{operationIds, didIds}
 use Rattle.table.specs.declared.Found.the-variants.{At, Nothing}
 use Rattle.table.specs.Lists.{firstAt}
-use Rattle.table.specs.Arrays.{Tabulates, ceases}
+use Rattle.table.specs.declared.versions.Naming.the-variants.{Dried}
+use Rattle.table.specs.Arrays.{singled}
 use Rattle.table.specs.RangeLaws.{pastEntry}
 use Rattle.table.specs.Tables.{isEntry}
 use Rattle.table.specs.Tries.{operationsOf}
 use Rattle.table.specs.FindLaws.{first-found, any-future, no-future, without-is}
-use Rattle.table.specs.BookLaws.{became-dry-is}
+use Rattle.table.specs.BookLaws.{dried-is}
 use Rattle.history.specs.declared.Entry.{Entry}
+use Rattle.history.specs.Entries.{operationOf, UsableEntry, InFirst}
+use Rattle.history.specs.Words.{entryIn}
+use Rattle.history.specs.BusyLaws.{items-asked, all-in-first}
+use Rattle.history.specs.AtLog.{asked-first}
 use Rattle.site.specs.Representation.{Representation, stateOf, pendingIn, waitingIn, Sound}
 use Rattle.site.specs.ModelLaws.{AcceptsCall, step-performs, accepts-step, says-lists, Means, means-is, means-none}
 use Rattle.site.specs.QueueLaws.{withQueue, carries-queue}
-use Rattle.site.specs.Busy.{busyIn}
-use Rattle.site.specs.BusyLaws.{busy-wet}
 use Rattle.site.specs.MarkLaws.{marks-ordered}
 
 withdraw-performs : (i : ℕ) (st : State) → i ≤ top → step (Call.Withdraw i) st ≡ withdraw i st
@@ -59,17 +66,60 @@ withdraw-accepted s bytes i k le e found = withdraw-performs i (stateOf s bytes)
 pub found-below : (q : List Entry) (i : ℕ) (running : Bool) (k : ℕ) → firstAt (isEntry i running) q ≡ At k → k < length q
 found-below q i running k found = first-found (isEntry i running) pastEntry q k found .lt
 
--- The volatile operations are some of those that are done and not yet stable.
-pub volatile-few : (s : Representation) (bytes : List ℕ) → Sound s bytes → s .persistent .0 - s .stable .0 ≤ length (s .finished)
-volatile-few s bytes v = let m = marks-ordered s bytes v in omega (arith, m .stable, m .persistent, m .finished)
+and-first : (a b : Bool) → (a && b) ≡ true → a ≡ true
+and-first true b e = refl
+and-first false b e = e
+
+-- The operation that was found.
+module _ (s : Representation) (bytes : List ℕ) (i k : ℕ) (v : Sound s bytes) (e : s .restoring ≡ false)
+    (found : firstAt (isEntry i false) (s .queue) ≡ At k) (entry : Entry) (read : entry ≡ getD (s .queue) k pastEntry) where
+  abbrev operation : Operation
+  operation = operationOf entry
+
+  -- it is one of those pending
+  is-pending : Mem operation (stateOf s bytes .pending)
+  is-pending =
+      subst (λ (r : Bool). Mem operation (pendingIn r s)) (sym e)
+      (subst (λ (x : Entry). Mem (operationOf x) (operationsOf (s .queue))) (sym read)
+      (Memᴰ·map operationOf
+      (mem-along (sym (split-at (s .queue) k pastEntry (found-below (s .queue) i false k found)))
+      (mem-at (getD (s .queue) k pastEntry) (take k (s .queue)) (drop (suc k) (s .queue))))))
+
+  is-named : operation .id ≡ i
+  unfolding isEntry operationOf
+  is-named =
+      ap (λ (x : Entry). x .id) read
+      ∙ eqb-true (getD (s .queue) k pastEntry .id) i
+      (and-first _ _ (first-found (isEntry i false) pastEntry (s .queue) k found .hit))
+
+  -- its updates are counted, fewer after it
+  lowered : (h : ℕ) → busy (withdrawnFrom i s bytes) h + entryIn h entry ≡ busy (stateOf s bytes) h
+  unfolding Sound
+  lowered h =
+      let w : busy (withdrawnFrom (operation .id) s bytes) h ≡ busy (withdrawnFrom i s bytes) h =
+      ap (λ (n : ℕ). busy (withdrawnFrom n s bytes) h) is-named
+      in
+      omega (arith, w, busy-withdrawn (stateOf s bytes) operation h (v .good) is-pending, items-asked h entry)
+
+  module _ (usable : UsableEntry entry) where
+    -- its histories are those of the site
+    pub withdraw-first : InFirst (s .count) entry
+    unfolding Sound
+    withdraw-first = asked-first (s .count) entry usable (v .good .pendingFormed operation is-pending .passes)
+
+    pub withdraw-counts : (h : ℕ) → 1 ≤ entryIn h entry → entryIn h entry ≤ getD (s .busy) h 0
+    unfolding Sound
+    withdraw-counts h some =
+        let lt : h < s .count = all-in-first (s .count) entry withdraw-first h (omega (arith, some)) in
+        omega (arith, v .carries .busy h lt, lowered h)
 
 module _ (s : Representation) (bytes : List ℕ) (i k : ℕ) (v : Sound s bytes) (le : i ≤ top) (e : s .restoring ≡ false)
-    (found : firstAt (isEntry i false) (s .queue) ≡ At k)
-    (left : List Entry) (before after : List Bool) (a : Numbers) (ys : List ℕ)
+    (found : firstAt (isEntry i false) (s .queue) ≡ At k) (entry : Entry) (read : entry ≡ getD (s .queue) k pastEntry)
+    (left : List Entry) (before after : List ℕ) (a : Numbers) (ys : List ℕ)
     (removed : left ≡ take k (s .queue) ++ drop (k + 1) (s .queue))
-    (was : Tabulates false before (busyIn (s .restoring) (s .queue) (s .finished) (s .persistent .0 - s .stable .0)))
-    (is : Tabulates false after (busyIn (s .restoring) left (s .finished) (s .persistent .0 - s .stable .0)))
-    (dried : Means a (keep (ceases before after) (below (s .count)))) where
+    (was : before ≡ s .busy)
+    (counts : (h : ℕ) → h < 16 → getD (s .busy) h 0 ≡ getD after h 0 + sum (entryIn h) (entry ∷ []))
+    (dried : Means a (keep (singled Dried before after) (below (s .count)))) where
   -- the ids of the operations are distinct
   once : Nodup (operationIds (operationsOf (s .queue)))
   unfolding Sound
@@ -81,22 +131,19 @@ module _ (s : Representation) (bytes : List ℕ) (i k : ℕ) (v : Sound s bytes)
   left-is : operationsOf left ≡ without i (operationsOf (s .queue))
   left-is = ap operationsOf removed ∙ sym (without-is i false (s .queue) k once found)
 
-  from-is : s .persistent .0 ≡ s .stable .0 + (s .persistent .0 - s .stable .0)
-  from-is = let m = marks-ordered s bytes v in omega (arith, m .stable)
-
-  wet-before : Tabulates false before (λ (h : ℕ). not (dry (stateOf s bytes) h))
+  -- the numbers before it, and after it
+  numbers-before : (h : ℕ) → h < s .count → getD before h 0 ≡ busy (stateOf s bytes) h
   unfolding Sound
-  wet-before =
-      busy-wet before (s .queue) (s .finished) _ (stateOf s bytes) (rw e refl) (v .carries .finished) from-is was
+  numbers-before h lt = ap (λ (r : List ℕ). getD r h 0) was ∙ v .carries .busy h lt
 
-  wet-after : Tabulates false after (λ (h : ℕ). not (dry (withdrawnFrom i s bytes) h))
-  unfolding Sound liveDone
-  wet-after =
-      busy-wet after left (s .finished) _ (withdrawnFrom i s bytes) (rw e left-is) (v .carries .finished) from-is is
+  numbers-after : (h : ℕ) → h < s .count → getD after h 0 ≡ busy (withdrawnFrom i s bytes) h
+  unfolding Sound
+  numbers-after h lt =
+      omega (arith, v .carries .busy h lt, lowered s bytes i k v e found entry read h, counts h (omega (arith, lt, marks-ordered s bytes v .few)))
 
   pub withdraw-does : AcceptsCall bytes (step (Call.Withdraw i) (stateOf s bytes))
       (record {
-        site = withQueue left (s .restoring) (s .reserved) s;
+        site = withQueue left (s .restoring) (s .reserved) after s;
         reply = record { form = ReplyForm.Withdrawn; first = a; second = listed 0 ys };
       }) bytes
   unfolding Sound outcomeWith
@@ -104,8 +151,8 @@ module _ (s : Representation) (bytes : List ℕ) (i k : ℕ) (v : Sound s bytes)
       accepts-step s bytes (Call.Withdraw i) (withdrawnFrom i s bytes) (Withdrawn (becameDry (stateOf s bytes) (withdrawnFrom i s bytes))) _ bytes v
       (withdraw-accepted s bytes i k le e found)
       (says-lists _ (becameDry (stateOf s bytes) (withdrawnFrom i s bytes)) []
-      (means-is dried (became-dry-is before after (stateOf s bytes) (withdrawnFrom i s bytes) (marks-ordered s bytes v .few) wet-before wet-after))
+      (means-is dried (dried-is before after (stateOf s bytes) (withdrawnFrom i s bytes) numbers-before numbers-after))
       (means-none ys))
-      (carries-queue s bytes (stateOf s bytes) (v .carries) left (s .restoring) (s .reserved) (without i (pendingIn (s .restoring) s)) (waitingIn (s .restoring) s)
-      (rw e left-is) (rw e refl) (v .carries .reserved))
+      (carries-queue s bytes (stateOf s bytes) (v .carries) left (s .restoring) (s .reserved) after (without i (pendingIn (s .restoring) s)) (waitingIn (s .restoring) s)
+      (rw e left-is) (rw e refl) (v .carries .reserved) numbers-after)
       refl

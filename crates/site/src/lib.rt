@@ -12,12 +12,12 @@ use forms::ReplyLine;
 use table::Table;
 
 pub mod add;
-mod busy;
 pub mod end;
 pub mod entry_of;
 pub mod finish;
 pub mod open;
 pub mod persistent;
+pub mod poll;
 pub mod redo;
 pub mod restart;
 mod seen;

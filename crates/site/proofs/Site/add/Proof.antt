@@ -1,28 +1,33 @@
 -- What the checks saw is so in the site's state, so their verdict is the specification's; an operation that passes gets the first free entry,
--- and is tried with the others.
+-- its updates count, and it is tried with the others.
 use denote.Ref.{now}
 use Prim.Native.Nat.{_≤_, _<_}
 use native.Mathlib.Omega.{arith}
 use mathlib.Core.Path.{_≡_, refl, sym, ap, _∙_}
-use mathlib.Core.List.{[], _∷_, _++_}
+use mathlib.Core.List.{List, [], _∷_, _++_}
 use mathlib.Core.Option.{Option, none}
 use lib.Dec.{leb}
 use Rattle.forms.specs.Decimal.{top}
 use Rattle.forms.specs.declared.Refusal.{Refusal}
-use Rattle.rules.specs.Calls.{addRefusal}
-use Rattle.history.specs.Asking.{verdictOf}
+use Rattle.rules.specs.Calls.{addRefusal, madeReady}
+use Rattle.history.specs.declared.History.{History}
+use Rattle.history.specs.Asking.{verdictOf, Enters}
+use Rattle.history.specs.Entries.{cellsOf}
+use Rattle.history.specs.Words.{busyIn}
+use Rattle.history.specs.BusyLaws.{all-in-first}
+use Rattle.table.specs.Tries.{tryAllIn, operationsOf}
 use Rattle.table.specs.Tables.{liveCount, queueRows, Becomes}
 use Rattle.table.specs.TableLaws.{pushed}
 use Rattle.site.specs.Representation.{Representation, stateOf}
 use Rattle.site.specs.Model.{Lent, lent, represented, view}
-use Rattle.site.specs.ModelLaws.{refuses, does, accepts-rows}
+use Rattle.site.specs.ModelLaws.{refuses, does, accepts-book, accepts-rows, means-is}
 use Rattle.site.specs.ReplyLaws.{means-one, past-one}
 use Rattle.site.specs.ShowLaws.{count-most}
 use Rattle.site.specs.Trim.{updatesHeld}
 use Rattle.site.specs.TrimLaws.{updates-writable}
 use Rattle.site.specs.SeenLaws.{site-sees, passes-is, refused-is}
 use Rattle.site.specs.TableLaws.{usable-fewer, live-length, becomes-as, keeps-tried}
-use Rattle.site.specs.AddLaws.{add-refused, add-does, add-room, passed-usable, passed-enters}
+use Rattle.site.specs.AddLaws.{addedOperation, add-refused, add-does, add-room, passed-first, passed-counts, passed-usable, passed-enters}
 use borrow.Author.Needs.{needs}
 use Rattle.site.proofs.Site.add.Statement.{statement}
 use Rattle.site.proofs.Site.add.Tie as tie
@@ -41,22 +46,22 @@ abbrev ruled : tie.Start → Option Refusal
 ruled e = addRefusal (e .args .id) (updatesHeld (e .args .asked)) (stateOf (site e) (now (e .args .log)))
 
 -- what the checks said is what the specification says
-said : (r : tie.After-add-refusal) → r .add-refusal .result ≡ verdictOf (ruled (r .before .before .before .before .before .before .before .before .before .before))
+said : (r : tie.After-add-refusal) → r .add-refusal .result ≡ verdictOf (ruled (r .before .before .before .before .before .before .before .before .before .before .before))
 said r =
-    let e = r .before .before .before .before .before .before .before .before .before .before in
+    let e = r .before .before .before .before .before .before .before .before .before .before .before in
     let a = e .args in
-    r .add-refusal .ensures _ (r .before .before .before .before .before .before .before .trimmed-asked .ensures .is)
-    _ (site-sees (site e) (now (a .log)) (e .pre .sound) (a .id) _ _ _ (r .before .before .before .has-id .ensures) (r .before .has-id2 .ensures)
+    r .add-refusal .ensures _ (r .before .before .before .before .before .before .before .before .trimmed-asked .ensures .is)
+    _ (site-sees (site e) (now (a .log)) (e .pre .sound) (a .id) _ _ _ (r .before .before .before .before .has-id .ensures) (r .before .before .has-id2 .ensures)
     (ap (leb 64) (sym (live-length _ _ _ (e .pre .owns)))))
 
 -- .. and nothing where they passed
-free : (t : tie.After-enum-told) → ruled (t .before .before .before .before .before .before .before .before .before .before .before .before) ≡ none
+free : (t : tie.After-enum-told) → ruled (t .before .before .before .before .before .before .before .before .before .before .before .before .before) ≡ none
 free t = let r = t .before .before in passes-is _ (sym (t .enum-told .given .1) ∙ said r)
 
 -- so an entry is free
-room : (t : tie.After-enum-told) → liveCount (t .before .before .before .before .before .before .before .before .before .before .before .before .args .self .table) < 64
+room : (t : tie.After-enum-told) → liveCount (t .before .before .before .before .before .before .before .before .before .before .before .before .before .args .self .table) < 64
 room t =
-    let e = t .before .before .before .before .before .before .before .before .before .before .before .before in
+    let e = t .before .before .before .before .before .before .before .before .before .before .before .before .before in
     omega (arith, add-room (site e) (now (e .args .log)) (e .pre .sound) (e .args .id) _ (free t), live-length _ _ _ (e .pre .owns))
 
 -- the operations that are live
@@ -70,7 +75,7 @@ has-id-requires-2 : tie.Need-has-id-requires-2
 has-id-requires-2 c κs = (usable-fewer _ _ _ (c .before .before .before .before .before .before .before .before .args .self .table .finished) (c .before .before .before .before .before .before .before .before .pre .owns .usable) (omega arith), omega arith)
 
 add-refusal-requires : tie.Need-add-refusal-requires
-add-refusal-requires c κs = (count-most _ _ (c .before .before .before .before .before .before .before .before .before .pre .sound), (_, c .before .before .before .before .before .before .trimmed-asked .ensures .is))
+add-refusal-requires c κs = (count-most _ _ (c .before .before .before .before .before .before .before .before .before .before .pre .sound), (_, c .before .before .before .before .before .before .before .trimmed-asked .ensures .is))
 
 enum-known-q : tie.Need-enum-known-q
 enum-known-q c = search needs
@@ -84,23 +89,35 @@ enum-told c = search needs
 entry-of-asked-requires : tie.Need-entry-of-asked-requires
 entry-of-asked-requires c κs =
     let e = c .before .before .before .before .before .before .before .before .before .before .before .before .before in
-    let t = c .before in
-    passed-usable (site e) (now (e .args .log)) (e .pre .sound) (e .args .id) _ (free t) _ (c .before .before .before .before .before .before .before .before .before .before .trimmed-asked .ensures .is)
+    passed-usable (site e) (now (e .args .log)) (e .pre .sound) (e .args .id) _ (free c) _ (c .before .before .before .before .before .before .before .before .before .before .trimmed-asked .ensures .is)
+
+-- the entry is that of the operation
+enters : (y : tie.After-entry-of-asked) → Enters (addedOperation (y .before .before .before .before .before .before .before .before .before .before .before .before .before .before .args .id) (updatesHeld (y .before .before .before .before .before .before .before .before .before .before .before .before .before .before .args .asked))) (y .entry-of-asked .result)
+enters y =
+    let e = y .before .before .before .before .before .before .before .before .before .before .before .before .before .before in
+    passed-enters (site e) (now (e .args .log)) (e .pre .sound) (e .args .id) _ (free (y .before)) _ (y .before .before .before .before .before .before .before .before .before .before .before .trimmed-asked .ensures .is) _ (y .entry-of-asked .ensures)
 
 push-requires : tie.Need-push-requires
-push-requires c κs = let e = c .before .before .before .before .before .before .before .before .before .before .before .before .before .before in let t = c .before .before in (room t, e .pre .owns .within _ (room t))
+push-requires c κs = let e = c .before .before .before .before .before .before .before .before .before .before .before .before .before .before .before in let t = c .before .before in (room t, e .pre .owns .within _ (room t))
 
 -- the table with it
-pushing : (p : tie.After-push) → Becomes (now (p .before .before .before .before .before .before .before .before .before .before .before .before .before .before .before .args .order)) (now (p .before .before .before .before .before .before .before .before .before .before .before .before .before .before .before .args .rows)) (p .push .result) (now (p .before .before .before .before .before .before .before .before .before .before .before .before .before .before .before .args .order)) (p .push .last .1 .1 .0)
-    (site (p .before .before .before .before .before .before .before .before .before .before .before .before .before .before .before) .finished) (site (p .before .before .before .before .before .before .before .before .before .before .before .before .before .before .before) .queue ++ (p .before .entry-of-asked .result ∷ []))
+pushing : (p : tie.After-push) →
+    Becomes (now (p .before .before .before .before .before .before .before .before .before .before .before .before .before .before .before .before .args .order)) (now (p .before .before .before .before .before .before .before .before .before .before .before .before .before .before .before .before .args .rows)) (p .push .result) (now (p .before .before .before .before .before .before .before .before .before .before .before .before .before .before .before .before .args .order)) (p .push .last .1 .1 .0)
+    (site (p .before .before .before .before .before .before .before .before .before .before .before .before .before .before .before .before) .finished) (site (p .before .before .before .before .before .before .before .before .before .before .before .before .before .before .before .before) .queue ++ (p .before .before .entry-of-asked .result ∷ []))
 pushing p =
-    let e = p .before .before .before .before .before .before .before .before .before .before .before .before .before .before .before in
+    let e = p .before .before .before .before .before .before .before .before .before .before .before .before .before .before .before .before in
     let t = p .before .before .before in
     becomes-as (p .push .ensures .0)
-    (pushed _ _ _ (e .pre .owns) (p .before .entry-of-asked .result) _ (p .before .entry-of-asked .ensures .usable) (room t) (p .push .ensures .1))
+    (pushed _ _ _ (e .pre .owns) (p .before .before .entry-of-asked .result) _ (p .before .before .entry-of-asked .ensures .usable) (room t) (p .push .ensures .1))
+
+raise-requires : tie.Need-raise-requires
+raise-requires c κs =
+    let y = c .before .before .before .before .before in
+    let e = c .before .before .before .before .before .before .before .before .before .before .before .before .before .before .before .before .before .before .before in
+    (y .entry-of-asked .ensures .usable, passed-counts (site e) (now (e .args .log)) (e .pre .sound) (e .args .id) _ (free (c .before .before .before .before .before .before)) _ (enters y))
 
 try-all-requires : tie.Need-try-all-requires
-try-all-requires c κs = let p = c .before .before .before .before in (pushing p .owns, omega arith)
+try-all-requires c κs = let p = c .before .before .before .before .before .before .before in (pushing p .owns, omega arith)
 
 same-length : tie.Need-same-length
 same-length c = search needs
@@ -108,36 +125,46 @@ same-length c = search needs
 returns : tie.Need-returns
 returns c =
     let r = c .before .before .before .before in
-    let e = c .before .before .before .before .before .before .before .before .before .before .before .before .before .before in
+    let e = c .before .before .before .before .before .before .before .before .before .before .before .before .before .before .before in
     let a = e .args in
-    let t = c .before .before .before .before .before .before .before .before .before .before .before .trimmed-asked .ensures in
+    let t = c .before .before .before .before .before .before .before .before .before .before .before .before .trimmed-asked .ensures in
     let le : a .id ≤ top = omega (arith, e .fits .id) in
     refuses (a .self) (came e) _ _ _
     (add-refused (a .id) _ (view (a .self) (came e)) le (updates-writable _ (t .writable)) _
     (refused-is _ _ (sym (c .before .before .q .given .1) ∙ said r))) (c .refusal .ensures (now (a .lists))) refl
 
 same-length-2 : tie.Need-same-length-2
-same-length-2 c = c .before .before .try-all .ensures .frame .long ∙ c .before .before .before .before .before .before .before .push .ensures .1 .long
+same-length-2 c = c .before .before .try-all .ensures .frame .long ∙ c .before .before .before .before .before .before .before .before .before .before .push .ensures .1 .long
 
 returns-2 : tie.Need-returns-2
 returns-2 c =
-    let e = c .before .before .before .before .before .before .before .before .before .before .before .before .before .before .before .before .before .before .before .before .before .before in
+    let e = c .before .before .before .before .before .before .before .before .before .before .before .before .before .before .before .before .before .before .before .before .before .before .before .before .before .before in
     let a = e .args in
     let m = came e in
-    let t = c .before .before .before .before .before .before .before .before .before .before .before .before .before .before .before .before .before .before .before .trimmed-asked .ensures in
-    let g = c .before .before .before .before .before .before .before .before .before .before in
+    let t = c .before .before .before .before .before .before .before .before .before .before .before .before .before .before .before .before .before .before .before .before .before .before .before .trimmed-asked .ensures in
     let le : a .id ≤ top = omega (arith, e .fits .id) in
-    let f = free g in
-    let p = c .before .before .before .before .before .before .before in
+    let f = free (c .before .before .before .before .before .before .before .before .before .before .before .before .before) in
+    let y = c .before .before .before .before .before .before .before .before .before .before .before .before in
+    let p = c .before .before .before .before .before .before .before .before .before .before in
     let b = pushing p in
+    let counts = c .before .before .before .before .before .before .raise .ensures in
+    let book = c .before .before .before .before .before .before .raise .last .0 in
     let try = c .before .before .try-all in
     let rows = try .last .1 .1 .0 in
-    does (a .self) m _ _ (lent (m .log) rows (m .order) (m .book) (try .last .1 .1 .1 .1 .0))
+    let q = queueRows (p .push .result) (m .order) (p .push .last .1 .1 .0) in
+    does (a .self) m _ _ (lent (m .log) rows (m .order) book (try .last .1 .1 .1 .1 .0))
+    (accepts-book (m .log) _ _ _ (m .log) (counts .histories) (counts .others 3 (omega arith) (λ (k : 3 ≡ 5). omega (arith, k)))
+    (counts .others 4 (omega arith) (λ (k : 4 ≡ 5). omega (arith, k))) refl
     (accepts-rows (m .log) _ _ _ (m .log) (try .ensures .finished ∙ b .finishedIs) refl
-    (add-does (site e) (m .log) (e .pre .sound) (a .id) _ le (updates-writable _ (t .writable)) f _
-    (passed-enters (site e) (m .log) (e .pre .sound) (a .id) _ f _ (t .is) _ (c .before .before .before .before .before .before .before .before .entry-of-asked .ensures))
-    _ (b .queueIs) (queueRows (p .push .result) (m .order) rows) (try .ensures .queue) _ (means-one (try .ensures .ready)) _))
-    (keeps-tried b (try .ensures .owns) (try .ensures .frame)) refl (past-one (try .ensures .ready))
+    (add-does (site e) (m .log) (e .pre .sound) (a .id) _ le (updates-writable _ (t .writable)) f _ (enters y)
+    q (b .queueIs) (queueRows (p .push .result) (m .order) rows)
+    (try .ensures .queue ∙ ap (λ (hs : List History). tryAllIn (cellsOf hs) (operationsOf q)) (counts .histories)) _
+    (means-is (means-one (try .ensures .ready))
+    (ap (λ (hs : List History). madeReady (operationsOf q) (tryAllIn (cellsOf hs) (operationsOf q))) (counts .histories)))
+    (busyIn book) (counts .numbers) _)))
+    (keeps-tried b (try .ensures .owns) (try .ensures .frame))
+    (counts .past (a .self .count) (all-in-first (a .self .count) (y .entry-of-asked .result) (passed-first (site e) (m .log) (e .pre .sound) (a .id) _ f _ (enters y))))
+    (past-one (try .ensures .ready))
 
 pub add-spec : {M : Type 1} → statement M
 add-spec =
@@ -153,6 +180,7 @@ add-spec =
     enum-told
     entry-of-asked-requires
     push-requires
+    raise-requires
     try-all-requires
     same-length
     returns

@@ -1,27 +1,28 @@
--- The operation is looked for among those not done; its number goes behind the live ones, and the histories are marked before and after.
+-- The operation is looked for among those not done; its updates are no longer counted, and its number goes behind the live ones.
 use denote.Ref.{now}
 use native.Mathlib.Omega.{arith}
-use Prim.Native.Nat.{_+_, _≤_, _<_, _-_}
+use Prim.Native.Nat.{ℕ, _+_, _<_}
 use mathlib.Core.Path.{_≡_, refl, sym, ap, subst, _∙_}
-use mathlib.Core.List.{List, _++_}
-use lib.ListN.{take, drop}
+use mathlib.Core.List.{List, [], _∷_, _++_}
+use lib.ListN.{take, drop, getD}
+use Rattle.forms.specs.Lists.{sum}
 use mathlib.Core.Bool.{false}
 use Rattle.forms.specs.declared.Refusal.the-variants.{WrongState, OutOfTurn}
-use Rattle.table.specs.declared.Table.{Table}
 use Rattle.table.specs.declared.Found.the-variants.{At}
-use Rattle.history.specs.declared.Entry.{Entry}
-use Rattle.table.specs.Arrays.{Tabulates}
+use Rattle.history.specs.Entries.{UsableEntry}
+use Rattle.history.specs.Words.{entryIn}
+use Rattle.history.specs.BusyLaws.{all-in-first}
+use Rattle.table.specs.RangeLaws.{pastEntry}
 use Rattle.table.specs.Lists.{firstAt}
 use Rattle.table.specs.Tables.{isEntry, queueRows, Becomes}
-use Rattle.table.specs.TableLaws.{finished-length, queue-length, removed}
+use Rattle.table.specs.TableLaws.{queue-length, queue-at, queue-usable, removed}
 use Rattle.site.specs.Representation.{Representation}
 use Rattle.site.specs.Model.{Lent, lent, represented}
-use Rattle.site.specs.ModelLaws.{refuses, does, accepts-rows}
+use Rattle.site.specs.ModelLaws.{refuses, does, accepts-book, accepts-rows}
 use Rattle.site.specs.ReplyLaws.{means-one, past-one}
-use Rattle.site.specs.Busy.{busyIn}
 use Rattle.site.specs.MarkLaws.{marks-ordered}
 use Rattle.site.specs.TableLaws.{becomes-as, keeps-of}
-use Rattle.site.specs.WithdrawLaws.{withdraw-refused-turn, withdraw-refused-state, found-below, volatile-few, withdraw-does}
+use Rattle.site.specs.WithdrawLaws.{withdraw-refused-turn, withdraw-refused-state, found-below, withdraw-first, withdraw-counts, withdraw-does}
 use borrow.Author.Needs.{needs}
 use Rattle.site.proofs.Site.withdraw.Statement.{statement}
 use Rattle.site.proofs.Site.withdraw.Tie as tie
@@ -57,16 +58,6 @@ refusal-requires-2 c κs = search needs
 enum-known-at : tie.Need-enum-known-at
 enum-known-at c = search needs
 
-sub-from : tie.Need-sub-from
-sub-from c = marks-ordered _ _ (c .before .before .before .before .before .before .before .before .before .before .before .pre .sound) .stable
-
--- the volatile operations are done ones
-volatile : (e : tie.Start) → e .args .self .persistent .0 - e .args .self .stable .0 ≤ e .args .self .table .finished
-volatile e = omega (arith, volatile-few (site e) (now (e .args .log)) (e .pre .sound), finished-length _ _ _ (e .pre .owns))
-
-busy-requires : tie.Need-busy-requires
-busy-requires c κs = let e = c .before .before .before .before .before .before .before .before .before .before .before .before in (e .pre .owns, volatile e)
-
 -- the place of the operation that was found
 found : (f : tie.After-at) → firstAt (isEntry (f .before .before .before .before .before .before .before .before .before .args .id) false) (site (f .before .before .before .before .before .before .before .before .before) .queue) ≡ At (f .at .given .0 .0)
 found f = sym (f .before .before .find .ensures) ∙ f .at .given .1
@@ -76,22 +67,44 @@ below f =
     let e = f .before .before .before .before .before .before .before .before .before in
     omega (arith, found-below (site e .queue) (e .args .id) false _ (found f), queue-length _ _ _ (e .pre .owns))
 
+column-at-requires : tie.Need-column-at-requires
+column-at-requires c κs = omega arith
+
+queued-at-requires : tie.Need-queued-at-requires
+queued-at-requires c κs =
+    let e = c .before .before .before .before .before .before .before .before .before .before .before .before .before .before in
+    let f = c .before .before .before .before .before in
+    let few : e .args .self .table .finished + f .at .given .0 .0 < 64 = omega (arith, below f, e .pre .owns .usable .few) in
+    (few, e .pre .owns .within _ few)
+
+-- the row, as it was read
+read : (x : tie.After-queued-at) → x .queued-at .result ≡ getD (site (x .before .before .before .before .before .before .before .before .before .before .before .before .before .before .before) .queue) (x .before .before .before .before .before .before .at .given .0 .0) pastEntry
+read x = let e = x .before .before .before .before .before .before .before .before .before .before .before .before .before .before .before in x .queued-at .ensures ∙ sym (queue-at _ _ _ (e .pre .owns) _ pastEntry (below (x .before .before .before .before .before .before)))
+
+usable : (x : tie.After-queued-at) → UsableEntry (x .queued-at .result)
+usable x = let e = x .before .before .before .before .before .before .before .before .before .before .before .before .before .before .before in subst UsableEntry (sym (x .queued-at .ensures)) (queue-usable _ _ _ (e .pre .owns) _ (below (x .before .before .before .before .before .before)))
+
+lower-requires : tie.Need-lower-requires
+lower-requires c κs =
+    let e = c .before .before .before .before .before .before .before .before .before .before .before .before .before .before .before in
+    (usable c, withdraw-counts (site e) (now (e .args .log)) (e .args .id) _ (e .pre .sound) (c .before .before .before .before .before .before .before .before .before .before .before .before .if1 .left) (found (c .before .before .before .before .before .before)) _ (read c) (usable c))
+
+column-at-requires-2 : tie.Need-column-at-requires-2
+column-at-requires-2 c κs = omega arith
+
+name-histories-requires : tie.Need-name-histories-requires
+name-histories-requires c κs = (marks-ordered _ _ (c .before .before .before .before .before .before .before .before .before .before .before .before .before .before .before .before .before .before .before .pre .sound) .few, omega arith)
+
 remove-requires : tie.Need-remove-requires
-remove-requires c κs = (below (c .before .before .before .before .before), omega (arith, c .before .before .before .before .before .before .before .before .before .before .before .before .before .before .pre .owns .usable .few))
+remove-requires c κs = (below (c .before .before .before .before .before .before .before .before .before .before .before .before), omega (arith, c .before .before .before .before .before .before .before .before .before .before .before .before .before .before .before .before .before .before .before .before .before .pre .owns .usable .few))
 
 -- the table without it
 without : (r : tie.After-remove) →
-    Becomes (now (r .before .before .before .before .before .before .before .before .before .before .before .before .before .before .before .args .order)) (now (r .before .before .before .before .before .before .before .before .before .before .before .before .before .before .before .args .rows)) (r .remove .result) (r .remove .last .1 .0) (now (r .before .before .before .before .before .before .before .before .before .before .before .before .before .before .before .args .rows))
-    (site (r .before .before .before .before .before .before .before .before .before .before .before .before .before .before .before) .finished) (take (r .before .before .before .before .before .before .at .given .0 .0) (site (r .before .before .before .before .before .before .before .before .before .before .before .before .before .before .before) .queue) ++ drop (r .before .before .before .before .before .before .at .given .0 .0 + 1) (site (r .before .before .before .before .before .before .before .before .before .before .before .before .before .before .before) .queue))
+    Becomes (now (r .before .before .before .before .before .before .before .before .before .before .before .before .before .before .before .before .before .before .before .before .before .before .args .order)) (now (r .before .before .before .before .before .before .before .before .before .before .before .before .before .before .before .before .before .before .before .before .before .before .args .rows)) (r .remove .result) (r .remove .last .1 .0) (now (r .before .before .before .before .before .before .before .before .before .before .before .before .before .before .before .before .before .before .before .before .before .before .args .rows))
+    (site (r .before .before .before .before .before .before .before .before .before .before .before .before .before .before .before .before .before .before .before .before .before .before) .finished) (take (r .before .before .before .before .before .before .before .before .before .before .before .before .before .at .given .0 .0) (site (r .before .before .before .before .before .before .before .before .before .before .before .before .before .before .before .before .before .before .before .before .before .before) .queue) ++ drop (r .before .before .before .before .before .before .before .before .before .before .before .before .before .at .given .0 .0 + 1) (site (r .before .before .before .before .before .before .before .before .before .before .before .before .before .before .before .before .before .before .before .before .before .before) .queue))
 without r =
-    let e = r .before .before .before .before .before .before .before .before .before .before .before .before .before .before .before in
-    becomes-as (r .remove .ensures .0) (removed _ _ _ (e .pre .owns) _ (below (r .before .before .before .before .before .before)) _ (r .remove .ensures .1))
-
-busy-requires-2 : tie.Need-busy-requires-2
-busy-requires-2 c κs = let r = c .before in let e = c .before .before .before .before .before .before .before .before .before .before .before .before .before .before .before .before in (without r .owns, omega (arith, volatile e, ap (λ (t : Table). t .finished) (r .remove .ensures .0)))
-
-became-dry-requires : tie.Need-became-dry-requires
-became-dry-requires c κs = (marks-ordered _ _ (c .before .before .before .before .before .before .before .before .before .before .before .before .before .before .before .before .before .before .pre .sound) .few, omega arith)
+    let e = r .before .before .before .before .before .before .before .before .before .before .before .before .before .before .before .before .before .before .before .before .before .before in
+    becomes-as (r .remove .ensures .0) (removed _ _ _ (e .pre .owns) _ (below (r .before .before .before .before .before .before .before .before .before .before .before .before .before)) _ (r .remove .ensures .1))
 
 returns-2 : tie.Need-returns-2
 returns-2 c =
@@ -103,21 +116,28 @@ returns-2 c =
 
 returns-3 : tie.Need-returns-3
 returns-3 c =
-    let e = c .before .before .before .before .before .before .before .before .before .before .before .before .before .before .before .before .before .before .before in
+    let e = c .before .before .before .before .before .before .before .before .before .before .before .before .before .before .before .before .before .before .before .before .before .before in
     let a = e .args in
     let m = came e in
-    let r = c .before .before .before .before in
-    let b = without r in
-    let order = r .remove .last .1 .0 in
-    let dry = c .became-dry in
-    does (a .self) m _ _ (lent (m .log) (m .rows) order (m .book) (dry .last .1 .1 .1 .0))
+    let v = e .pre .sound in
+    let b = without c in
+    let order = c .remove .last .1 .0 in
+    let dry = c .before .before .name-histories in
+    let lower = c .before .before .before .before .before .before .lower .ensures in
+    let book = c .before .before .before .before .before .before .lower .last .0 in
+    let x = c .before .before .before .before .before .before .before in
+    let after = c .before .before .before .before .column-at2 in
+    let turn = c .before .before .before .before .before .before .before .before .before .before .before .before .before .before .before .before .before .before .before .if1 .left in
+    let first = withdraw-first (site e) (m .log) (a .id) _ v turn (found (c .before .before .before .before .before .before .before .before .before .before .before .before .before)) _ (read x) (usable x) in
+    does (a .self) m _ _ (lent (m .log) (m .rows) order book (dry .last .1 .1 .1 .1 .0))
+    (accepts-book (m .log) _ _ _ (m .log) (sym (lower .histories)) (sym (lower .others 3 (omega arith) (λ (q : 3 ≡ 5). omega (arith, q))))
+    (sym (lower .others 4 (omega arith) (λ (q : 4 ≡ 5). omega (arith, q)))) (sym (after .ensures))
     (accepts-rows (m .log) _ _ _ (m .log) (b .finishedIs) refl
-    (withdraw-does (site e) (m .log) (a .id) _ (e .pre .sound) (omega (arith, e .fits .id)) (c .before .before .before .before .before .before .before .before .before .before .before .before .before .before .before .before .if1 .left) (found (c .before .before .before .before .before .before .before .before .before .before))
-    (queueRows (r .remove .result) order (m .rows)) _ _ _ _ (b .queueIs) (c .before .before .before .before .before .before .busy .ensures)
-    (subst (λ (l : List Entry). Tabulates false (c .before .before .busy2 .result)
-    (busyIn (a .self .restoring) (queueRows (r .remove .result) order (m .rows)) l (a .self .persistent .0 - a .self .stable .0)))
-    (b .finishedIs) (c .before .before .busy2 .ensures))
-    (means-one (dry .ensures)))) (keeps-of b) refl (past-one (dry .ensures))
+    (withdraw-does (site e) (m .log) (a .id) _ v (omega (arith, e .fits .id)) turn (found (c .before .before .before .before .before .before .before .before .before .before .before .before .before)) _ (read x)
+    (queueRows (c .remove .result) order (m .rows)) _ _ _ _ (b .queueIs) (c .before .before .before .before .before .before .before .before .before .before .column-at .ensures)
+    (λ h lt. lower .numbers h lt ∙ ap (λ (r : List ℕ). getD r h 0 + sum (entryIn h) (x .queued-at .result ∷ [])) (sym (after .ensures)))
+    (means-one (dry .ensures)))))
+    (keeps-of b) (sym (lower .past (a .self .count) (all-in-first (a .self .count) (x .queued-at .result) first))) (past-one (dry .ensures))
 
 pub withdraw-spec : {M : Type 1} → statement M
 withdraw-spec =
@@ -130,10 +150,11 @@ withdraw-spec =
     enum-told
     refusal-requires-2
     enum-known-at
-    sub-from
-    busy-requires
+    column-at-requires
+    queued-at-requires
+    lower-requires
+    column-at-requires-2
+    name-histories-requires
     remove-requires
-    busy-requires-2
-    became-dry-requires
     returns-2
     returns-3)
