@@ -34,5 +34,6 @@ pub mod WhenLaws
 pub mod LiveLaws
 pub mod Poll
 pub mod PollLaws
+pub mod PollExamples
 pub mod RuleTable
 pub mod OlderLogs

@@ -1,15 +1,14 @@
 -- What a call makes of its table, from what each of its steps makes of it.
-use Prim.Native.Nat.{ℕ, zero, suc, _+_, _≤_}
+use Prim.Native.Nat.{ℕ, _+_, _≤_}
 use native.Mathlib.Omega.{arith}
 use mathlib.Core.Path.{_≡_, refl, sym, ap, ap₂, subst, _∙_}
-use mathlib.Core.List.{List, [], _∷_, _++_, map-append}
-use lib.ListN.{length, take, drop}
+use mathlib.Core.List.{List, []}
+use lib.ListN.{length}
 use Rattle.history.specs.declared.Entry.{Entry}
 use Rattle.table.specs.declared.Table.{Table}
 use Rattle.table.specs.Order.{tally}
-use Rattle.table.specs.Rows.{rowAt}
-use Rattle.table.specs.RangeLaws.{map-drop, range-none}
-use Rattle.table.specs.Tables.{rowsOf, rowsIn, liveCount, liveNumbers, finishedRows, queueRows, Usable, Owns, Frame, Becomes}
+use Rattle.table.specs.RangeLaws.{range-none}
+use Rattle.table.specs.Tables.{rowsIn, liveCount, liveNumbers, finishedRows, queueRows, Usable, Owns, Frame, Becomes}
 use Rattle.table.specs.TableLaws.{finished-length, queue-length}
 use Rattle.table.specs.StepLaws.{frame-then}
 use Rattle.site.specs.ModelLaws.{KeepsTable}
@@ -57,34 +56,6 @@ keeps-then a b t o c s p d x y live =
 -- an empty range
 pub no-rows : (o ws : List ℕ) (n m : ℕ) → m ≡ n → rowsIn o ws n m ≡ []
 no-rows o ws n m e = ap (rowsIn o ws n) e ∙ range-none o ws n
-
--- a range in two parts
-pub rows-parts : (o ws : List ℕ) (from mid to : ℕ) → from ≤ mid → mid ≤ to → rowsIn o ws from to ≡ rowsIn o ws from mid ++ rowsIn o ws mid to
-rows-parts o ws from mid to le up = ap (rowsOf ws) (parts from mid to o le up) ∙ map-append (rowAt ws) (drop from (take mid o)) (drop mid (take to o))
-  where
-    parts : (from mid to : ℕ) (o : List ℕ) → from ≤ mid → mid ≤ to → drop from (take to o) ≡ drop from (take mid o) ++ drop mid (take to o)
-    parts from mid to [] le up = none from mid to
-      where
-        none : (a b c : ℕ) → _≡_ {A = List ℕ} (drop a (take c [])) (drop a (take b []) ++ drop b (take c []))
-        none zero zero zero = refl
-        none zero zero (suc c) = refl
-        none zero (suc b) zero = refl
-        none zero (suc b) (suc c) = refl
-        none (suc a) zero zero = refl
-        none (suc a) zero (suc c) = refl
-        none (suc a) (suc b) zero = refl
-        none (suc a) (suc b) (suc c) = refl
-    parts zero zero zero (x ∷ o) le up = refl
-    parts zero zero (suc to) (x ∷ o) le up = refl
-    parts zero (suc mid) zero (x ∷ o) le up = absurd (omega arith)
-    parts zero (suc mid) (suc to) (x ∷ o) le up = ap (λ (l : List ℕ). x ∷ l) (parts zero mid to o (omega arith) (omega arith))
-    parts (suc from) zero to (x ∷ o) le up = absurd (omega arith)
-    parts (suc from) (suc mid) zero (x ∷ o) le up = absurd (omega arith)
-    parts (suc from) (suc mid) (suc to) (x ∷ o) le up = parts from mid to o (omega arith) (omega arith)
-
--- those behind the first `from` of the first n
-pub rows-behind : (o ws : List ℕ) (from n : ℕ) → rowsIn o ws from n ≡ drop from (rowsIn o ws 0 n)
-rows-behind o ws from n = sym (map-drop (rowAt ws) from (take n o))
 
 -- ### The laws as calls use them
 
