@@ -6,21 +6,26 @@ use mathlib.Core.List.{List, [], _∷_, _++_}
 use mathlib.Core.List.{List·Memᴰ as Mem}
 use Prim.Native.Nat.{ℕ, _≤_, _<_}
 use lib.Dec.{T}
-use lib.ListN.{length, take}
+use lib.ListN.{length, take, getD}
+use Rattle.forms.specs.Limits.{liveLimit}
 use Rattle.forms.specs.Forms.{Did, Answer, Ended, Shown}
 use Rattle.rules.specs.Book.{Cell, cell}
 use Rattle.rules.specs.Log.{didsText, logText}
 use Rattle.rules.specs.State.{State, Reply, refused, ok}
 use Rattle.rules.specs.Calls.{openSite, restart, Call, Show, Cut, End}
+use Rattle.rules.specs.Poll.{busy, poll}
 use Rattle.rules.specs.Run.{run}
 use Rattle.rules.specs.Good.{didIds}
 use Rattle.recovery.specs.Claim.{counted, Fair, lostBy, came, Asked, Recovered}
 use Rattle.site.specs.declared.Site.{Site}
 use Rattle.site.specs.declared.CallResult.{CallResult}
+use Rattle.site.specs.declared.poll.PollAnswer.{PollAnswer}
+use Rattle.history.specs.Words.{busyIn}
 use Rattle.table.specs.declared.Lookup.{Lookup}
 use Rattle.table.specs.Tables.{liveNumbers, entryOf}
 use Rattle.site.specs.OpenLaws.{blankSite}
 use Rattle.site.specs.EntryOf.{EntryIs}
+use Rattle.site.specs.Polls.{polledOf, Polls}
 use Rattle.site.specs.Model.{Lent, view, Valid, AcceptedAs, Opens, Steps}
 
 -- ### Calls of the code's site
@@ -126,3 +131,22 @@ EntryClaim =
     (m : ℕ) (start : Memory) → StartsSite m start →
     (cs : List Call) (x : Memory) → Execution start cs x →
     (id : ℕ) → (stateIn x ≡ run cs (stateIn start)) × EntryIs (x .site) (x .lent) id (entryIn x id)
+
+-- ### The poll of a history
+
+-- A site and what is lent to it hold for each history "the number of its future, in-progress and volatile updates" in the state st, each at most
+-- 64; and whatever `Site::poll` gives by its contract is what the specification says of st: dry exactly if the history is dry there, 3 for a
+-- history that is not there.
+pub record PollsAs (x : Memory) (st : State) : Type 0 where
+  pub state : stateIn x ≡ st
+  pub number : (h : ℕ) → h < x .site .count → getD (busyIn (x .lent .book)) h 0 ≡ busy st h
+  pub few : (h : ℕ) → h < x .site .count → getD (busyIn (x .lent .book)) h 0 ≤ liveLimit
+  pub answer : (h : ℕ) (r : PollAnswer) → Polls (x .site) (x .lent .book) h r → polledOf r ≡ poll h st
+
+-- "true after every call, restart and redo from a newly opened or restarted site": in every state that calls reach from such a site; the state is
+-- the one that `run` of the calls gives.
+abbrev pub PollClaim : Type 0
+PollClaim =
+    (m : ℕ) (start : Memory) → StartsSite m start →
+    (cs : List Call) (x : Memory) → Execution start cs x →
+    PollsAs x (run cs (stateIn start))

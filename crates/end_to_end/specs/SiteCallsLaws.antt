@@ -12,6 +12,7 @@ use Rattle.rules.specs.Book.{Cell}
 use Rattle.rules.specs.Log.{logText}
 use Rattle.rules.specs.State.{State, Reply, refused, ok, settle, logBytes}
 use Rattle.rules.specs.Calls.{restart, Call, Cut, step}
+use Rattle.rules.specs.PollLaws.{busy-few}
 use Rattle.rules.specs.Run.{run}
 use Rattle.recovery.specs.Claim.{Start, justOpened, justRestarted, counted, Fair, lostBy, came, Asked, Shows, Recovered}
 use Rattle.recovery.specs.Recovery.{run-append, recovery}
@@ -21,7 +22,7 @@ use Rattle.site.specs.OpenLaws.{blankSite}
 use Rattle.site.specs.EntryOf.{entry-is}
 use Rattle.site.specs.Model.{Lent, represented, AcceptedAs, Does, Opens}
 use Rattle.site.specs.RestartLaws.{cut-restarts, log-limit, used-limit}
-use Rattle.end_to_end.specs.SiteCalls.{EntryClaim, Memory, memory, stateIn, ValidIn, logIn, goesOnFrom, Transition, calls, restarts}
+use Rattle.end_to_end.specs.SiteCalls.{EntryClaim, PollsAs, PollClaim, Memory, memory, stateIn, ValidIn, logIn, goesOnFrom, Transition, calls, restarts}
 use Rattle.end_to_end.specs.SiteCalls.{Execution, none, next}
 use Rattle.end_to_end.specs.SiteCalls.{StartsSite, opens, restarted, AnswersCall, ShowsIn, RecoveredIn, SiteCallsClaim}
 
@@ -158,3 +159,20 @@ entry-claim m start begins cs x made id =
     let b = starts-at begins in
     let r = calls-run (b .0) made in
     (r .state, entry-is (x .site) (x .lent) (r .valid) id)
+
+-- ### The poll of a history
+
+-- The numbers are a part of the invariant, and the poll's contract holds with the log, rows and order that the site has.
+polls-as : (x : Memory) (st : State) → RunsAs x st → PollsAs x st
+unfolding Sound
+polls-as x st r =
+    subst (PollsAs x) (r .state)
+    (record {
+      state = refl;
+      number = λ h lt. r .valid .sound .carries .busy h lt;
+      few = λ h lt. omega (arith, r .valid .sound .carries .busy h lt, busy-few (stateIn x) h (r .valid .sound .good));
+      answer = λ h a p. p (x .lent .log) (x .lent .rows) (x .lent .order) (r .valid);
+    })
+
+pub poll-claim : PollClaim
+poll-claim m start begins cs x made = polls-as x (run cs (stateIn start)) (calls-run (starts-at begins .0) made)
