@@ -16,6 +16,17 @@ mod linked {
             out_length: usize,
         ) -> usize;
 
+        pub fn session_polls(
+            input: *const u8,
+            input_length: usize,
+            log: *mut u8,
+            log_length: usize,
+            out: *mut u8,
+            out_length: usize,
+            histories: *mut u64,
+            histories_length: usize,
+        ) -> usize;
+
         pub fn site_restart(
             log: *const u8,
             log_length: usize,
@@ -140,6 +151,28 @@ impl Program for Library {
                 log.len(),
                 out.as_mut_ptr(),
                 out.len(),
+            )
+        })
+    }
+
+    fn session_polls(
+        &self,
+        input: &[u8],
+        log: &mut [u8],
+        out: &mut [u8],
+        histories: &mut [u64],
+    ) -> Option<usize> {
+        // SAFETY: see above.
+        fitting(unsafe {
+            linked::session_polls(
+                input.as_ptr(),
+                input.len(),
+                log.as_mut_ptr(),
+                log.len(),
+                out.as_mut_ptr(),
+                out.len(),
+                histories.as_mut_ptr(),
+                histories.len(),
             )
         })
     }

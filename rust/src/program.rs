@@ -19,6 +19,10 @@ pub const NO_KEEPER: u64 = 999;
 /// than those of 64.
 pub const NO_RECORDS: u64 = 999;
 
+/// What a poll gives for a dry history, and for one that is not dry.
+pub const DRY: u64 = 1001;
+pub const BUSY: u64 = 1000;
+
 /// The room that is lent behind the replies of a session. No reply has more bytes.
 pub const SPARE: usize = 2730;
 
@@ -29,6 +33,17 @@ pub trait Program {
     /// Runs a whole session over a log buffer. Gives the length of the replies, or nothing
     /// when `out` is too short for them. It may ask for [`SPARE`] bytes more than they have.
     fn session(&self, input: &[u8], log: &mut [u8], out: &mut [u8]) -> Option<usize>;
+
+    /// The same, and then each number of `histories` becomes what a poll of that history gives at
+    /// the session's end: [`DRY`], [`BUSY`] or a refusal's number. They stay as they are when
+    /// `out` is too short.
+    fn session_polls(
+        &self,
+        input: &[u8],
+        log: &mut [u8],
+        out: &mut [u8],
+        histories: &mut [u64],
+    ) -> Option<usize>;
 
     /// Restarts from the first `kept` bytes of a log. Gives the length of the reply line, for
     /// which 64 bytes are enough, or nothing when `out` is too short for it.
@@ -86,7 +101,26 @@ impl Program for Second {
     }
 
     fn session(&self, input: &[u8], log: &mut [u8], out: &mut [u8]) -> Option<usize> {
-        put(&session::run(input, log, self.rules), out)
+        put(&session::run(input, log, self.rules).0, out)
+    }
+
+    fn session_polls(
+        &self,
+        input: &[u8],
+        log: &mut [u8],
+        out: &mut [u8],
+        histories: &mut [u64],
+    ) -> Option<usize> {
+        let (replies, session) = session::run(input, log, self.rules);
+        let length = put(&replies, out)?;
+        for number in histories {
+            *number = match session.poll(*number) {
+                Ok(true) => DRY,
+                Ok(false) => BUSY,
+                Err(refusal) => refusal.number(),
+            };
+        }
+        Some(length)
     }
 
     fn restart(&self, log: &[u8], kept: usize, out: &mut [u8]) -> Option<usize> {

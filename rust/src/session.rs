@@ -23,6 +23,11 @@ impl Session {
         self.site.as_ref()
     }
 
+    /// Whether a history of the site is dry. No line of a session asks this.
+    pub fn poll(&self, history: u64) -> Result<bool, Refusal> {
+        self.site.as_ref().ok_or(Refusal::WrongTime)?.poll(history)
+    }
+
     /// Answers one line, which comes without its end.
     pub fn answer(&mut self, line: &[u8], log: &mut [u8]) -> Answer {
         let command = reader::command(line, self.rules).ok_or(Refusal::Unreadable)?;
@@ -63,8 +68,8 @@ fn perform(command: Command, site: &mut Site, log: &mut [u8]) -> Answer {
     })
 }
 
-/// Runs a whole session over a log buffer; gives its replies.
-pub fn run(input: &[u8], log: &mut [u8], rules: Rules) -> Vec<u8> {
+/// Runs a whole session over a log buffer; gives its replies, and the session at its end.
+pub fn run(input: &[u8], log: &mut [u8], rules: Rules) -> (Vec<u8>, Session) {
     let mut session = Session::new(rules);
     let mut replies = Vec::new();
     for piece in input.split_inclusive(|&byte| byte == b'\n') {
@@ -75,5 +80,5 @@ pub fn run(input: &[u8], log: &mut [u8], rules: Rules) -> Vec<u8> {
         };
         writer::answer(&mut replies, &answer);
     }
-    replies
+    (replies, session)
 }

@@ -9,5 +9,5 @@ fn main() -> io::Result<()> {
     let mut input = Vec::new();
     io::stdin().read_to_end(&mut input)?;
     let mut log = vec![0; 65_536];
-    io::stdout().write_all(&session::run(&input, &mut log, Rules::PAPER))
+    io::stdout().write_all(&session::run(&input, &mut log, Rules::PAPER).0)
 }

@@ -23,7 +23,8 @@ pub fn check(trial: &SessionTrial) {
 }
 
 /// A refused call changes nothing; an accepted one no byte past those in use. With w lines
-/// waiting, the new one included, a redo that runs R of them examines at most (R + 1) × w.
+/// waiting, the new one included, a redo that runs R of them examines at most (R + 1) × w. The
+/// histories named dry are those whose polls say so after the call and not before it.
 fn check_change(before: &(Session, Vec<u8>), after: (&Session, &Vec<u8>), answer: &Answer) {
     if answer.is_err() {
         assert_eq!((&before.0, &before.1), after, "a refused call changed something");
@@ -31,6 +32,12 @@ fn check_change(before: &(Session, Vec<u8>), after: (&Session, &Vec<u8>), answer
     if let Ok(Reply::Redone { lines, examined }) = answer {
         let waiting = 1 + before.0.site().map_or(0, Site::waiting) as u64;
         assert!((1..=(lines + 1) * waiting).contains(examined), "{examined} of {waiting}");
+    }
+    if let Ok(Reply::Persistent { dry, .. } | Reply::Withdrawn { dry }) = answer {
+        for history in 0..Site::MOST_HISTORIES {
+            let (then, now) = (before.0.poll(history), after.0.poll(history));
+            assert_eq!(dry.contains(history), (then, now) == (Ok(false), Ok(true)));
+        }
     }
     let used = after.0.site().map_or(0, Site::used);
     assert_eq!(before.1[used..], after.1[used..], "a byte past those in use changed");

@@ -94,7 +94,7 @@ mod library {
     use super::*;
     use second::library::Library;
     use second::program::SPARE;
-    use trial::{used_buffer, Played};
+    use trial::{polled, used_buffer, Played};
 
     #[test]
     fn its_sessions_agree() {
@@ -133,6 +133,10 @@ mod library {
                 if given.is_some() {
                     assert_eq!((&log, &out[..]), (&played.log, &played.out[..room]));
                 }
+                let (mut log, mut out) = (used_buffer(trial.room), used_buffer(room));
+                let (input, mut polls) = (trial.pieces.concat(), polled());
+                assert_eq!(Library.session_polls(&input, &mut log, &mut out, &mut polls), given);
+                assert_eq!(polls == polled(), given.is_none());
             }
         }
     }
@@ -265,6 +269,7 @@ fn the_trials_reach_everything() {
     let expected = KINDS.iter().map(|kind| kind.to_string()).chain(
         (1..=15)
             .map(|number| format!("(refused {number})"))
+            .chain(refusals("poll ", &[3, 14]))
             .chain(refusals("keep ", &[1, 2, 3, 4, 5, 8, 12, 13, 20, NO_KEEPER]))
             .chain(refusals("drop ", &[3, 13, NO_KEEPER]))
             .chain(refusals("hand out ", &[12, 13, NO_KEEPER]))
@@ -283,7 +288,7 @@ fn the_trials_reach_everything() {
 const LOOKS: [&str; 5] = ["(ok 0 1)", "(ok 0 2)", "(ok 1 1)", "(ok 1 3)", "(ok 2 3)"];
 
 /// The kinds of replies, refusals aside.
-const KINDS: [&str; 34] = [
+const KINDS: [&str; 36] = [
     "(ok)",
     "(ok (ready N))",
     "(ok (ready))",
@@ -306,6 +311,8 @@ const KINDS: [&str; 34] = [
     "(ok (waiting N))",
     "(ok (waiting))",
     "(history N)",
+    "poll dry",
+    "poll not dry",
     "restart (ok N N)",
     "restart (refused 13)",
     "restart (refused 15)",

@@ -6,7 +6,8 @@ use std::ops::Range;
 use std::sync::LazyLock;
 
 use second::keeper::Places;
-use second::program::{Outcome, Program, SPARE};
+use second::program::{Outcome, Program, BUSY, DRY, SPARE};
+use second::site::Site;
 
 use crate::random::Random;
 
@@ -154,6 +155,13 @@ pub struct Played {
     pub length: Option<usize>,
     pub out: Vec<u8>,
     pub log: Vec<u8>,
+    /// What polls give at its end, if it was run to poll.
+    pub polls: Vec<u64>,
+}
+
+/// The histories that are polled: all that a site can have, one more, and numbers far above.
+pub fn polled() -> Vec<u64> {
+    (0..=Site::MOST_HISTORIES).chain([17, 255, 256, 1 << 32, 1 << 63, u64::MAX]).collect()
 }
 
 impl Played {
@@ -162,7 +170,15 @@ impl Played {
         let mut log = used_buffer(room);
         let mut out = used_buffer(200 * pieces.len() + SPARE);
         let length = program.session(&pieces.concat(), &mut log, &mut out);
-        Played { length, out, log }
+        Played { length, out, log, polls: Vec::new() }
+    }
+
+    /// The same, with every history polled at its end.
+    pub fn polled_by(program: &dyn Program, pieces: &[Vec<u8>], room: usize) -> Played {
+        let (mut log, mut polls) = (used_buffer(room), polled());
+        let mut out = used_buffer(200 * pieces.len() + SPARE);
+        let length = program.session_polls(&pieces.concat(), &mut log, &mut out, &mut polls);
+        Played { length, out, log, polls }
     }
 
     pub fn replies(&self) -> Vec<String> {
@@ -180,6 +196,10 @@ impl Played {
         if let Some(at) = first_difference(&left, &right) {
             let reply = |replies: &[String]| replies.get(at).cloned().unwrap_or("none".to_string());
             return Some(format!("reply {} is {}, or {}\n", at + 1, reply(&left), reply(&right)));
+        }
+        if let Some(at) = first_difference(&self.polls, &other.polls) {
+            let (left, right) = (self.polls[at], other.polls[at]);
+            return Some(format!("a poll of history {} gives {left}, or {right}\n", polled()[at]));
         }
         Some(match first_difference(&self.log, &other.log) {
             Some(at) => format!("byte {at} of the log buffer differs\n"),
@@ -220,11 +240,16 @@ impl SessionTrial {
         self.pieces.len() - self.unwatched
     }
 
-    /// After how many lines the programs differ, and how.
+    /// After how many lines the programs differ, and how: with the histories polled after each
+    /// of them, and without at the end.
     fn first_difference(&self, left: &dyn Program, right: &dyn Program) -> Option<(usize, String)> {
-        (self.unwatched + 1..=self.pieces.len()).find_map(|length| {
-            let played = |program| Played::by(program, &self.pieces[..length], self.room);
+        let polled = (self.unwatched + 1..=self.pieces.len()).find_map(|length| {
+            let played = |program| Played::polled_by(program, &self.pieces[..length], self.room);
             Some((length, played(left).difference(&played(right))?))
+        });
+        polled.or_else(|| {
+            let played = |program| Played::by(program, &self.pieces, self.room);
+            Some((self.pieces.len(), played(left).difference(&played(right))?))
         })
     }
 }
@@ -244,7 +269,13 @@ impl Trial for SessionTrial {
     }
 
     fn replies(&self, program: &dyn Program) -> Vec<String> {
-        Played::by(program, &self.pieces, self.room).replies()
+        let played = Played::polled_by(program, &self.pieces, self.room);
+        let polls = played.polls.iter().map(|&poll| match poll {
+            DRY => "poll dry".to_string(),
+            BUSY => "poll not dry".to_string(),
+            number => format!("poll refused {number}"),
+        });
+        played.replies().into_iter().chain(polls).collect()
     }
 
     fn difference(&self, left: &dyn Program, right: &dyn Program) -> Option<String> {
