@@ -6,17 +6,18 @@ use mathlib.Core.List.{List, [], _++_}
 use mathlib.Core.Option.{none}
 use lib.ListN.{length, take, drop}
 use Rattle.rules.specs.Log.{linesFrom, linesOf}
-use Rattle.rules.specs.Session.{sessionIn}
+use Rattle.rules.specs.Session.{afterLines, sessionIn}
 use Rattle.table.specs.declared.Table.{Table}
 use Rattle.site.specs.Representation.{Representation}
 use Rattle.site.specs.Model.{Lent, represented}
 use Rattle.session.specs.declared.PartialLine.{PartialLine}
-use Rattle.session.specs.Model.{sessionView, ValidOpened}
+use Rattle.session.specs.Model.{sessionView, ValidOpened, ValidSession}
 use Rattle.session.specs.Feeding.{Progress, atStart, fed, UsablePartial, Begins}
 use Rattle.stream.specs.Logging.{logged}
 use Rattle.stream.specs.declared.Stream.{Stream}
 use Rattle.stream.specs.declared.FeedResult.{FeedResult}
 use Rattle.stream.specs.declared.RunResult.{RunResult}
+use Rattle.stream.specs.declared.SessionRun.{SessionRun}
 
 -- ### The stream
 
@@ -89,3 +90,13 @@ pub record Runs (input old : List ℕ) (r : RunResult) (new out page : List ℕ)
   -- the log buffer, to its last byte
   pub log : new ≡ logged (length old) (linesOf (take (r .used) input)) none old
   pub replies : RunsIf (r .whole) input old r out page
+
+-- What is said of the run alone.
+abbrev pub ranOf : SessionRun → RunResult
+ranOf r = record { whole = r .whole; used = r .used; written = r .written }
+
+-- The same, with the session after the lines that were taken: it is valid, and the specification's.
+pub record RunsSession (input : List ℕ) (old : Lent) (r : SessionRun) (new : Lent) (out page : List ℕ) : Type 0 where
+  pub runs : Runs input (old .log) (ranOf r) (new .log) out page
+  pub valid : ValidSession (r .session) new
+  pub session : sessionView (r .session) new ≡ afterLines (length (old .log)) (linesOf (take (r .used) input)) none

@@ -15,11 +15,11 @@ use Rattle.forms.specs.Held.{outcomeWith}
 use Rattle.forms.specs.declared.Refusal.the-variants.{Unreadable}
 use Rattle.forms.specs.declared.ReplyForm.{ReplyForm}
 use Rattle.rules.specs.Log.{ended, linesOf}
-use Rattle.rules.specs.Session.{restReply, sessionIn}
+use Rattle.rules.specs.Session.{afterLines, restReply, sessionIn}
 use Rattle.site.specs.Model.{Lent}
 use Rattle.session.specs.declared.PartialLine.{PartialLine}
 use Rattle.session.specs.declared.Session.{Session}
-use Rattle.session.specs.Model.{Starts}
+use Rattle.session.specs.Model.{sessionView, Starts}
 use Rattle.session.specs.Feeding.{Progress, atStart, fed, UsablePartial, Begins}
 use Rattle.forms.specs.Write.{Wrote, Writes, WritesIf, withEnd}
 use Rattle.forms.specs.WriteLaws.{placed-none, writes-there, writes-not}
@@ -149,6 +149,11 @@ module _ (input : List ℕ) (old : Lent) (s : Stream) (f : FeedResult) (new : Le
   unfolding atStart
   logs = feeds .log [] (starts .begun)
       ∙ ap (λ (g : Progress). logged (length (old .log)) (linesOf (take (f .used) input)) (g .session) (old .log)) (starts .is)
+
+  -- The session after the lines that were taken.
+  pub session-after : sessionView (f .stream .session) new ≡ afterLines (length (old .log)) (linesOf (take (f .used) input)) none
+  unfolding fed atStart
+  session-after = comes .session
 
   grows : length (done .replied) ≤ length (fed (length (old .log)) input atStart .replied)
   grows =
