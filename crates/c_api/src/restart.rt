@@ -4,6 +4,7 @@ ghost use Rattle.rules.specs.Calls.{restart};
 ghost use Rattle.c_api.specs.Codes.{codeOf, PutsText, replyText};
 use forms::writer::Written;
 use forms::writer::write_reply;
+use history::book::WIDTH;
 use site::Site;
 
 // A place in a buffer as a plain number: 2^64 − 1 where there was no room.
@@ -23,7 +24,7 @@ pub extern "C" fn site_restart(log: &[u8], k: usize, out: &mut [u8]) -> usize
 {
     let rows = [0u64; 1472];
     let mut order = [0u8; 64];
-    let mut book = [0u64; 80];
+    let mut book = [0u64; Site::HISTORIES * WIDTH];
     let c = Site::restart(log, &rows, &mut order, &mut book, k);
     let reply = c.reply;
     let form = reply.form;

@@ -14,6 +14,7 @@ use forms::ReplyNumbers;
 use forms::Rule;
 use forms::Version;
 use history::book::BookWords;
+use history::book::WIDTH;
 use site::Site;
 use table::order::Order;
 use table::rows::Rows;
@@ -104,7 +105,7 @@ pub extern "C" fn site_add_and_finish(log: &mut [u8], n: u64) -> usize
 {
     let mut rows = [0u64; 1472];
     let mut order = [0u8; 64];
-    let mut book = [0u64; 80];
+    let mut book = [0u64; Site::HISTORIES * WIDTH];
     let c = Site::open(log, &rows, &mut order, &mut book, 4);
     let mut site = c.site;
     if site.count == 0 {

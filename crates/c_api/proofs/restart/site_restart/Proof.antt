@@ -1,11 +1,12 @@
 -- The contract of restart holds for whatever stands in the order and in the book's numbers, so zeros serve; its reply is then written as text.
 use denote.Ref.{now}
-use Prim.Native.Nat.{ℕ}
+use Prim.Native.Nat.{ℕ, _*_}
 use mathlib.Core.List.{List, []}
 use lib.ListN.{replicate}
 use native.Mathlib.Omega.{arith}
 use borrow.Author.Needs.{needs}
 use Rattle.rules.specs.Calls.{restart}
+use Rattle.history.specs.Words.{width}
 use Rattle.site.specs.Model.{lent}
 use Rattle.site.specs.OpenLaws.{blankSite}
 use Rattle.c_api.specs.RestartLaws.{puts-reply}
@@ -20,7 +21,7 @@ abbrev os : List ℕ
 os = replicate 64 0
 
 abbrev bs : List ℕ
-bs = replicate 80 0
+bs = replicate (16 * width) 0
 
 restart-requires : tie.Need-restart-requires
 restart-requires c κs = search needs

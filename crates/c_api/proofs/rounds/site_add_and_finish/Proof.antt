@@ -1,13 +1,14 @@
 -- The loop's invariant: the site is what the rounds below `id` reach from the one that was opened. A refused opening hands back a site
 -- without histories.
 use denote.Ref.{now}
-use Prim.Native.Nat.{ℕ, _-_, _≤_}
+use Prim.Native.Nat.{ℕ, _*_, _-_, _≤_}
 use mathlib.Core.Path.{_≡_, refl, _∙_}
 use mathlib.Core.List.{List, []}
 use lib.ListN.{length, replicate}
 use native.Mathlib.Omega.{arith}
 use borrow.Author.Needs.{needs}
 use Rattle.rules.specs.Calls.{openSite}
+use Rattle.history.specs.Words.{width}
 use Rattle.site.specs.declared.Site.{Site}
 use Rattle.site.specs.Model.{Lent, lent}
 use Rattle.c_api.specs.Rounds.{Reaches, roundsCalls}
@@ -30,7 +31,7 @@ os = replicate 64 0
 
 -- the words of the histories before the site is opened
 abbrev bs : List ℕ
-bs = replicate 80 0
+bs = replicate (16 * width) 0
 
 -- the words of the lists of a reply before the first round
 abbrev ws : List ℕ
