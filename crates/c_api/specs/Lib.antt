@@ -8,3 +8,5 @@ pub mod Rounds
 pub mod RoundsLaws
 pub mod RecordCalls
 pub mod RecordCallLaws
+pub mod Polls
+pub mod PollCallLaws

@@ -1,6 +1,7 @@
 // What programs in other languages call, on numbers and byte slices alone. Nothing is required of what they lend.
 pub mod keepers;
 pub mod play;
+pub mod polls;
 pub mod record_calls;
 pub mod restart;
 pub mod rounds;

@@ -23,7 +23,7 @@ finish-requires c κs =
     let asked = c .before .before .before .before .before .before .before .before .before .before .before .before .asked-inc in
     let add = c .before .before .before .before .before .before .add in
     let m = lent (now (e .args .log)) (now (e .args .rows)) (now (e .args .order)) (now (e .args .book)) (now (e .args .lists)) in
-    let mid = lent (now (e .args .log)) (add .last .1 .1 .0) (now (e .args .order)) (now (e .args .book)) (add .last .1 .1 .1 .1 .1 .0) in
+    let mid = lent (now (e .args .log)) (add .last .1 .1 .0) (now (e .args .order)) (add .last .1 .1 .1 .1 .0) (add .last .1 .1 .1 .1 .1 .0) in
     let valid = call-reaches (e .args .site) m (Call.Add (e .args .id) (updatesHeld (asked .result))) (add .result) mid (e .pre) (add .ensures) .valid in
     valid
 
@@ -37,7 +37,7 @@ returns c =
     let add = c .before .before .before .before .before .before .before .before .before .before .add in
     let finish = c .before .before .before .finish in
     let m = lent (now (e .args .log)) (now (e .args .rows)) (now (e .args .order)) (now (e .args .book)) (now (e .args .lists)) in
-    let mid = lent (now (e .args .log)) (add .last .1 .1 .0) (now (e .args .order)) (now (e .args .book)) (add .last .1 .1 .1 .1 .1 .0) in
+    let mid = lent (now (e .args .log)) (add .last .1 .1 .0) (now (e .args .order)) (add .last .1 .1 .1 .1 .0) (add .last .1 .1 .1 .1 .1 .0) in
     two-reach (e .args .site) m _ (add .result) mid (Call.Finish (e .args .id)) (finish .result)
     (lent (finish .last .1 .0) (finish .last .1 .1 .0) (finish .last .1 .1 .1 .0) (finish .last .1 .1 .1 .1 .0) (finish .last .1 .1 .1 .1 .1 .0)) (e .pre)
     (adds-updates (e .args .site) m (e .args .id) (updatesHeld (asked .result)) _ (add .result) mid (asked .ensures) (add .ensures)) (finish .ensures)
