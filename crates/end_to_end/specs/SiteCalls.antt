@@ -134,17 +134,17 @@ EntryClaim =
 
 -- ### The poll of a history
 
--- A site and what is lent to it hold for each history "the number of its future, in-progress and volatile updates" in the state st, each at most
--- 64; and whatever `Site::poll` gives by its contract is what the specification says of st: dry exactly if the history is dry there, 3 for a
--- history that is not there.
+-- A site and what is lent to it hold for each history "the number of its future, in-progress and volatile updates" in the state st, each at
+-- most 64; and whatever `Site::poll` gives by its contract is what the specification says of st: dry exactly if the history is dry there, 3
+-- for a history that is not there.
 pub record PollsAs (x : Memory) (st : State) : Type 0 where
   pub state : stateIn x ≡ st
   pub number : (h : ℕ) → h < x .site .count → getD (busyIn (x .lent .book)) h 0 ≡ busy st h
   pub few : (h : ℕ) → h < x .site .count → getD (busyIn (x .lent .book)) h 0 ≤ liveLimit
   pub answer : (h : ℕ) (r : PollAnswer) → Polls (x .site) (x .lent .book) h r → polledOf r ≡ poll h st
 
--- "true after every call, restart and redo from a newly opened or restarted site": in every state that calls reach from such a site; the state is
--- the one that `run` of the calls gives.
+-- "true after every call, restart and redo from a newly opened or restarted site": in every state that calls reach from such a site; the
+-- state is the one that `run` of the calls gives.
 abbrev pub PollClaim : Type 0
 PollClaim =
     (m : ℕ) (start : Memory) → StartsSite m start →

@@ -25,7 +25,8 @@ items-snoc h [] x = omega arith
 items-snoc h (y ∷ xs) x = omega (arith, items-snoc h xs x)
 
 -- one more of the items
-items-next : (h : ℕ) (xs : List Item) (i : ℕ) → i < length xs → itemsIn h (take (i + 1) xs) ≡ itemsIn h (take i xs) + cond (eqb (getD xs i noItem .history) h) 1 0
+items-next : (h : ℕ) (xs : List Item) (i : ℕ) → i < length xs →
+    itemsIn h (take (i + 1) xs) ≡ itemsIn h (take i xs) + cond (eqb (getD xs i noItem .history) h) 1 0
 items-next h xs i lt = rw (add-one i, take-suc xs i noItem lt) (items-snoc h (take i xs) (getD xs i noItem))
 
 -- The first i items counted: each history has its number of them more in `high` than in `low`, and nothing else differs.
@@ -48,12 +49,14 @@ module _ (ws : List ℕ) (k v : ℕ) (low : k < 16) (long : length ws ≡ bookLe
       ap (λ (n : ℕ). getD (set ws (width * k + 5) v) (width * n + 5) 0) (sym e)
       ∙ getD-set-same ws (width * k + 5) v 0 (omega (arith, long, low))
 
-  pub stored-other : (g h : ℕ) → g < width → ((g ≡ 5) → (h ≡ k) → ⊥) → getD (set ws (width * k + 5) v) (width * h + g) 0 ≡ getD ws (width * h + g) 0
+  pub stored-other : (g h : ℕ) → g < width → ((g ≡ 5) → (h ≡ k) → ⊥) →
+      getD (set ws (width * k + 5) v) (width * h + g) 0 ≡ getD ws (width * h + g) 0
   stored-other g h l ne =
       getD-set-other ws (width * k + 5) (width * h + g) v 0
       (λ (e : width * h + g ≡ width * k + 5). ne (omega (arith, e, l)) (omega (arith, e, l)))
 
-module _ (xs : List Item) (i : ℕ) (low high : List ℕ) (s : Counted xs i low high) (lt : i < length xs) (few : getD xs i noItem .history < 16) where
+module _ (xs : List Item) (i : ℕ) (low high : List ℕ) (s : Counted xs i low high) (lt : i < length xs)
+    (few : getD xs i noItem .history < 16) where
   abbrev k : ℕ
   k = getD xs i noItem .history
 
@@ -65,16 +68,25 @@ module _ (xs : List Item) (i : ℕ) (low high : List ℕ) (s : Counted xs i low 
         wide = length-set high (width * k + 5) (getD high (width * k + 5) 0 + 1) ∙ s .wide;
         numbers = λ h l. go h l (eqb k h) refl;
         rest = λ g h l ne. stored-other high k _ few (s .wide) g h l (λ e _. ne e) ∙ s .rest g h l ne;
-        past = λ n into. past-set n low high (width * k + 5) _ (omega (arith, into i (omega arith))) (s .past n (λ j l. into j (omega (arith, l))));
+        past = λ n into. past-set n low high (width * k + 5) _ (omega (arith, into i (omega arith)))
+            (s .past n (λ j l. into j (omega (arith, l))));
       }
     where
       go : (h : ℕ) → h < 16 → (b : Bool) → eqb k h ≡ b →
-          getD (set high (width * k + 5) (getD high (width * k + 5) 0 + 1)) (width * h + 5) 0 ≡ getD low (width * h + 5) 0 + itemsIn h (take (i + 1) xs)
+          getD (set high (width * k + 5) (getD high (width * k + 5) 0 + 1)) (width * h + 5) 0
+          ≡ getD low (width * h + 5) 0 + itemsIn h (take (i + 1) xs)
       go h l true e =
           let q : k ≡ h = eqb-true k h e in
           let at : getD high (width * k + 5) 0 ≡ getD high (width * h + 5) 0 = ap (λ (n : ℕ). getD high (width * n + 5) 0) q in
           let one : _≡_ {A = ℕ} (cond (eqb k h) 1 0) 1 = ap (λ (b : Bool). cond b 1 0) e in
-          omega (arith, stored-here high k (getD high (width * k + 5) 0 + 1) few (s .wide) h q, at, s .numbers h l, items-next h xs i lt, one)
+          omega (
+            arith,
+            stored-here high k (getD high (width * k + 5) 0 + 1) few (s .wide) h q,
+            at,
+            s .numbers h l,
+            items-next h xs i lt,
+            one,
+          )
       go h l false e =
           let none : _≡_ {A = ℕ} (cond (eqb k h) 1 0) 0 = ap (λ (b : Bool). cond b 1 0) e in
           omega (
@@ -93,16 +105,26 @@ module _ (xs : List Item) (i : ℕ) (low high : List ℕ) (s : Counted xs i low 
         wide = s .wide;
         numbers = λ h l. go h l (eqb k h) refl;
         rest = λ g h l ne. s .rest g h l ne ∙ sym (stored-other low k _ few (s .long) g h l (λ e _. ne e));
-        past = λ n into. s .past n (λ j l. into j (omega (arith, l))) ∙ sym (past-set n low low (width * k + 5) _ (omega (arith, into i (omega arith))) refl);
+        past = λ n into. s .past n (λ j l. into j (omega (arith, l)))
+            ∙ sym (past-set n low low (width * k + 5) _ (omega (arith, into i (omega arith))) refl);
       }
     where
       go : (h : ℕ) → h < 16 → (b : Bool) → eqb k h ≡ b →
-          getD high (width * h + 5) 0 ≡ getD (set low (width * k + 5) (getD low (width * k + 5) 0 - 1)) (width * h + 5) 0 + itemsIn h (take (i + 1) xs)
+          getD high (width * h + 5) 0
+          ≡ getD (set low (width * k + 5) (getD low (width * k + 5) 0 - 1)) (width * h + 5) 0 + itemsIn h (take (i + 1) xs)
       go h l true e =
           let q : k ≡ h = eqb-true k h e in
           let at : getD low (width * k + 5) 0 ≡ getD low (width * h + 5) 0 = ap (λ (n : ℕ). getD low (width * n + 5) 0) q in
           let one : _≡_ {A = ℕ} (cond (eqb k h) 1 0) 1 = ap (λ (b : Bool). cond b 1 0) e in
-          omega (arith, stored-here low k (getD low (width * k + 5) 0 - 1) few (s .long) h q, at, some, s .numbers h l, items-next h xs i lt, one)
+          omega (
+            arith,
+            stored-here low k (getD low (width * k + 5) 0 - 1) few (s .long) h q,
+            at,
+            some,
+            s .numbers h l,
+            items-next h xs i lt,
+            one,
+          )
       go h l false e =
           let none : _≡_ {A = ℕ} (cond (eqb k h) 1 0) 0 = ap (λ (b : Bool). cond b 1 0) e in
           omega (
@@ -122,7 +144,8 @@ items-part h (x ∷ xs) (suc i) zero le = absurd (omega arith)
 items-part h (x ∷ xs) (suc i) (suc n) le = omega (arith, items-part h xs i n (omega arith))
 
 -- the next item is among those counted in all
-pub items-some : (xs : List Item) (i n : ℕ) → i < n → i < length xs → itemsIn (getD xs i noItem .history) (take i xs) + 1 ≤ itemsIn (getD xs i noItem .history) (take n xs)
+pub items-some : (xs : List Item) (i n : ℕ) → i < n → i < length xs →
+    itemsIn (getD xs i noItem .history) (take i xs) + 1 ≤ itemsIn (getD xs i noItem .history) (take n xs)
 items-some xs i n l lt =
     let k = getD xs i noItem .history in
     let one : _≡_ {A = ℕ} (cond (eqb k k) 1 0) 1 = ap (λ (b : Bool). cond b 1 0) (T-true (eqb k k) (eqb-refl k)) in
@@ -142,13 +165,15 @@ items-low n h (x ∷ xs) (suc k) low l =
 
 -- the histories of an entry's updates, by index and by number
 in-first : (n : ℕ) (e : Entry) → UsableEntry e → AllInFirst n (e ∷ []) → InFirst n e
-in-first n e u into j l = into (getD (e .items) j noItem .history) (omega (arith, items-some (e .items) j (e .count) l (omega (arith, u .few, u .long))))
+in-first n e u into j l = into (getD (e .items) j noItem .history)
+    (omega (arith, items-some (e .items) j (e .count) l (omega (arith, u .few, u .long))))
 
 pub all-in-first : (n : ℕ) (e : Entry) → InFirst n e → AllInFirst n (e ∷ [])
 all-in-first n e within h some = items-low n h (e .items) (e .count) within (omega (arith, some))
 
 -- All items counted.
-pub counted-all : (e : Entry) (i : ℕ) (low high : List ℕ) → UsableEntry e → i ≡ e .count → Counted (e .items) i low high → CountsMore (e ∷ []) low high
+pub counted-all : (e : Entry) (i : ℕ) (low high : List ℕ) → UsableEntry e → i ≡ e .count → Counted (e .items) i low high →
+    CountsMore (e ∷ []) low high
 counted-all e i low high u z s =
     record {
       numbers = λ h l.
@@ -166,7 +191,8 @@ pub counts-none : (ws : List ℕ) → CountsMore [] ws ws
 counts-none ws = record { numbers = λ h l. omega arith; others = λ g l ne. refl; histories = refl; past = λ n into. refl }
 
 -- two lists of entries, those behind counted where the numbers are lower
-pub counts-then : (es fs : List Entry) (low mid high : List ℕ) → CountsMore fs low mid → CountsMore es mid high → CountsMore (es ++ fs) low high
+pub counts-then : (es fs : List Entry) (low mid high : List ℕ) → CountsMore fs low mid → CountsMore es mid high →
+    CountsMore (es ++ fs) low high
 counts-then es fs low mid high a b =
     record {
       numbers = λ h l. omega (arith, a .numbers h l, b .numbers h l, sum-append (entryIn h) es fs);

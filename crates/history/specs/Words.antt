@@ -23,8 +23,8 @@ pub record UnchangedOutside (at n : ℕ) (old new : List ℕ) : Type 0 where
 
 -- ### What the words mean
 
--- How many numbers a history has: its profile, version and place, its persistent and its stable version, and how many of its updates are future, in
--- progress or volatile. Those of history i begin at `width * i`.
+-- How many numbers a history has: its profile, version and place, its persistent and its stable version, and how many of its updates are
+-- future, in progress or volatile. Those of history i begin at `width * i`.
 abbrev pub width : ℕ
 width = 6
 

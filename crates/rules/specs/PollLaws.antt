@@ -206,7 +206,8 @@ once-few f h (x ∷ l) once = go (eqb (f x) h) refl (once-few f h l (once .1))
     go false e below = omega (arith, below)
 
 -- a history that one of them has is among the first n, when theirs are
-known-low : {A : Type 0} (f : A → ℕ) (n h : ℕ) (l : List A) → ((x : A) → Mem x l → f x < n) → 1 ≤ sum (λ (x : A). tell (eqb (f x) h)) l → h < n
+known-low : {A : Type 0} (f : A → ℕ) (n h : ℕ) (l : List A) → ((x : A) → Mem x l → f x < n) → 1 ≤ sum (λ (x : A). tell (eqb (f x) h)) l →
+    h < n
 known-low f n h [] low some = absurd (let z : 1 ≤ 0 = some in omega arith)
 known-low f n h (x ∷ l) low some = by (eqb (f x) h) refl (known-low f n h l (λ y m. low y (there m))) some
   where
@@ -225,12 +226,14 @@ module _ (n h : ℕ) (d : Did) (formed : changesRefusal n (d .changes) ≡ none)
   line-known some = known-low (λ (x : Change). x .history) n h (d .changes) (formed-changes n (d .changes) formed .known) some
 
 -- .. so too of some lines
-pub lines-known : (n h : ℕ) (ds : List Did) → ((d : Did) → Mem d ds → changesRefusal n (d .changes) ≡ none) → 1 ≤ sum (changesIn h) ds → h < n
+pub lines-known : (n h : ℕ) (ds : List Did) → ((d : Did) → Mem d ds → changesRefusal n (d .changes) ≡ none) → 1 ≤ sum (changesIn h) ds →
+    h < n
 lines-known n h [] formed some = absurd (let z : 1 ≤ 0 = some in omega arith)
 lines-known n h (d ∷ ds) formed some =
     by (changesIn h d) refl (line-known n h d (formed d (here refl))) (lines-known n h ds (λ x m. formed x (there m))) some
   where
-    by : (k : ℕ) → changesIn h d ≡ k → (1 ≤ changesIn h d → h < n) → (1 ≤ sum (changesIn h) ds → h < n) → 1 ≤ changesIn h d + sum (changesIn h) ds → h < n
+    by : (k : ℕ) → changesIn h d ≡ k → (1 ≤ changesIn h d → h < n) → (1 ≤ sum (changesIn h) ds → h < n) →
+        1 ≤ changesIn h d + sum (changesIn h) ds → h < n
     by zero e one rest l = rest (omega (arith, e, l))
     by (suc k) e one rest l = one (omega (arith, e))
 
@@ -257,7 +260,8 @@ busy-live st h G =
     changed : (d : Did) → Mem d (drop (st .persistentTo) (st .log)) → changesIn h d ≤ 1
     changed d m =
         line-once (st .histories) h d
-        (G .formed d (mem-along (take-append-drop (st .persistentTo) (st .log)) (Memᴰ·append-right (take (st .persistentTo) (st .log)) m)) .passes)
+        (G .formed d (mem-along (take-append-drop (st .persistentTo) (st .log))
+        (Memᴰ·append-right (take (st .persistentTo) (st .log)) m)) .passes)
 
 -- "each at most 64"
 pub busy-few : (st : State) (h : ℕ) → Good st → busy st h ≤ liveLimit

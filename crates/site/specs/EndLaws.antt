@@ -38,14 +38,16 @@ end-accepted s bytes e =
     ∙ rw e (ap (λ (l : List ℕ). ok (withOpen [] [] false (stateOf s bytes)) (Ended l)) (dids-ids (s .queue)))
 
 -- lines that wait did not count
-end-busy : (s : Representation) (bytes : List ℕ) → s .restoring ≡ true → (h : ℕ) → busy (stateOf s bytes) h ≡ busy (withOpen [] [] false (stateOf s bytes)) h
+end-busy : (s : Representation) (bytes : List ℕ) → s .restoring ≡ true → (h : ℕ) →
+    busy (stateOf s bytes) h ≡ busy (withOpen [] [] false (stateOf s bytes)) h
 unfolding busy
 end-busy s bytes e h =
     ap (λ (b : Bool). sum (asksIn h) (pendingIn b s) + sum (changesIn h) (drop (s .persistent .0) (stateOf s bytes .log))) e
 
 pub end-does : (s : Representation) (bytes : List ℕ) → Sound s bytes → s .restoring ≡ true → (q : List Entry) → q ≡ [] → (a : Numbers) (ys : List ℕ) →
     Means a (map idOf (s .queue)) →
-    AcceptsCall bytes (step Call.End (stateOf s bytes)) (record { site = withQueue q false 0 (s .busy) s; reply = record { form = ReplyForm.Ended; first = a; second = listed 0 ys } }) bytes
+    AcceptsCall bytes (step Call.End (stateOf s bytes))
+    (record { site = withQueue q false 0 (s .busy) s; reply = record { form = ReplyForm.Ended; first = a; second = listed 0 ys } }) bytes
 unfolding Sound outcomeWith
 end-does s bytes v e q empty a ys ids =
     accepts-step s bytes Call.End (withOpen [] [] false (stateOf s bytes)) (Ended (map idOf (s .queue))) _ bytes v (end-accepted s bytes e)

@@ -123,9 +123,11 @@ pub record AcceptsCall (old : List ℕ) (x : Reply) (r : Taken) (new : List ℕ)
   pub past : drop (r .site .used) new ≡ drop (r .site .used) old
 
 -- .. so too with these numbers of its histories, when they are the same
-pub accepts-book : (old : List ℕ) (x : Reply) (w : Representation) (reply : Replied) (new : List ℕ) {hs : List History} {ps ss bs : List ℕ} →
+pub accepts-book : (old : List ℕ) (x : Reply) (w : Representation) (reply : Replied)
+    (new : List ℕ) {hs : List History} {ps ss bs : List ℕ} →
     hs ≡ w .histories → ps ≡ w .persisted → ss ≡ w .stabilised → bs ≡ w .busy →
-    AcceptsCall old x (record { site = w; reply = reply }) new → AcceptsCall old x (record { site = withBook hs ps ss bs w; reply = reply }) new
+    AcceptsCall old x (record { site = w; reply = reply }) new →
+    AcceptsCall old x (record { site = withBook hs ps ss bs w; reply = reply }) new
 accepts-book old x w reply new h p s b a =
     subst (λ (z : Representation). AcceptsCall old x (record { site = z; reply = reply }) new) (same-book w h p s b) a
 

@@ -43,11 +43,13 @@ module _ (s : Representation) (bytes : List ℕ) (v : Sound s bytes) (h : ℕ) w
   pub poll-absent : s .count ≤ h → polledOf NoSuchHistory ≡ poll h (stateOf s bytes)
   unfolding polledOf poll
   poll-absent le =
-      ap (λ (b : Bool). cond b (PollRefused RefusedNoSuchHistory) (cond (dry (stateOf s bytes) h) PollDry PollBusy)) (sym (le-leb (s .count) h le))
+      ap (λ (b : Bool). cond b (PollRefused RefusedNoSuchHistory) (cond (dry (stateOf s bytes) h) PollDry PollBusy))
+      (sym (le-leb (s .count) h le))
 
   pub poll-counted : h < s .count → (b : Bool) → eqb (getD (s .busy) h 0) 0 ≡ b → cond b PollDry PollBusy ≡ poll h (stateOf s bytes)
   unfolding Sound
   poll-counted lt b e =
       ap (λ (t : Bool). cond t PollDry PollBusy) (sym e ∙ ap (λ (n : ℕ). eqb n 0) (v .carries .busy h lt))
-      ∙ ap (λ (t : Bool). cond t (PollRefused RefusedNoSuchHistory) (cond (eqb (busy (stateOf s bytes) h) 0) PollDry PollBusy)) (sym (lt-leb (s .count) h lt))
+      ∙ ap (λ (t : Bool). cond t (PollRefused RefusedNoSuchHistory) (cond (eqb (busy (stateOf s bytes) h) 0) PollDry PollBusy))
+      (sym (lt-leb (s .count) h lt))
       ∙ sym (poll-is h (stateOf s bytes))

@@ -1,4 +1,5 @@
--- A call that leaves the log as it is: the queue, the numbers of updates that are not persistent, the restoring flag and the reserved bytes change.
+-- A call that leaves the log as it is: the queue, the numbers of updates that are not persistent, the restoring flag and the reserved bytes
+-- change.
 use Prim.Native.Nat.{ℕ, _<_}
 use mathlib.Core.Path.{_≡_, refl}
 use mathlib.Core.Bool.{Bool}
@@ -44,7 +45,8 @@ withOpen pending waiting restoring st =
       restoring = restoring;
     }
 
-pub carries-queue : (s : Representation) (bytes : List ℕ) (st : State) → Carries s bytes st → (q : List Entry) (restoring : Bool) (reserved : ℕ) (numbers : List ℕ)
+pub carries-queue : (s : Representation) (bytes : List ℕ) (st : State) → Carries s bytes st →
+    (q : List Entry) (restoring : Bool) (reserved : ℕ) (numbers : List ℕ)
     (pending : List Operation) (waiting : List Did) → pendingIn restoring (withQueue q restoring reserved numbers s) ≡ pending →
     waitingIn restoring (withQueue q restoring reserved numbers s) ≡ waiting → reserved ≡ sum lineBytes waiting →
     ((h : ℕ) → h < s .count → getD numbers h 0 ≡ busy (withOpen pending waiting restoring st) h) →

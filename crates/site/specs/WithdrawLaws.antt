@@ -139,7 +139,12 @@ module _ (s : Representation) (bytes : List ℕ) (i k : ℕ) (v : Sound s bytes)
   numbers-after : (h : ℕ) → h < s .count → getD after h 0 ≡ busy (withdrawnFrom i s bytes) h
   unfolding Sound
   numbers-after h lt =
-      omega (arith, v .carries .busy h lt, lowered s bytes i k v e found entry read h, counts h (omega (arith, lt, marks-ordered s bytes v .few)))
+      omega (
+        arith,
+        v .carries .busy h lt,
+        lowered s bytes i k v e found entry read h,
+        counts h (omega (arith, lt, marks-ordered s bytes v .few)),
+      )
 
   pub withdraw-does : AcceptsCall bytes (step (Call.Withdraw i) (stateOf s bytes))
       (record {
@@ -153,6 +158,7 @@ module _ (s : Representation) (bytes : List ℕ) (i k : ℕ) (v : Sound s bytes)
       (says-lists _ (becameDry (stateOf s bytes) (withdrawnFrom i s bytes)) []
       (means-is dried (dried-is before after (stateOf s bytes) (withdrawnFrom i s bytes) numbers-before numbers-after))
       (means-none ys))
-      (carries-queue s bytes (stateOf s bytes) (v .carries) left (s .restoring) (s .reserved) after (without i (pendingIn (s .restoring) s)) (waitingIn (s .restoring) s)
+      (carries-queue s bytes (stateOf s bytes) (v .carries) left (s .restoring) (s .reserved) after
+      (without i (pendingIn (s .restoring) s)) (waitingIn (s .restoring) s)
       (rw e left-is) (rw e refl) (v .carries .reserved) numbers-after)
       refl

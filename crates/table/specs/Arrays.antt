@@ -13,8 +13,8 @@ pub record Tabulates {A : Type 0} (d : A) (r : List A) (f : ℕ → A) : Type 0 
   pub long : length r ≡ 16
   pub each : (h : ℕ) → h < 16 → getD r h d ≡ f h
 
--- "The reply names the histories whose persistent (stable) version rose": the version is greater after than before. "Persistent" and "withdraw"
--- also name those that became dry: there was an update that kept it from being dry, and there is none.
+-- "The reply names the histories whose persistent (stable) version rose": the version is greater after than before. "Persistent" and
+-- "withdraw" also name those that became dry: there was an update that kept it from being dry, and there is none.
 unfoldable pub names : Naming → ℕ → ℕ → Bool
 names Risen before after = ltb before after
 names Dried before after = ltb 0 before && eqb after 0

@@ -33,7 +33,8 @@ module _ (o ws : List ℕ) (from : ℕ) where
         (k : ℕ) → 1 ≤ entryIn k e → entryIn k e ≤ getD (busyIn mid) k 0
     lowered-some to l g u all k some =
         let low : k < 16 = all-in-first 16 e (λ j lt. u .each j lt .history) k (omega (arith, some)) in
-        let parts : sum (entryIn k) (rowsIn o ws from to) ≡ sum (entryIn k) (rowsIn o ws from i) + (entryIn k e + sum (entryIn k) (rowsIn o ws (suc i) to)) =
+        let parts : sum (entryIn k) (rowsIn o ws from to)
+        ≡ sum (entryIn k) (rowsIn o ws from i) + (entryIn k e + sum (entryIn k) (rowsIn o ws (suc i) to)) =
         ap (sum (entryIn k)) (range-split o ws from i to h l g)
         ∙ sum-append (entryIn k) (rowsIn o ws from i) (rowAt ws (getD o i 0) ∷ rowsIn o ws (suc i) to)
         ∙ ap (λ (x : Entry). sum (entryIn k) (rowsIn o ws from i) + (entryIn k x + sum (entryIn k) (rowsIn o ws (suc i) to))) (sym read)
