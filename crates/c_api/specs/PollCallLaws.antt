@@ -102,7 +102,12 @@ poll-before s m h o = sym (ap (λ (b : Bool). sessionPoll (viewIf b (s .site) m)
 
 -- ### A session with its polls
 
-module _ (input : List ℕ) (old : Lent) (r : SessionRun) (new : Lent) (out page histories : List ℕ) (x : RunsSession input old r new out page) where
+module _ (input : List ℕ) (old : Lent) (r : SessionRun) (new : Lent) (out page histories : List ℕ)
+    (x : RunsSession input old r new out page) where
+  -- What the polls of all histories give at the end.
+  abbrev polls-at-end : List ℕ
+  polls-at-end = map (sessionPoll (afterLines (length (old .log)) (linesOf input) none)) histories
+
   -- All replies are written.
   pub polls-whole : (polls : List ℕ) → r .whole ≡ true → polls ≡ map (sessionPoll (sessionView (r .session) new)) histories →
       PlaysPolls input (old .log) (r .written) (new .log) out page histories polls
@@ -110,7 +115,7 @@ module _ (input : List ℕ) (old : Lent) (r : SessionRun) (new : Lent) (out page
       record {
         plays = record { ran = ranOf r; runs = x .runs; code = sym (ap (λ (b : Bool). wholeCode b (r .written)) w) };
         polled = e ∙ ap (λ (s : Option State). map (sessionPoll s) histories) after
-            ∙ sym (ap (λ (b : Bool). cond b (map (sessionPoll (afterLines (length (old .log)) (linesOf input) none)) histories) histories) w);
+            ∙ sym (ap (λ (b : Bool). cond b polls-at-end histories) w);
       }
     where
       all : r .used ≡ length input
@@ -125,5 +130,5 @@ module _ (input : List ℕ) (old : Lent) (r : SessionRun) (new : Lent) (out page
   polls-part w =
       record {
         plays = record { ran = ranOf r; runs = x .runs; code = sym (ap (λ (b : Bool). wholeCode b (r .written)) w) };
-        polled = sym (ap (λ (b : Bool). cond b (map (sessionPoll (afterLines (length (old .log)) (linesOf input) none)) histories) histories) w);
+        polled = sym (ap (λ (b : Bool). cond b polls-at-end histories) w);
       }

@@ -33,14 +33,16 @@ sessionPoll (some st) h = polledNumber (poll h st)
 abbrev pub OpenWith : Session → List ℕ → Type 0
 OpenWith s book = s .opened ≡ true → ValidWith (s .site) book
 
--- What holds of the specification's session, whatever is lent to the code's session beside the numbers of the histories: only they are read.
+-- What holds of the specification's session, whatever is lent to the code's session beside the numbers of the histories: only they
+-- are read.
 abbrev pub WithBook : Session → Ends → (Option State → Type 0) → Type 0
 WithBook s book P =
-    (log rows order lists : List ℕ) → ValidSession s (lent log rows order (was book) lists) → P (sessionView s (lent log rows order (was book) lists))
+    (log rows order lists : List ℕ) → ValidSession s (lent log rows order (was book) lists) →
+    P (sessionView s (lent log rows order (was book) lists))
 
--- The session of an input has run over the log buffer that was `old` and is `new`, and its replies stand in the buffer that was `out` and is
--- `page`. Each number of `histories` is then, in `polls`, what the poll of that history gives; if not all replies are written, they are as they
--- were.
+-- The session of an input has run over the log buffer that was `old` and is `new`, and its replies stand in the buffer that was `out`
+-- and is `page`. Each number of `histories` is then, in `polls`, what the poll of that history gives; if not all replies are written,
+-- they are as they were.
 pub record PlaysPolls (input old : List ℕ) (r : ℕ) (new out page histories polls : List ℕ) : Type 0 where
   pub plays : Plays input old r new out page
   pub polled : polls ≡ cond (plays .ran .whole) (map (sessionPoll (afterLines (length old) (linesOf input) none)) histories) histories
