@@ -31,4 +31,4 @@ logLimit = 65536
 
 -- What the longest reply has, its end among them: it has two lists of 64 numbers. 01 does not say it; `outcome-length` shows it.
 abbrev pub replyLimit : ℕ
-replyLimit = 2730
+replyLimit = 2741

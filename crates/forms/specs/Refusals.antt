@@ -4,9 +4,9 @@ use Rattle.forms.specs.declared.Refusal.{Refusal}
 use Rattle.forms.specs.declared.Refusal.the-variants.{Unreadable, WrongCount, NoSuchHistory, HistoryTwice}
 use Rattle.forms.specs.declared.Refusal.the-variants.{OperandRange, NothingOrders, IdPending, AlreadyDone}
 use Rattle.forms.specs.declared.Refusal.the-variants.{ReadOvertaken, TableFull, WrongState, NoRoom, AboveLimit}
-use Rattle.forms.specs.declared.Refusal.the-variants.{OutOfTurn, BadLog, WrongThreshold, NotSent, Conflict}
+use Rattle.forms.specs.declared.Refusal.the-variants.{OutOfTurn, BadLog, HighestVersion, WrongThreshold, NotSent, Conflict}
 
--- "A refusal returns its number only": the column `no.` of the table in "Refusals", and 02's 18, 19 and 20.
+-- "A refusal returns its number only": the column `no.` of the table in "Refusals", and 02's 17 to 20.
 unfoldable pub numberOf : Refusal → ℕ
 numberOf Unreadable = 1
 numberOf WrongCount = 2
@@ -23,6 +23,7 @@ numberOf NoRoom = 12
 numberOf AboveLimit = 13
 numberOf OutOfTurn = 14
 numberOf BadLog = 15
+numberOf HighestVersion = 17
 numberOf WrongThreshold = 18
 numberOf NotSent = 19
 numberOf Conflict = 20

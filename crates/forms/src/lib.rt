@@ -26,6 +26,13 @@ pub enum DoneRule {
     DidNot,
 }
 
+// 02 (b): "The test of an update against its history's version says from now on one of now, later or never."
+pub enum Timing {
+    Now,
+    Later,
+    Never,
+}
+
 // The version of a history: a counter.
 pub struct Version(pub u64);
 
@@ -87,6 +94,7 @@ pub enum Refusal {
     AboveLimit,
     OutOfTurn,
     BadLog,
+    HighestVersion,
     WrongThreshold,
     NotSent,
     Conflict,
@@ -105,12 +113,13 @@ pub struct Shown {
     pub profile: u64,
 }
 
-// Which form a reply has, with its single numbers. Its lists stand beside it.
+// Which form a reply has, with its single numbers. Its lists stand beside it. Of the second list of a finish the first `ready` ids are
+// those made ready, and the others those overtaken.
 pub enum ReplyForm {
     Refused(Refusal),
     Opened,
     Added,
-    Finished(LogNumber),
+    Finished { number: LogNumber, ready: usize },
     Withdrawn,
     Persisted,
     Stabilised,

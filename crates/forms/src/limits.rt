@@ -22,4 +22,4 @@ pub const DID_BYTES: usize = 312;
 pub const LOG_BYTES: usize = 65536;
 
 // What the longest reply has, its end among them: it has two lists of 64 numbers.
-pub const REPLY_BYTES: usize = 2730;
+pub const REPLY_BYTES: usize = 2741;

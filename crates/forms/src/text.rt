@@ -14,9 +14,9 @@ ghost use mathlib.Core.List.{[], _∷_};
 ghost use lib.ListN.{length};
 ghost use Rattle.forms.specs.Decimal.{digits, twoDigits};
 ghost use Rattle.forms.specs.Forms.{doneRuleText, fieldText, fieldsText, changeText, didText, numbersText};
-ghost use Rattle.forms.specs.Forms.{twoText, answerText, outcomeText, Finished, Persisted};
+ghost use Rattle.forms.specs.Forms.{twoText, answerText, outcomeText, Persisted};
 ghost use Rattle.forms.specs.Held.{asChange, didOf, outcomeWith};
-ghost use Rattle.forms.specs.Write.{Wrote, heldText, listedText, pairText};
+ghost use Rattle.forms.specs.Write.{Wrote, heldText, listedText, pairText, partsText, finishedText};
 ghost use Rattle.forms.specs.Write.{HeldInRange, lineText};
 
 // Writes two digits at a position, and returns the position behind them.
@@ -170,15 +170,27 @@ fn write_pair(buf: &mut [u8], at: usize, w: &[u8], xs: &[u64], v: &[u8], ys: &[u
     write_word(buf, b, b")")
 }
 
+// Writes a list in two parts, the first k ids as made ready and the rest as overtaken, and the bracket that closes the reply.
+fn write_parts(buf: &mut [u8], at: usize, k: usize, ids: &[u64]) -> usize
+    requires { ⌜ at + length (partsText k (now ids)) ≤ length (now buf) ⌝ }
+    ensures { λ r. ⌜ Wrote (now (buf .entry)) at (partsText k (now (ids .entry))) r (now (buf .exit)) ⌝ }
+{
+    if ids.len() <= k {
+        return write_pair(buf, at, b"(ready", ids, b"(overtaken", &[]);
+    }
+    write_pair(buf, at, b"(ready", &ids[..k], b"(overtaken", &ids[k..])
+}
+
 // Writes what finish replies.
-fn write_finished(buf: &mut [u8], at: usize, n: u64, xs: &[u64], ys: &[u64]) -> usize
-    requires { ⌜ at + length (answerText (Finished n (now xs) (now ys))) ≤ length (now buf) ⌝ }
-    ensures { λ r. ⌜ Wrote (now (buf .entry)) at (answerText (Finished n (now (xs .entry)) (now (ys .entry)))) r (now (buf .exit)) ⌝ }
+fn write_finished(buf: &mut [u8], at: usize, n: u64, xs: &[u64], k: usize, ys: &[u64]) -> usize
+    requires { ⌜ at + length (finishedText n (now xs) k (now ys)) ≤ length (now buf) ⌝ }
+    ensures { λ r. ⌜ Wrote (now (buf .entry)) at (finishedText n (now (xs .entry)) k (now (ys .entry))) r (now (buf .exit)) ⌝ }
 {
     let a = write_word(buf, at, b"(ok");
     let b = write_field(buf, a, n);
     let c = write_word(buf, b, b" ");
-    write_pair(buf, c, b"(values", xs, b"(ready", ys)
+    let d = write_numbers(buf, c, b"(values", xs);
+    write_parts(buf, d, k, ys)
 }
 
 // Writes what persistent replies.
@@ -218,7 +230,7 @@ fn write_form(buf: &mut [u8], at: usize, form: ReplyForm, xs: &[u64], ys: &[u64]
         ReplyForm::Refused(r) => write_one(buf, at, b"(refused", refusal_number(r)),
         ReplyForm::Opened => write_word(buf, at, b"(ok)"),
         ReplyForm::Added => write_listed(buf, at, b"(ready", xs),
-        ReplyForm::Finished(n) => write_finished(buf, at, n.0, xs, ys),
+        ReplyForm::Finished { number, ready } => write_finished(buf, at, number.0, xs, ready, ys),
         ReplyForm::Withdrawn => write_listed(buf, at, b"(dry", xs),
         ReplyForm::Persisted => write_persisted(buf, at, xs, ys),
         ReplyForm::Stabilised => write_listed(buf, at, b"(histories", xs),
