@@ -6,6 +6,7 @@ use forms::Refusal;
 use forms::ReplyForm;
 use forms::Shown;
 use forms::Version;
+use forms::limits::REPLY_BYTES;
 ghost use Prim.Native.Nat.{_≤_};
 ghost use lib.ListN.{length};
 
@@ -16,7 +17,7 @@ const MOST: u64 = 18446744073709551615;
 fn say_reply(form: ReplyForm, xs: &[u64], ys: &[u64])
     requires { ⌜ (length (now xs) ≤ 64) × (length (now ys) ≤ 64) ⌝ }
 {
-    let mut buf = [b'.'; 2730];
+    let mut buf = [b'.'; REPLY_BYTES];
     let w = forms::writer::write_reply(&mut buf, 0, form, xs, ys);
     say_front(w, &buf);
 }
@@ -24,6 +25,17 @@ fn say_reply(form: ReplyForm, xs: &[u64], ys: &[u64])
 // A reply without lists.
 fn say_plain(form: ReplyForm) {
     say_reply(form, &[], &[]);
+}
+
+// What finish replies: of its ids the first are made ready, as many as `ready` says, and the rest overtaken.
+fn say_finished(number: u64, values: &[u64], ready: usize, ids: &[u64])
+    requires { ⌜ (length (now values) ≤ 64) × (length (now ids) ≤ 64) ⌝ }
+{
+    let form = ReplyForm::Finished {
+        number: LogNumber(number),
+        ready,
+    };
+    say_reply(form, values, ids);
 }
 
 // The refusals in the order of their numbers.
@@ -43,6 +55,9 @@ pub fn say_refusals() {
     say_plain(ReplyForm::Refused(Refusal::AboveLimit));
     say_plain(ReplyForm::Refused(Refusal::OutOfTurn));
     say_plain(ReplyForm::Refused(Refusal::BadLog));
+    say_plain(ReplyForm::Refused(Refusal::HighestVersion));
+    say_plain(ReplyForm::Refused(Refusal::WrongThreshold));
+    say_plain(ReplyForm::Refused(Refusal::NotSent));
     say_plain(ReplyForm::Refused(Refusal::Conflict));
 }
 
@@ -63,8 +78,8 @@ pub fn say_paper() {
     say_plain(ReplyForm::Opened);
     say_reply(ReplyForm::Added, &[5], &[]);
     say_reply(ReplyForm::Added, &[], &[]);
-    say_reply(ReplyForm::Finished(LogNumber(1)), &[65536, 0], &[6]);
-    say_reply(ReplyForm::Finished(LogNumber(2)), &[1000], &[]);
+    say_finished(1, &[65536, 0], 1, &[6]);
+    say_finished(2, &[1000], 0, &[]);
     say_reply(ReplyForm::Persisted, &[0], &[0]);
     say_shown(0, 1, 1, 0, 1, 65536);
     say_plain(ReplyForm::Restarted { lines: 1, used: 46 });
@@ -86,8 +101,12 @@ pub fn say_edges() {
     let all = [MOST; 64];
     let two = [MOST, 0];
     say_reply(ReplyForm::Added, &all, &two);
-    say_reply(ReplyForm::Finished(LogNumber(MOST)), &few, &all);
-    say_reply(ReplyForm::Finished(LogNumber(MOST)), &all, &all);
+    say_finished(MOST, &few, 64, &all);
+    say_finished(MOST, &all, 60, &all);
+    say_finished(3, &two, 0, &two);
+    say_finished(3, &two, 1, &two);
+    say_finished(3, &two, 2, &two);
+    say_finished(3, &two, 3, &two);
     say_reply(ReplyForm::Persisted, &two, &all);
     say_plain(ReplyForm::Persisted);
     say_plain(ReplyForm::Withdrawn);

@@ -7,9 +7,6 @@ use Rattle.forms.specs.TextLaws.{parts-whole, parts-rest}
 use borrow.Author.Needs.{needs}
 use Rattle.forms.proofs.text.write_parts.Statement.{statement}
 use Rattle.forms.proofs.text.write_parts.Tie as tie
-use Rattle.forms.proofs.text.write_parts.Reads as reads
-use Rattle.forms.proofs.text.write_parts.Lts as lts
-use Rattle.forms.proofs.text.write_pair.Reads as write-pair-reads
 
 slice-aggregate-write-pair : tie.Need-slice-aggregate-write-pair
 slice-aggregate-write-pair c = search needs
@@ -22,20 +19,25 @@ slice-aggregate-write-pair-3 c = search needs
 
 write-pair-requires : tie.Need-write-pair-requires
 write-pair-requires c κs =
-    rw (parts-whole (c .before .before .before .before .before .before .before .args .k) (now (c .before .before .before .before .before .before .before .args .ids)) (omega (arith, c .before .before .before .before .if1 .taken))) at (c .before .before .before .before .before .before .before .pre)
+    let s = c .before .before .before .before .before .before .before in
+    rw (parts-whole (s .args .k) (now (s .args .ids)) (omega (arith, c .before .before .before .before .if1 .taken))) at (s .pre)
 
 same-length : tie.Need-same-length
 same-length c = search needs
 
 returns : tie.Need-returns
 returns c =
-    rw (parts-whole (c .before .before .before .before .before .before .before .before .before .before .args .k) (now (c .before .before .before .before .before .before .before .before .before .before .args .ids)) (omega (arith, c .before .before .before .before .before .before .before .if1 .taken))) (c .before .before .write-pair .ensures)
+    let s = c .before .before .before .before .before .before .before .before .before .before in
+    rw (parts-whole (s .args .k) (now (s .args .ids)) (omega (arith, c .before .before .before .before .before .before .before .if1 .taken)))
+    (c .before .before .write-pair .ensures)
 
 slice-aggregate-write-pair-4 : tie.Need-slice-aggregate-write-pair-4
 slice-aggregate-write-pair-4 c = search needs
 
 slice-aggregate-write-pair-5 : tie.Need-slice-aggregate-write-pair-5
-slice-aggregate-write-pair-5 c = sym (length-take-le (c .before .before .before .before .before .before .args .k) (now (c .before .before .before .before .before .before .args .ids)) (omega (arith, c .before .before .before .if1 .left)))
+slice-aggregate-write-pair-5 c =
+    let s = c .before .before .before .before .before .before in
+    sym (length-take-le (s .args .k) (now (s .args .ids)) (omega (arith, c .before .before .before .if1 .left)))
 
 slice-aggregate-write-pair-6 : tie.Need-slice-aggregate-write-pair-6
 slice-aggregate-write-pair-6 c = search needs
@@ -53,13 +55,17 @@ part-write-pair-end : tie.Need-part-write-pair-end
 part-write-pair-end c = search needs
 
 write-pair-requires-2 : tie.Need-write-pair-requires-2
-write-pair-requires-2 c κs = rw (parts-rest (c .before .before .before .before .before .before .before .before .args .k) (now (c .before .before .before .before .before .before .before .before .args .ids))) at (c .before .before .before .before .before .before .before .before .pre)
+write-pair-requires-2 c κs =
+    let s = c .before .before .before .before .before .before .before .before in
+    rw (parts-rest (s .args .k) (now (s .args .ids))) at (s .pre)
 
 same-length-2 : tie.Need-same-length-2
 same-length-2 c = search needs
 
 returns-2 : tie.Need-returns-2
-returns-2 c = rw (parts-rest (c .before .before .before .before .before .before .before .before .before .before .before .args .k) (now (c .before .before .before .before .before .before .before .before .before .before .before .args .ids))) (c .before .before .write-pair2 .ensures)
+returns-2 c =
+    let s = c .before .before .before .before .before .before .before .before .before .before .before in
+    rw (parts-rest (s .args .k) (now (s .args .ids))) (c .before .before .write-pair2 .ensures)
 
 pub write-parts-spec : {M : Type 1} → statement M
 write-parts-spec =
