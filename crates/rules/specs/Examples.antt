@@ -1,9 +1,10 @@
 -- The session of "A session, whole" and the cases P1 to P10 of "At the edges", computed from the definitions.
 use mathlib.Core.Path.{_≡_, refl, ap₂}
-use mathlib.Core.Bool.{Bool, not}
+use mathlib.Core.Bool.{Bool, not, _&&_}
 use mathlib.Core.List.{List, [], _∷_, _++_}
 use mathlib.Core.List.{List·Memᴰ as Mem, List·Memᴰ·head as here, List·Memᴰ·tail as there, Memᴰ·append-left, Memᴰ·append-right}
 use Prim.Native.Nat.{ℕ}
+use Prim.Native.String.{String}
 use lib.Dec.{T, eqb, eqb→eq}
 use Rattle.forms.specs.Lists.{all, below}
 use Rattle.forms.specs.ListLaws.{and-left, and-right, all-at}
@@ -18,8 +19,8 @@ use Rattle.rules.specs.Book.{touches, runsAt}
 use Rattle.rules.specs.Checks.{check, andThen, wrongCount, noSuchHistory, historyTwice, updateMisfits, formRefusal, updatesRefusal}
 use Rattle.rules.specs.Log.{ended, didsText, logText, linesFrom, restFrom, historiesFit}
 use Rattle.rules.specs.State.{logBytes, versionAt, liveDone, live, asks, dry, becameDry, rose, lineBytes}
-use Rattle.rules.specs.Calls.{unless, openFull, openRefusal, opened, openSite, blockedBy, blocked, mayRunNow, ready, attempt, tryFrom, madeReady}
-use Rattle.rules.specs.Calls.{nothingOrders, idPending, idDone, alreadyDone, readOvertaken, tableFull, addRefusal, arrived, add, changeOf, lineOf}
+use Rattle.rules.specs.Calls.{unless, openFull, openRefusal, opened, openSite, blockedBy, blocked, mayRunNow, ready, attempt, tryFrom, madeReady, neverNow, holdsNever, overtaken, notOvertaken, overtakenIds}
+use Rattle.rules.specs.Calls.{nothingOrders, idPending, idDone, alreadyDone, readOvertaken, atHighest, tableFull, addRefusal, arrived, add, changeOf, lineOf}
 use Rattle.rules.specs.Calls.{valuesAfter, inProgress, future, without, logFull, finished, finishFound, finish, withdrawRefusal, withdraw, persistent}
 use Rattle.rules.specs.Calls.{stable, show, restarted, restartAs, restart, cutAbove, cut, stale, redoRefusal, behind, pick, drain, delivered}
 use Rattle.rules.specs.Calls.{redoRead, redo, end, writableUpdate, writable, perform, step}
@@ -44,7 +45,7 @@ toCut = bytes "(site 2)\n(add 5 (inc 0 1 513)(not 1 0 0))\n(add 6 (set 1 4 1000)
 
 abbrev toCutReplies : List ℕ
 toCutReplies =
-    bytes "(ok)\n(ok (ready 5))\n(ok (ready))\n(ok 1 (values 65536 0)(ready 6))\n(ok 2 (values 1000)(ready))\n"
+    bytes "(ok)\n(ok (ready 5))\n(ok (ready))\n(ok 1 (values 65536 0)(ready 6)(overtaken))\n(ok 2 (values 1000)(ready)(overtaken))\n"
     ++ bytes "(ok (histories 0)(dry 0))\n(history 0 1 1 0 1 65536)\n"
 
 -- "A session, whole".
@@ -65,7 +66,7 @@ at0 calls answers = row (bytes "(site 1)\n" ++ calls) (bytes "(ok)\n" ++ answers
 -- A site of one history at C = 4, with profile 65536, and more calls.
 abbrev at4 : List ℕ → List ℕ → Row
 at4 calls answers =
-    row (bytes "(site 1)\n(add 1 (set 0 4 65536))\n(finish 1)\n" ++ calls) (bytes "(ok)\n(ok (ready 1))\n(ok 1 (values 65536)(ready))\n" ++ answers)
+    row (bytes "(site 1)\n(add 1 (set 0 4 65536))\n(finish 1)\n" ++ calls) (bytes "(ok)\n(ok (ready 1))\n(ok 1 (values 65536)(ready)(overtaken))\n" ++ answers)
 
 -- "At the edges": P1 to P10.
 abbrev pub edges : List Row
@@ -92,13 +93,14 @@ edges =
     ∷ at4 (bytes "(add 5 (not 0 3 0))\n") (bytes "(refused 9)\n")
     ∷ at4 (bytes "(add 5 (not 0 5 0))\n") (bytes "(ok (ready))\n")
     -- P10: "profile 65536 with operand 255 becomes 65791; profile 0 with 1023 becomes 4278190080"
-    ∷ at4 (bytes "(add 5 (inc 0 5 255))\n(finish 5)\n") (bytes "(ok (ready 5))\n(ok 2 (values 65791)(ready))\n")
-    ∷ at0 (bytes "(add 5 (inc 0 1 1023))\n(finish 5)\n") (bytes "(ok (ready 5))\n(ok 1 (values 4278190080)(ready))\n")
+    ∷ at4 (bytes "(add 5 (inc 0 5 255))\n(finish 5)\n") (bytes "(ok (ready 5))\n(ok 2 (values 65791)(ready)(overtaken))\n")
+    ∷ at0 (bytes "(add 5 (inc 0 1 1023))\n(finish 5)\n") (bytes "(ok (ready 5))\n(ok 1 (values 4278190080)(ready)(overtaken))\n")
     -- 02 (c), P10 at the two ends of part 7: profile 0 with 2047 becomes 18374686479671623680, profile 2^64 − 1 with 1792 becomes 2^56 − 1
-    ∷ at0 (bytes "(add 5 (inc 0 1 2047))\n(finish 5)\n") (bytes "(ok (ready 5))\n(ok 1 (values 18374686479671623680)(ready))\n")
+    ∷ at0 (bytes "(add 5 (inc 0 1 2047))\n(finish 5)\n") (bytes "(ok (ready 5))\n(ok 1 (values 18374686479671623680)(ready)(overtaken))\n")
     ∷ at0
     (bytes "(add 5 (set 0 4 18446744073709551615))\n(finish 5)\n(add 6 (inc 0 5 1792))\n(finish 6)\n")
-    (bytes "(ok (ready 5))\n(ok 1 (values 18446744073709551615)(ready))\n(ok (ready 6))\n(ok 2 (values 72057594037927935)(ready))\n")
+    (bytes "(ok (ready 5))\n(ok 1 (values 18446744073709551615)(ready)(overtaken))\n"
+    ++ bytes "(ok (ready 6))\n(ok 2 (values 72057594037927935)(ready)(overtaken))\n")
     -- 02 (c): "01's refused 1024 is accepted and 2048 is refused 5"
     ∷ at0 (bytes "(add 5 (inc 0 1 1024))\n") (bytes "(ok (ready 5))\n")
     ∷ at0 (bytes "(add 5 (inc 0 1 2048))\n") (bytes "(refused 5)\n")
@@ -127,6 +129,76 @@ looks =
     (bytes "(ok 0 1)\n(ok 0 2)\n(ok 1 5)\n(ok 2 5)\n")
     ∷ []
 
+-- A site of two histories and a set to version 4 in progress in history 0; then more calls.
+abbrev under4 : List ℕ → List ℕ → Row
+under4 calls answers = row (bytes "(site 2)\n(add 1 (set 0 4 7))\n" ++ calls) (bytes "(ok)\n(ok (ready 1))\n" ++ answers)
+
+-- A site of three histories: history 0 at this version, history 2 at version 1; then an add.
+abbrev nearTop : String → String → String → Row
+nearTop version updates answer =
+    row
+    (bytes "(site 3)\n(add 1 (set 0 " ++ bytes version ++ bytes " 7)(inc 2 1 0))\n(finish 1)\n(add 2 " ++ bytes updates ++ bytes ")\n")
+    (bytes "(ok)\n(ok (ready 1))\n(ok 1 (values 7 0)(ready)(overtaken))\n" ++ bytes answer ++ bytes "\n")
+
+-- 02 (b): "A finish drops every future operation that holds a never and names it in a closing `(overtaken ..)` form".
+abbrev pub overtakes : List Row
+overtakes =
+    -- set with U < C and U = C is never, with U = C + 1 now; "Withdrawing such an operation then meets 11", and its id is free at once
+    under4
+    (bytes "(add 2 (set 0 3 0))\n(add 3 (set 0 4 0))\n(add 4 (set 0 5 8))\n(finish 1)\n(withdraw 3)\n(finish 3)\n(add 3 (set 0 6 9))\n(finish 4)\n")
+    (bytes "(ok (ready))\n(ok (ready))\n(ok (ready))\n(ok 1 (values 7)(ready 4)(overtaken 2 3))\n"
+    ++ bytes "(refused 11)\n(refused 11)\n(ok (ready))\n(ok 2 (values 8)(ready 3)(overtaken))\n")
+    -- inc with U < C and U = C is never, with U = C + 1 now, with U = C + 2 later
+    ∷ under4
+    (bytes "(add 2 (inc 0 3 0))\n(add 3 (inc 0 4 0))\n(add 4 (inc 0 5 8))\n(add 5 (inc 0 6 9))\n(finish 1)\n(finish 4)\n")
+    (bytes "(ok (ready))\n(ok (ready))\n(ok (ready))\n(ok (ready))\n"
+    ++ bytes "(ok 1 (values 7)(ready 4)(overtaken 2 3))\n(ok 2 (values 8)(ready 5)(overtaken))\n")
+    -- not with U < C is never, with U = C now, with U = C + 1 later
+    ∷ under4
+    (bytes "(add 2 (not 0 0 0))\n(add 3 (not 0 3 0))\n(add 4 (not 0 4 0))\n(add 5 (not 0 5 0))\n(finish 1)\n(withdraw 5)\n")
+    (bytes "(ok (ready))\n(ok (ready))\n(ok (ready))\n(ok (ready))\n(ok 1 (values 7)(ready 4)(overtaken 2 3))\n(ok (dry))\n")
+    -- "`unk` at the highest version is never": one that waits for a set to 2^64 − 1, and one that waits for a set to 2^64 − 2
+    ∷ row
+    (bytes "(site 2)\n(add 1 (set 0 18446744073709551615 7))\n(add 2 (inc 1 1 0)(unk 0 0 0))\n(finish 1)\n")
+    (bytes "(ok)\n(ok (ready 1))\n(ok (ready))\n(ok 1 (values 7)(ready)(overtaken 2))\n")
+    ∷ row
+    (bytes "(site 2)\n(add 1 (set 0 18446744073709551614 7))\n(add 2 (inc 1 1 0)(unk 0 0 0))\n(finish 1)\n")
+    (bytes "(ok)\n(ok (ready 1))\n(ok (ready))\n(ok 1 (values 7)(ready 2)(overtaken))\n")
+    -- "17, an added `unk` in a history at the highest version, after 9", on both sides
+    ∷ nearTop "18446744073709551615" "(inc 1 1 0)(unk 0 0 0)" "(refused 17)"
+    ∷ nearTop "18446744073709551614" "(inc 1 1 0)(unk 0 0 0)" "(ok (ready 2))"
+    ∷ nearTop "18446744073709551615" "(inc 1 1 0)(unk 0 0 0)(not 2 0 0)" "(refused 9)"
+    ∷ nearTop "18446744073709551615" "(inc 1 0 0)(unk 0 0 0)" "(refused 8)"
+    ∷ nearTop "18446744073709551615" "(inc 1 1 0)(not 0 18446744073709551615 0)" "(ok (ready 2))"
+    -- "oldest arrival first", whatever the ids; one never among updates that may run or still could
+    ∷ under4
+    (bytes "(add 9 (set 0 4 0))\n(add 3 (inc 1 1 0)(not 0 2 0))\n(add 5 (inc 1 2 0))\n(add 4 (inc 1 7 0)(inc 0 4 0))\n(finish 1)\n(withdraw 5)\n")
+    (bytes "(ok (ready))\n(ok (ready))\n(ok (ready))\n(ok (ready))\n(ok 1 (values 7)(ready)(overtaken 9 3 4))\n(ok (dry 1))\n")
+    -- "one that a drop made dry is named by no call": history 1, which only 2 asked for. History 0 has a volatile update yet
+    ∷ under4
+    (bytes "(add 2 (set 0 4 0)(inc 1 1 0))\n(finish 1)\n(persistent 1)\n")
+    (bytes "(ok (ready))\n(ok 1 (values 7)(ready)(overtaken 2))\n(ok (histories 0)(dry 0))\n")
+    -- an operation in progress is not dropped: 2 runs beside 1, and is finished after it
+    ∷ under4
+    (bytes "(add 2 (inc 1 1 3))\n(add 3 (inc 1 1 0))\n(finish 1)\n(finish 2)\n")
+    (bytes "(ok (ready 2))\n(ok (ready))\n(ok 1 (values 7)(ready)(overtaken))\n(ok 2 (values 3)(ready)(overtaken 3))\n")
+    -- a finish that is refused drops nothing
+    ∷ under4
+    (bytes "(add 2 (set 0 4 0))\n(finish 2)\n(finish 1)\n")
+    (bytes "(ok (ready))\n(refused 11)\n(ok 1 (values 7)(ready)(overtaken 2))\n")
+    -- a waiting redo line with a never is neither refused nor dropped
+    ∷ bare
+    (bytes "(redo (did 1 (set 0 4 1 7)))\n(redo (did 2 (inc 0 2 2 0)))\n(redo (did 3 (inc 1 1 1 0)))\n(end)\n")
+    (bytes "(ok 1 1)\n(ok 0 1)\n(ok 1 3)\n(ok (waiting 2))\n")
+    ∷ []
+
+-- Finish refused with 12: a log of 30 bytes is too short for the line of 1, and what it would have overtaken is still there.
+abbrev fullLog : Row
+fullLog =
+    row
+    (bytes "(site 1)\n(add 1 (set 0 4 0))\n(add 2 (set 0 4 7))\n(finish 1)\n(withdraw 2)\n")
+    (bytes "(ok)\n(ok (ready 1))\n(ok (ready))\n(refused 12)\n(ok (dry))\n")
+
 -- The test of a row: the replies are these, byte for byte.
 unfoldable holds : Row → Bool
 holds r = sameBytes (session (r .input)) (r .replies)
@@ -143,8 +215,12 @@ holds-is : (r : Row) → T (holds r) → session (r .input) ≡ r .replies
 unfolding holds
 holds-is r t = same-bytes (session (r .input)) (r .replies) t
 
--- The one computed test, over the session and the whole table.
-computed : T (all holds (whole ∷ edges ++ looks))
+-- All rows: the session of 01, P1 to P10, and those of 02.
+abbrev rows : List Row
+rows = whole ∷ edges ++ (looks ++ overtakes)
+
+-- The one computed test, over all rows, and the session with the short log.
+computed : T (all holds rows && sameBytes (sessionIn 30 (fullLog .input)) (fullLog .replies))
 computed =
     unfold holds sameBytes below word digitsWithin digits more number numberOf in
     unfold fieldText fieldsText itemsText tailText listText updateText changeText oneText siteText didText redoText numbersText answerText outcomeText in
@@ -155,21 +231,32 @@ computed =
     unfold formRefusal updatesRefusal changesRefusalWith in
     unfold ended didsText logText linesFrom restFrom historiesFit acceptsWith readLinesWith readFirstWith readLogWith in
     unfold logBytes versionAt liveDone live asks dry becameDry rose lineBytes in
-    unfold unless openFull openRefusal opened openSite blockedBy blocked mayRunNow ready attempt tryFrom madeReady nothingOrders idPending idDone in
-    unfold alreadyDone readOvertaken tableFull addRefusal arrived add changeOf lineOf valuesAfter inProgress future without logFull finished in
+    unfold unless openFull openRefusal opened openSite blockedBy blocked mayRunNow ready attempt tryFrom madeReady neverNow holdsNever overtaken notOvertaken overtakenIds nothingOrders idPending idDone in
+    unfold alreadyDone readOvertaken atHighest tableFull addRefusal arrived add changeOf lineOf valuesAfter inProgress future without logFull finished in
     unfold finishFound finish withdrawRefusal withdraw persistent stable show restarted restartAs restart cutAbove cut stale redoRefusal behind pick in
     unfold drain delivered redoRead redo end writableUpdate writable perform step in
     unfold turnOf opening calling obey onCommand turn replies restReply sessionIn session in
     tt
 
+row-holds : (r : Row) → Mem r rows → session (r .input) ≡ r .replies
+row-holds r m = holds-is r (all-at holds rows (and-left (all holds rows) _ computed) r m)
+
 -- "A session, whole": that input gives these replies.
 pub whole-session : session (whole .input) ≡ whole .replies
-whole-session = holds-is whole (all-at holds (whole ∷ edges ++ looks) computed whole (here refl))
+whole-session = row-holds whole (here refl)
 
 -- P1 to P10 hold.
 pub edges-hold : (r : Row) → Mem r edges → session (r .input) ≡ r .replies
-edges-hold r m = holds-is r (all-at holds (whole ∷ edges ++ looks) computed r (there (Memᴰ·append-left looks m)))
+edges-hold r m = row-holds r (there (Memᴰ·append-left (looks ++ overtakes) m))
 
 -- .. and what redo says of how often it looks.
 pub looks-hold : (r : Row) → Mem r looks → session (r .input) ≡ r .replies
-looks-hold r m = holds-is r (all-at holds (whole ∷ edges ++ looks) computed r (there (Memᴰ·append-right edges m)))
+looks-hold r m = row-holds r (there (Memᴰ·append-right edges (Memᴰ·append-left overtakes m)))
+
+-- .. and whom a finish overtakes.
+pub overtakes-hold : (r : Row) → Mem r overtakes → session (r .input) ≡ r .replies
+overtakes-hold r m = row-holds r (there (Memᴰ·append-right edges (Memᴰ·append-right looks m)))
+
+-- "a refused finish drops nothing", on a log of 30 bytes
+pub full-log-holds : sessionIn 30 (fullLog .input) ≡ fullLog .replies
+full-log-holds = same-bytes (sessionIn 30 (fullLog .input)) (fullLog .replies) (and-right (all holds rows) _ computed)

@@ -17,7 +17,7 @@ use Rattle.rules.specs.Checks.{updatesRefusal, changesRefusal}
 use Rattle.rules.specs.Log.{historiesFit}
 use Rattle.forms.specs.Limits.{liveLimit, logLimit}
 use Rattle.rules.specs.State.{Operation, State, logBytes, liveDone, live, lineBytes}
-use Rattle.rules.specs.Calls.{mayRunNow, blocked, nothingOrders, writableUpdate}
+use Rattle.rules.specs.Calls.{mayRunNow, blocked, holdsNever, nothingOrders, writableUpdate}
 
 -- A line that can stand in a log of n histories: it passes 2 to 5, and can be written.
 pub record FormedDid (n : ℕ) (d : Did) : Type 0 where
@@ -63,6 +63,8 @@ pub record Good (st : State) : Type 0 where
   pub pendingFormed : (x : Operation) → Mem x (st .pending) → FormedOperation (st .histories) x
   -- an operation in progress may still run
   pub running : (x : Operation) → Mem x (st .pending) → T (x .running) → T (all (mayRunNow (st .log)) (x .updates))
+  -- no operation, future or in progress, holds a never: a finish drops those that do, and no add brings one in
+  pub noNever : (x : Operation) → Mem x (st .pending) → T (holdsNever (st .log) x) → ⊥
   -- two operations in progress never conflict
   pub apart : (a : List Operation) (x : Operation) (b : List Operation) → st .pending ≡ a ++ x ∷ b → T (x .running) →
       (u : Update) → Mem u (x .updates) → T (blocked (a ++ b) u) → ⊥

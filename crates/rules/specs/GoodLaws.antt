@@ -47,6 +47,7 @@ good-marks p s st G up low high =
       nobodyWaits = G .nobodyWaits;
       pendingFormed = G .pendingFormed;
       running = G .running;
+      noNever = G .noNever;
       apart = G .apart;
     }
 

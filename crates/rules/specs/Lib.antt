@@ -1,6 +1,7 @@
 pub mod Rules
 pub mod Book
 pub mod Checks
+pub mod TimingLaws
 pub mod Log
 pub mod State
 pub mod Calls
@@ -15,6 +16,7 @@ pub mod CheckLaws
 pub mod BookLaws
 pub mod DrainLaws
 pub mod PendingLaws
+pub mod OvertakenLaws
 pub mod FinishLaws
 pub mod IdLaws
 pub mod WorkLaws
@@ -36,4 +38,5 @@ pub mod Poll
 pub mod PollLaws
 pub mod PollExamples
 pub mod RuleTable
+pub mod RuleRows
 pub mod OlderLogs

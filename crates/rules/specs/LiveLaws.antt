@@ -16,7 +16,7 @@ use Rattle.forms.specs.Reading.{readDid}
 use Rattle.forms.specs.declared.Refusal.the-variants.{Unreadable, WrongState, NoRoom, AboveLimit, OutOfTurn, NoSuchHistory, BadLog}
 use Rattle.rules.specs.Log.{Journal, journal, noJournal, readLog}
 use Rattle.rules.specs.State.{Operation, State, ok, logBytes, liveDone, live}
-use Rattle.rules.specs.Calls.{arrived, add, lineOf, inProgress, without, finished, finishFound, finish, withdraw, persistent, stable, show, restarted, restartAs, restart, cut, drain, delivered, redoRead, redo, end, Call, Add, Finish, Withdraw, Persistent, Stable, Show, Cut, Redo, End, perform, step, opened, openSite}
+use Rattle.rules.specs.Calls.{tryAll, overtaken, notOvertaken, arrived, add, lineOf, inProgress, without, finished, finishFound, finish, withdraw, persistent, stable, show, restarted, restartAs, restart, cut, drain, delivered, redoRead, redo, end, Call, Add, Finish, Withdraw, Persistent, Stable, Show, Cut, Redo, End, perform, step, opened, openSite}
 use Rattle.rules.specs.Good.{Good}
 use Rattle.rules.specs.CheckLaws.{refused-not-ok, unless-ok, unless-check}
 use Rattle.rules.specs.DrainLaws.{drain-keeps}
@@ -39,7 +39,7 @@ ok-live : (n : ℕ) (x y : State) (a b : Answer) → ok x a ≡ ok y b → live 
 ok-live n x y a b e le = let same : x ≡ y = cc in subst (λ (s : State). live s ≤ n) same le
 
 live-finish : (st after : State) (a : Answer) → Good st → (i : ℕ) (o : Option Operation) → find (inProgress i) (st .pending) ≡ o → finishFound o st ≡ ok after a → live after ≤ live st + 0
-unfolding finishFound finished live liveDone without
+unfolding finishFound finished notOvertaken live liveDone without
 live-finish st after a G i none p e = absurd (refused-not-ok WrongState after a e)
 live-finish st after a G i (some x) p e =
     let q = unless-check _ NoRoom _ after a e in
@@ -49,6 +49,7 @@ live-finish st after a G i (some x) p e =
     ok-live _ _ after _ a (q .1)
     (omega (
       arith,
+      length-keep (λ (y : Operation). not (overtaken log y)) (tryAll log (without (x .id) (st .pending))),
       try-length log (without (x .id) (st .pending)),
       length-keep-less f (at .0) (λ t. T-not (eqb (x .id) (x .id)) t (eqb-refl (x .id))),
       length-drop (st .stableTo) (st .log),

@@ -13,7 +13,7 @@ use Rattle.forms.specs.ListLaws.{false-T, and-intro, and-left, and-right, or-ca
 use Rattle.forms.specs.Forms.{Update, Did}
 use Rattle.rules.specs.Rules.{strong}
 use Rattle.rules.specs.State.{Operation}
-use Rattle.rules.specs.Calls.{blockedBy, blocked, mayRunNow, ready, attempt, tryFrom, tryAll}
+use Rattle.rules.specs.Calls.{blockedBy, blocked, mayRunNow, ready, attempt, tryFrom, tryAll, holdsNever}
 use Rattle.rules.specs.Good.{FormedOperation, operationIds}
 
 -- Each update of the operation may run after the log.
@@ -29,6 +29,7 @@ pub record Pending (n : ℕ) (ids : List ℕ) (log : List Did) (xs : List Operat
   pub idsAre : operationIds xs ≡ ids
   pub formed : (x : Operation) → Mem x xs → FormedOperation n x
   pub may : (x : Operation) → Mem x xs → T (x .running) → MayRun log x
+  pub noNever : (x : Operation) → Mem x xs → T (holdsNever log x) → ⊥
   pub apart : (x y : Operation) → Mem x xs → Mem y xs → (x .id ≡ y .id → ⊥) → T (x .running) → T (y .running) → Apart x y
 
 or-swap : (a b : Bool) → T (a || b) → T (b || a)
@@ -85,7 +86,7 @@ ready-at log others x t u m =
     let s = all-at (λ w. mayRunNow log w && not (blocked others w)) (x .updates) t u m in
     (and-left (mayRunNow log u) (not (blocked others u)) s, and-right (mayRunNow log u) (not (blocked others u)) s)
 
-ready-may : (log : List Did) (others : List Operation) (x : Operation) → T (ready log others x) → MayRun log x
+pub ready-may : (log : List Did) (others : List Operation) (x : Operation) → T (ready log others x) → MayRun log x
 ready-may log others x t = all-of (mayRunNow log) (x .updates) (λ u m. ready-at log others x t u m .0)
 
 ready-apart : (log : List Did) (others : List Operation) (x : Operation) → T (ready log others x) → (y : Operation) → Mem y others → T (y .running) → Apart x y
@@ -128,12 +129,13 @@ try-length log xs =
 
 module _ (n : ℕ) (ids : List ℕ) (log : List Did) where
   pending-one : (a : List Operation) (x : Operation) (b : List Operation) → Pending n ids log (a ++ x ∷ b) → Pending n ids log (a ++ attempt log (a ++ b) x ∷ b)
-  unfolding attempt
+  unfolding attempt holdsNever
   pending-one a x b G =
       record {
         idsAre = map-append id a (x′ ∷ b) ∙ sym (map-append id a (x ∷ b)) ∙ G .idsAre;
         formed = λ y m. formed-one y (mem-mid a b m);
         may = λ y m r. may-one y (mem-mid a b m) r;
+        noNever = λ y m t. never-one y (mem-mid a b m) t;
         apart = λ y z m k ne r s. apart-one y z (mem-mid a b m) (mem-mid a b k) ne r s;
       }
     where
@@ -164,6 +166,10 @@ module _ (n : ℕ) (ids : List ℕ) (log : List Did) where
       may-one y (inl e) r = subst (MayRun log) (sym e) (may-new (started y e r))
       may-one y (inr m) r = G .may y (mem-widen x a b m) r
 
+      never-one : (y : Operation) → (y ≡ x′) ⊎ Mem y (a ++ b) → T (holdsNever log y) → ⊥
+      never-one y (inl e) t = G .noNever x at (subst (λ (z : Operation). T (holdsNever log z)) e t)
+      never-one y (inr m) t = G .noNever y (mem-widen x a b m) t
+
       apart-new : (z : Operation) → Mem z (a ++ b) → (x .id ≡ z .id → ⊥) → T (z .running) → T (x .running) ⊎ T (ready log (a ++ b) x) → Apart x′ z
       apart-new z k ne s (inl r) = G .apart x z at (mem-widen x a b k) ne r s
       apart-new z k ne s (inr r) = ready-apart log (a ++ b) x r z k s
@@ -181,23 +187,26 @@ module _ (n : ℕ) (ids : List ℕ) (log : List Did) where
 
 -- A part of the operations, after another log after which those in progress still may run.
 pub pending-part : (n : ℕ) (ids : List ℕ) (log : List Did) (xs ys : List Operation) (log′ : List Did) → Pending n ids log xs →
-    ((y : Operation) → Mem y ys → Mem y xs) → ((y : Operation) → Mem y ys → T (y .running) → MayRun log′ y) → Pending n (operationIds ys) log′ ys
-pending-part n ids log xs ys log′ G into may′ =
+    ((y : Operation) → Mem y ys → Mem y xs) → ((y : Operation) → Mem y ys → T (y .running) → MayRun log′ y) →
+    ((y : Operation) → Mem y ys → T (holdsNever log′ y) → ⊥) → Pending n (operationIds ys) log′ ys
+pending-part n ids log xs ys log′ G into may′ never′ =
     record {
       idsAre = refl;
       formed = λ y m. G .formed y (into y m);
       may = may′;
+      noNever = never′;
       apart = λ y z m k ne r s. G .apart y z (into y m) (into z k) ne r s;
     }
 
 -- One more future operation.
 pub pending-more : (n : ℕ) (ids : List ℕ) (log : List Did) (xs : List Operation) (x : Operation) → Pending n ids log xs → FormedOperation n x →
-    x .running ≡ false → Pending n (ids ++ x .id ∷ []) log (xs ++ x ∷ [])
-pending-more n ids log xs x G F idle =
+    x .running ≡ false → (T (holdsNever log x) → ⊥) → Pending n (ids ++ x .id ∷ []) log (xs ++ x ∷ [])
+pending-more n ids log xs x G F idle never =
     record {
       idsAre = map-append (λ (z : Operation). z .id) xs (x ∷ []) ∙ ap {B = List ℕ} (λ l. l ++ x .id ∷ []) (G .idsAre);
       formed = λ y m. formed-one y (mem-snoc xs m);
       may = λ y m r. may-one y (mem-snoc xs m) r;
+      noNever = λ y m t. never-one y (mem-snoc xs m) t;
       apart = λ y z m k ne r s. apart-one y z (mem-snoc xs m) (mem-snoc xs k) ne r s;
     }
   where
@@ -211,6 +220,10 @@ pending-more n ids log xs x G F idle =
     may-one : (y : Operation) → (y ≡ x) ⊎ Mem y xs → T (y .running) → MayRun log y
     may-one y (inl e) r = absurd (stopped y e r)
     may-one y (inr m) r = G .may y m r
+
+    never-one : (y : Operation) → (y ≡ x) ⊎ Mem y xs → T (holdsNever log y) → ⊥
+    never-one y (inl e) t = never (subst (λ (z : Operation). T (holdsNever log z)) e t)
+    never-one y (inr m) t = G .noNever y m t
 
     apart-one : (y z : Operation) → (y ≡ x) ⊎ Mem y xs → (z ≡ x) ⊎ Mem z xs → (y .id ≡ z .id → ⊥) → T (y .running) → T (z .running) → Apart y z
     apart-one y z (inl e) k ne r s = absurd (stopped y e r)

@@ -10,7 +10,7 @@ use borrow.Author.Tests.{ne-eqb}
 use lib.Dec.{T, leb, eqb, eqb-refl, eqb→eq}
 use lib.ListN.{length, take, drop, length-drop, take-append-drop}
 use lib.Seq.{drop-append-le}
-use Rattle.forms.specs.Lists.{any, sum}
+use Rattle.forms.specs.Lists.{any, keep, sum}
 use Rattle.forms.specs.ListLaws.{Nodup, nodup-right, nodup-mid, mem-split, mem-along, sum-append, sum-mid, keep-append, keep-all, T-true, true-T}
 use Rattle.forms.specs.Forms.{Update, Change, Did}
 use Rattle.forms.specs.declared.Refusal.the-variants.{NoSuchHistory}
@@ -18,7 +18,7 @@ use Rattle.rules.specs.Book.{touches}
 use Rattle.rules.specs.Checks.{changesRefusal}
 use Rattle.forms.specs.Limits.{liveLimit}
 use Rattle.rules.specs.State.{Operation, State, asks, dry, live, liveDone, withPending, withLog, withWaiting, withMarks}
-use Rattle.rules.specs.Calls.{attempt, tryAll, arrived, changeOf, lineOf, without, restarted}
+use Rattle.rules.specs.Calls.{attempt, tryAll, overtaken, notOvertaken, arrived, changeOf, lineOf, without, restarted}
 use Rattle.rules.specs.Good.{Good, operationIds, didIds}
 use Rattle.rules.specs.CheckLaws.{formed-updates, formed-changes}
 use Rattle.rules.specs.PendingLaws.{try-same}
@@ -143,15 +143,29 @@ volatile-more : (h p : ℕ) (log more : List Did) → p ≤ length log →
     sum (changesIn h) (drop p (log ++ more)) ≡ sum (changesIn h) (drop p log) + sum (changesIn h) more
 volatile-more h p log more le = ap (sum (changesIn h)) (drop-append-le p log more le) ∙ sum-append (changesIn h) (drop p log) more
 
--- "Finish changes no number": the updates that were in progress are volatile.
+-- What a test leaves out and what it keeps add up to all of it.
+sum-parts : {A : Type 0} (n : A → ℕ) (p : A → Bool) (l : List A) → sum n (keep (λ (x : A). not (p x)) l) + sum n (keep p l) ≡ sum n l
+sum-parts n p [] = refl
+sum-parts {A} n p (x ∷ l) = go (p x) (sum-parts n p l)
+  where
+    go : (b : Bool) → sum n (keep (λ (y : A). not (p y)) l) + sum n (keep p l) ≡ sum n l →
+        sum n (cond (not b) (x ∷ keep (λ (y : A). not (p y)) l) (keep (λ (y : A). not (p y)) l)) + sum n (cond b (x ∷ keep p l) (keep p l))
+        ≡ n x + sum n l
+    go true e = omega (arith, e)
+    go false e = omega (arith, e)
+
+-- A finish: the updates that were in progress are volatile, and those of the operations dropped are fewer.
 pub busy-finished : (st : State) (x : Operation) (h : ℕ) → Good st → Mem x (st .pending) →
     (let log = st .log ++ (lineOf (st .log) x ∷ []) in
-    busy (withLog log (withPending (tryAll log (without (x .id) (st .pending))) st)) h ≡ busy st h)
-unfolding busy
+    let tried = tryAll log (without (x .id) (st .pending)) in
+    busy (withLog log (withPending (notOvertaken log tried) st)) h + sum (asksIn h) (keep (overtaken log) tried) ≡ busy st h)
+unfolding busy notOvertaken
 busy-finished st x h G m =
     let log = st .log ++ (lineOf (st .log) x ∷ []) in
+    let tried = tryAll log (without (x .id) (st .pending)) in
     omega (
       arith,
+      sum-parts (asksIn h) (overtaken log) tried,
       asks-tried h log (without (x .id) (st .pending)),
       asks-without h x (st .pending) (pending-once st G) m,
       volatile-more h (st .persistentTo) (st .log) (lineOf (st .log) x ∷ []) (G .persistentBelow),

@@ -88,6 +88,7 @@ redo-good d st G F on e7 e8 e10 e12 =
       nobodyWaits = λ off. absurd (true-not-false (st .restoring) on off);
       pendingFormed = G .pendingFormed;
       running = λ x m. absurd (List·Memᴰ·not-nil (mem-along (G .idle on) m));
+      noNever = λ x m. absurd (List·Memᴰ·not-nil (mem-along (G .idle on) m));
       apart = G .apart;
     }
   where
@@ -198,6 +199,7 @@ good-end st st′ a G e =
       nobodyWaits = λ off. refl;
       pendingFormed = G .pendingFormed;
       running = G .running;
+      noNever = G .noNever;
       apart = G .apart;
     })
   where

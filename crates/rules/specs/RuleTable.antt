@@ -1,12 +1,12 @@
 -- 01's rule table, cell by cell, on both sides of each edge: computed from the definitions, so that an edit of any rule makes a case false.
 use mathlib.Core.Path.{_≡_}
-use mathlib.Core.Bool.{Bool, cond, _&&_}
-use mathlib.Core.List.{List, [], _∷_, _++_, map}
+use mathlib.Core.Bool.{Bool, _&&_}
+use mathlib.Core.List.{List, [], _∷_, _++_}
 use mathlib.Core.List.{List·Memᴰ as Mem}
 use mathlib.Core.Option.{none, some}
 use Prim.Native.Nat.{ℕ}
 use Prim.Native.String.{String}
-use lib.Dec.{T, eqb}
+use lib.Dec.{T}
 use lib.ListN.{length, replicate}
 use Rattle.forms.specs.Lists.{all, below}
 use Rattle.forms.specs.ListLaws.{and-left, and-right, all-at}
@@ -17,17 +17,14 @@ use Rattle.forms.specs.Forms.{fieldText, fieldsText, itemsText, tailText, listT
 use Rattle.forms.specs.Forms.{siteText, didText, redoText, numbersText, answerText, outcomeText}
 use Rattle.forms.specs.Reading as reading
 use Rattle.forms.specs.Reading.{readDid, readSite, readCommand, readWhole}
-use Rattle.forms.specs.declared.Rule.{Rule}
-use Rattle.forms.specs.declared.Rule.the-variants.{Inc, Set, Not, Unk}
-use Rattle.rules.specs.Rules.{loggedAs, mayRun, versionAfter, profileAfter, strong, ordered, operandFits}
-use Rattle.rules.specs.Book.{Cell, entered, touches, runsAt}
+use Rattle.rules.specs.Book.{touches, runsAt}
 use Rattle.rules.specs.Checks.{check, andThen, wrongCount, noSuchHistory, historyTwice, updateMisfits}
 use Rattle.rules.specs.Checks.{formRefusal, updatesRefusal}
 use Rattle.rules.specs.Log.{ended, didsText, logText, linesFrom, linesOf, restFrom}
 use Rattle.rules.specs.Log.{historiesFit}
 use Rattle.rules.specs.State.{logBytes, versionAt, liveDone, live, asks, dry, becameDry, rose, lineBytes}
-use Rattle.rules.specs.Calls.{unless, blockedBy, blocked, mayRunNow, ready, attempt, tryFrom, madeReady}
-use Rattle.rules.specs.Calls.{nothingOrders, idPending, idDone, alreadyDone, readOvertaken, tableFull, addRefusal, arrived}
+use Rattle.rules.specs.Calls.{unless, blockedBy, blocked, mayRunNow, ready, attempt, tryFrom, madeReady, neverNow, holdsNever, overtaken, notOvertaken, overtakenIds}
+use Rattle.rules.specs.Calls.{nothingOrders, idPending, idDone, alreadyDone, readOvertaken, atHighest, tableFull, addRefusal, arrived}
 use Rattle.rules.specs.Calls.{add, changeOf, lineOf}
 use Rattle.rules.specs.Calls.{valuesAfter, inProgress, future, without, logFull, finished, finishFound, finish}
 use Rattle.rules.specs.Calls.{show, restarted, restartAs, restart, stale, redoRefusal, behind, pick, drain, delivered}
@@ -132,7 +129,7 @@ abbrev runs : String → String → String → String → Case
 runs updates values changes shown =
     adding at4 updates
     (bytes "(ok 1 48)\n(ok (waiting))\n(ok (ready 2))\n(ok 2 (values " ++ bytes values
-    ++ bytes ")(ready))\n(history 0 " ++ bytes shown ++ bytes ")\n")
+    ++ bytes ")(ready)(overtaken))\n(history 0 " ++ bytes shown ++ bytes ")\n")
     (at4 ++ did2 changes)
 
 -- .. waits (finishing it is refused 11)
@@ -218,7 +215,7 @@ atHigh c = bytes "(site 2)\n(did 1 (set 0 " ++ bytes c ++ bytes " 1 7))\n"
 abbrev runsHigh : String → String → String → Case
 runsHigh updates values changes =
     adding (atHigh "18446744073709551614") updates
-    (bytes "(ok 1 50)\n(ok (waiting))\n(ok (ready 2))\n(ok 2 (values " ++ bytes values ++ bytes ")(ready))\n"
+    (bytes "(ok 1 50)\n(ok (waiting))\n(ok (ready 2))\n(ok 2 (values " ++ bytes values ++ bytes ")(ready)(overtaken))\n"
     ++ bytes "(history 0 18446744073709551615 18446744073709551614 18446744073709551614 2 0)\n")
     (atHigh "18446744073709551614" ++ did2 changes)
 
@@ -230,13 +227,13 @@ staysHigh updates answer =
     ++ bytes "(history 0 18446744073709551615 18446744073709551615 18446744073709551615 1 7)\n")
     (atHigh "18446744073709551615")
 
--- unk: "C is below 2^64 − 1"; inc: "a true sum"; set up to 2^64 − 1.
+-- unk: "C is below 2^64 − 1", and 02's 17; inc: "a true sum"; set up to 2^64 − 1.
 abbrev pub highest : List Case
 highest =
     runsHigh "(inc 1 1 0)(unk 0 0 0)" "0 0" "(inc 1 1 1 0)(inc 0 18446744073709551615 2 0)"
     ∷ runsHigh "(inc 0 18446744073709551615 0)" "0" "(inc 0 18446744073709551615 2 0)"
     ∷ runsHigh "(set 0 18446744073709551615 0)" "0" "(set 0 18446744073709551615 2 0)"
-    ∷ staysHigh "(inc 1 1 0)(unk 0 0 0)" "(ok (ready))" ∷ staysHigh "(inc 0 0 0)" "(refused 8)"
+    ∷ staysHigh "(inc 1 1 0)(unk 0 0 0)" "(refused 17)" ∷ staysHigh "(inc 0 0 0)" "(refused 8)"
     ∷ staysHigh "(inc 0 18446744073709551616 0)" "(refused 1)" ∷ staysHigh "(set 0 18446744073709551615 0)" "(refused 8)"
     ∷ record { log = atHigh "18446744073709551615" ++ did2 "(inc 0 0 2 0)"; input = []; replies = bytes "(refused 15)\n"; after = [] }
     ∷ []
@@ -271,95 +268,6 @@ strengths =
     (bytes "(refused 6)" ∷ bytes "(refused 6)" ∷ bytes "(ok (ready 2))" ∷ [])
     ∷ []
 
--- ### The definitions themselves, also where no call of a site could tell
-
--- A rule's row of the table.
-pub record RuleRow : Type 0 where
-  pub rule : Rule
-  -- may run (1) or not (0), at C = 4 and U = 3, 4, 5 and 6
-  pub may : List ℕ
-  -- the version after, at these
-  pub version : List ℕ
-  -- in range (1) or not (0): the operands 0, 1, 1023, 1024, 2047, 2048, 2^32, 2^64 − 1 and 2^64, with U = 0
-  pub fits : List ℕ
-  -- the profile of the parts 1 to 8 after the operand 1537
-  pub profile : ℕ
-  -- strong, ordered
-  pub is : List ℕ
-  -- profile, version and place that the book holds after its logged rule with V = 6 and the operand 1537, from C = 4 and place 1
-  pub booked : List ℕ
-
--- 1 for true, 0 for false
-abbrev pub flag : Bool → ℕ
-flag b = cond b 1 0
-
--- U = C − 1, C, C + 1 and C + 2, at C = 4
-abbrev pub around4 : List ℕ
-around4 = 3 ∷ 4 ∷ 5 ∷ 6 ∷ []
-
--- operands at the edges of their ranges
-abbrev pub edgeOperands : List ℕ
-edgeOperands = 0 ∷ 1 ∷ 1023 ∷ 1024 ∷ 2047 ∷ 2048 ∷ 4294967296 ∷ 18446744073709551615 ∷ 18446744073709551616 ∷ []
-
--- a history at C = 4 and place 1, as the book holds it
-abbrev pub cell4 : Cell
-cell4 = record { profile = 578437695752307201; version = 4; place = 1 }
-
--- profile, version and place
-abbrev pub numbersIn : Cell → List ℕ
-numbersIn c = c .profile ∷ c .version ∷ c .place ∷ []
-
--- The test of a row.
-unfoldable pub ruleRowHolds : RuleRow → Bool
-ruleRowHolds c =
-    sameBytes (map (λ u. flag (mayRun (c .rule) 4 u)) around4) (c .may)
-    && sameBytes (map (versionAfter (c .rule) 4) around4) (c .version)
-    && sameBytes (map (λ o. flag (operandFits (c .rule) 0 o)) edgeOperands) (c .fits)
-    && eqb (profileAfter (c .rule) 1537 578437695752307201) (c .profile)
-    && sameBytes (flag (strong (c .rule)) ∷ flag (ordered (c .rule)) ∷ []) (c .is)
-    && sameBytes (numbersIn (entered (loggedAs (c .rule)) 6 1537 cell4)) (c .booked)
-
--- 01's table, with strong and ordered.
-abbrev pub ruleRows : List RuleRow
-ruleRows =
-    record {
-      rule = Inc;
-      may = 0 ∷ 0 ∷ 1 ∷ 0 ∷ [];
-      version = 3 ∷ 4 ∷ 5 ∷ 6 ∷ [];
-      fits = 1 ∷ 1 ∷ 1 ∷ 1 ∷ 1 ∷ 0 ∷ 0 ∷ 0 ∷ 0 ∷ [];
-      profile = 576748845892043265;
-      is = 1 ∷ 1 ∷ [];
-      booked = 576748845892043265 ∷ 6 ∷ 2 ∷ [];
-    }
-    ∷ record {
-      rule = Set;
-      may = 0 ∷ 0 ∷ 1 ∷ 1 ∷ [];
-      version = 3 ∷ 4 ∷ 5 ∷ 6 ∷ [];
-      fits = 1 ∷ 1 ∷ 1 ∷ 1 ∷ 1 ∷ 1 ∷ 1 ∷ 1 ∷ 0 ∷ [];
-      profile = 1537;
-      is = 1 ∷ 1 ∷ [];
-      booked = 1537 ∷ 6 ∷ 2 ∷ [];
-    }
-    ∷ record {
-      rule = Not;
-      may = 0 ∷ 1 ∷ 0 ∷ 0 ∷ [];
-      version = 4 ∷ 4 ∷ 4 ∷ 4 ∷ [];
-      fits = 1 ∷ 0 ∷ 0 ∷ 0 ∷ 0 ∷ 0 ∷ 0 ∷ 0 ∷ 0 ∷ [];
-      profile = 578437695752307201;
-      is = 0 ∷ 1 ∷ [];
-      booked = 578437695752307201 ∷ 4 ∷ 2 ∷ [];
-    }
-    ∷ record {
-      rule = Unk;
-      may = 1 ∷ 1 ∷ 1 ∷ 1 ∷ [];
-      version = 5 ∷ 5 ∷ 5 ∷ 5 ∷ [];
-      fits = 1 ∷ 1 ∷ 1 ∷ 1 ∷ 1 ∷ 0 ∷ 0 ∷ 0 ∷ 0 ∷ [];
-      profile = 576748845892043265;
-      is = 1 ∷ 0 ∷ [];
-      booked = 576748845892043265 ∷ 6 ∷ 2 ∷ [];
-    }
-    ∷ []
-
 -- ### The test
 
 -- The whole table.
@@ -367,9 +275,9 @@ abbrev pub cases : List Case
 cases = versions ++ places ++ operands ++ parts ++ highest ++ strengths
 
 -- The one computed test, over the whole table.
-computed : T (all ruleRowHolds ruleRows && all caseHolds cases)
+computed : T (all caseHolds cases)
 computed =
-    unfold ruleRowHolds caseHolds begins answers logOf leaves lines sameBytes below word digitsWithin digits more number numberOf in
+    unfold caseHolds begins answers logOf leaves lines sameBytes below word digitsWithin digits more number numberOf in
     unfold fieldText fieldsText itemsText tailText listText updateText changeText oneText siteText didText redoText in
     unfold numbersText answerText outcomeText in
     unfold reading.field reading.rule reading.doneRule reading.update reading.change reading.one reading.items reading.tail in
@@ -379,8 +287,8 @@ computed =
     unfold formRefusal updatesRefusal changesRefusalWith in
     unfold ended didsText logText linesFrom restFrom historiesFit acceptsWith readLinesWith readFirstWith readLogWith in
     unfold logBytes versionAt liveDone live asks dry becameDry rose lineBytes in
-    unfold unless blockedBy blocked mayRunNow ready attempt tryFrom madeReady nothingOrders idPending idDone in
-    unfold alreadyDone readOvertaken tableFull addRefusal arrived add changeOf lineOf valuesAfter inProgress future without in
+    unfold unless blockedBy blocked mayRunNow ready attempt tryFrom madeReady neverNow holdsNever overtaken notOvertaken overtakenIds nothingOrders idPending idDone in
+    unfold alreadyDone readOvertaken atHighest tableFull addRefusal arrived add changeOf lineOf valuesAfter inProgress future without in
     unfold logFull finished finishFound finish show restarted restartAs restart stale redoRefusal behind pick in
     unfold drain delivered redoRead redo end writableUpdate writable perform step in
     unfold turnOf calling obey onCommand turn replies afterLines in
@@ -394,8 +302,4 @@ both a b c d t =
 pub cases-hold : (c : Case) → Mem c cases → (answers (c .log) (c .input) ≡ c .replies) × (leaves (c .log) (c .input) ≡ c .after)
 unfolding caseHolds
 cases-hold c m =
-    both _ _ _ _ (all-at caseHolds cases (and-right (all ruleRowHolds ruleRows) (all caseHolds cases) computed) c m)
-
--- Every row holds.
-pub rule-rows-hold : (c : RuleRow) → Mem c ruleRows → T (ruleRowHolds c)
-rule-rows-hold c m = all-at ruleRowHolds ruleRows (and-left (all ruleRowHolds ruleRows) (all caseHolds cases) computed) c m
+    both _ _ _ _ (all-at caseHolds cases computed c m)

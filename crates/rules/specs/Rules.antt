@@ -8,6 +8,8 @@ use Rattle.forms.specs.declared.Rule.{Rule}
 use Rattle.forms.specs.declared.Rule.the-variants.{Inc, Set, Not, Unk}
 use Rattle.forms.specs.declared.DoneRule.{DoneRule}
 use Rattle.forms.specs.declared.DoneRule.the-variants.{DidInc, DidSet, DidNot}
+use Rattle.forms.specs.declared.Timing.{Timing}
+use Rattle.forms.specs.declared.Timing.the-variants.{Now, Later, Never}
 
 -- The rule of a logged update.
 abbrev pub ruleOf : DoneRule → Rule
@@ -28,6 +30,23 @@ mayRun Inc c u = eqb u (c + 1)
 mayRun Set c u = ltb c u
 mayRun Not c u = eqb u c
 mayRun Unk c u = ltb c top
+
+-- Not at the version C, but at one that is still to come: U is above what the rule asks for now.
+abbrev pub mayLater : Rule → ℕ → ℕ → Bool
+mayLater Inc c u = ltb (c + 1) u
+mayLater Set c u = false
+mayLater Not c u = ltb c u
+mayLater Unk c u = false
+
+-- 02 (b): "The test of an update against its history's version says from now on one of now, later or never."
+abbrev pub timing : Rule → ℕ → ℕ → Timing
+timing r c u = cond (mayRun r c u) Now (cond (mayLater r c u) Later Never)
+
+-- the answer "never"
+abbrev pub isNever : Timing → Bool
+isNever Now = false
+isNever Later = false
+isNever Never = true
 
 -- "`not` is weak, the others strong"
 abbrev pub strong : Rule → Bool

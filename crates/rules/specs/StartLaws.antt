@@ -44,6 +44,7 @@ at-rest room n log restoring h formed ran fits limit =
       nobodyWaits = λ off. refl;
       pendingFormed = λ x m. absurd (List·Memᴰ·not-nil m);
       running = λ x m. absurd (List·Memᴰ·not-nil m);
+      noNever = λ x m. absurd (List·Memᴰ·not-nil m);
       apart = λ a x b e. absurd (List·Memᴰ·not-nil (mem-along (sym e) (mem-at x a b)));
     }
 

@@ -15,11 +15,11 @@ use Rattle.forms.specs.Forms.{Update, Did, Answer}
 use Rattle.forms.specs.Reading.{readDid}
 use Rattle.forms.specs.Refusals.{numberOf}
 use Rattle.forms.specs.declared.Refusal.{Refusal}
-use Rattle.forms.specs.declared.Refusal.the-variants.{Unreadable, WrongCount, NoSuchHistory, HistoryTwice, OperandRange, NothingOrders, IdPending, AlreadyDone, ReadOvertaken, TableFull, WrongState, NoRoom, AboveLimit, OutOfTurn, BadLog}
+use Rattle.forms.specs.declared.Refusal.the-variants.{Unreadable, WrongCount, NoSuchHistory, HistoryTwice, OperandRange, NothingOrders, IdPending, AlreadyDone, ReadOvertaken, HighestVersion, TableFull, WrongState, NoRoom, AboveLimit, OutOfTurn, BadLog}
 use Rattle.rules.specs.Checks.{check, andThen, formRefusal, updatesRefusal, changesRefusal}
 use Rattle.rules.specs.Log.{Journal, journal, noJournal, readLog}
 use Rattle.rules.specs.State.{Operation, State, Reply, refused, ok, settle, logBytes}
-use Rattle.rules.specs.Calls.{unless, nothingOrders, idPending, idDone, alreadyDone, readOvertaken, tableFull, stale, logFull, addRefusal, added, add, inProgress, finished, finishFound, finish, withdrawRefusal, withdraw, persistent, stable, show, end, restartAs, cutAbove, cut, redoRefusal, delivered, redoRead, redo, Call, Add, Finish, Withdraw, Persistent, Stable, Show, Cut, Redo, End, writable, perform, step}
+use Rattle.rules.specs.Calls.{unless, nothingOrders, idPending, idDone, alreadyDone, readOvertaken, atHighest, tableFull, stale, logFull, addRefusal, added, add, inProgress, finished, finishFound, finish, withdrawRefusal, withdraw, persistent, stable, show, end, restartAs, cutAbove, cut, redoRefusal, delivered, redoRead, redo, Call, Add, Finish, Withdraw, Persistent, Stable, Show, Cut, Redo, End, writable, perform, step}
 use Rattle.rules.specs.CheckLaws.{refused-not-ok, some-not-none, unless-check}
 use Rattle.rules.specs.When.{addWhen, redoReadWhen, redoWhen, lastly, cutWhen, performWhen, stepWhen, meets}
 use Rattle.rules.specs.Good.{Good}
@@ -83,7 +83,8 @@ addBefore i us st o =
     (check (nothingOrders us) NothingOrders
     (check (idPending i st) IdPending
     (check (idDone i st || any (alreadyDone st) us) AlreadyDone
-    (check (any (readOvertaken st) us) ReadOvertaken o)))))
+    (check (any (readOvertaken st) us) ReadOvertaken
+    (check (any (atHighest st) us) HighestVersion o))))))
 
 add-settles : (i : ℕ) (us : List Update) (st : State) → Settles (addBefore i us st)
 unfolding updatesRefusal isTenth numberOf
@@ -92,8 +93,10 @@ add-settles i us st =
     (then-settles (andThen (updatesRefusal (st .histories) us)) _ (andThen-settles (updatesRefusal (st .histories) us) (form-not-ten _ _ (st .histories) us))
     (then-settles (check (nothingOrders us) NothingOrders) _ (check-settles (nothingOrders us) NothingOrders refl)
     (then-settles (check (idPending i st) IdPending) _ (check-settles (idPending i st) IdPending refl)
-    (then-settles (check (idDone i st || any (alreadyDone st) us) AlreadyDone) (check (any (readOvertaken st) us) ReadOvertaken)
-    (check-settles (idDone i st || any (alreadyDone st) us) AlreadyDone refl) (check-settles (any (readOvertaken st) us) ReadOvertaken refl)))))
+    (then-settles (check (idDone i st || any (alreadyDone st) us) AlreadyDone) _
+    (check-settles (idDone i st || any (alreadyDone st) us) AlreadyDone refl)
+    (then-settles (check (any (readOvertaken st) us) ReadOvertaken) (check (any (atHighest st) us) HighestVersion)
+    (check-settles (any (readOvertaken st) us) ReadOvertaken refl) (check-settles (any (atHighest st) us) HighestVersion refl))))))
 
 -- the checks of a redo before 10
 abbrev redoBefore : Did → State → Option Refusal → Option Refusal

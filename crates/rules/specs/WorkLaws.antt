@@ -14,18 +14,19 @@ use Rattle.forms.specs.Lists.{all, any, keep, find, sum}
 use Rattle.forms.specs.ListLaws.{Nodup, nodup-right, nodup-apart, mem-along, mem-snoc, mem-of-keep, length-keep, length-keep-less, true-T}
 use Rattle.forms.specs.ListLaws.{and-right, all-at}
 use Rattle.forms.specs.Forms.{Update, Did, Answer}
-use Rattle.forms.specs.declared.Refusal.the-variants.{NothingOrders, IdPending, AlreadyDone, ReadOvertaken, TableFull, WrongState, NoRoom, OutOfTurn}
+use Rattle.forms.specs.declared.Refusal.the-variants.{NothingOrders, IdPending, AlreadyDone, ReadOvertaken, HighestVersion, TableFull, WrongState, NoRoom, OutOfTurn}
 use Rattle.forms.specs.Limits.{liveLimit}
 use Rattle.rules.specs.State.{Operation, State, ok, logBytes, liveDone, live, lineBytes, withPending, withLog}
-use Rattle.rules.specs.Calls.{mayRunNow, tryAll, idPending, idDone, alreadyDone, tableFull}
+use Rattle.rules.specs.Calls.{mayRunNow, tryAll, neverNow, holdsNever, overtaken, notOvertaken, idPending, idDone, alreadyDone, tableFull}
 use Rattle.rules.specs.Calls.{addRefusal, arrived, add, lineOf, inProgress, without, logFull, finished, finishFound, finish, withdrawRefusal}
 use Rattle.rules.specs.Calls.{withdraw}
 use Rattle.rules.specs.Calls.{writableUpdate}
 use Rattle.rules.specs.Good.{Good, FormedDid, FormedOperation, didIds, operationIds}
 use Rattle.rules.specs.FitLaws.{length-log-snoc, few-log-lines}
-use Rattle.rules.specs.CheckLaws.{refused-not-ok, check-none, andThen-none, unless-ok, unless-check, not-lt, not-le, or-false-left}
+use Rattle.rules.specs.CheckLaws.{refused-not-ok, check-none, andThen-none, unless-ok, unless-check, not-lt, not-le, or-false-left, or-false-right}
 use Rattle.rules.specs.BookLaws.{each-once, ran-snoc}
 use Rattle.rules.specs.PendingLaws.{Pending, unblocked-apart, apart-unblocked, pending-try, pending-part, pending-more, try-ids, try-length}
+use Rattle.rules.specs.OvertakenLaws.{stay-no-never, added-no-never, drop-before-tries}
 use Rattle.rules.specs.FinishLaws.{line-runs, line-good, still-may}
 use Rattle.rules.specs.IdLaws.{Fresh, fresh-tested, ids-without, ids-snoc, ids-pend, ids-do}
 
@@ -39,7 +40,14 @@ true-not-false b p q = let z : _≡_ {A = ℕ} 0 1 = cc in omega arith
 -- ### Other pending operations
 
 good-pending : (st : State) → Good st → Pending (st .histories) (operationIds (st .pending)) (st .log) (st .pending)
-good-pending st G = record { idsAre = refl; formed = G .pendingFormed; may = G .running; apart = unblocked-apart (st .pending) (G .apart) }
+good-pending st G =
+    record {
+      idsAre = refl;
+      formed = G .pendingFormed;
+      may = G .running;
+      noNever = G .noNever;
+      apart = unblocked-apart (st .pending) (G .apart);
+    }
 
 module _ (st : State) (xs : List Operation) where
   -- The same site with other pending operations.
@@ -64,6 +72,7 @@ module _ (st : State) (xs : List Operation) where
         nobodyWaits = G .nobodyWaits;
         pendingFormed = P .formed;
         running = P .may;
+        noNever = P .noNever;
         apart =
             apart-unblocked (st .histories) (operationIds xs) (st .log) xs P
             (nodup-right (didIds (st .waiting)) (operationIds xs) (nodup-right (didIds (liveDone st)) (didIds (st .waiting) ++ operationIds xs) ids));
@@ -85,12 +94,12 @@ good-tried st G off =
 
 add-good : (i : ℕ) (us : List Update) (st : State) → Good st → st .restoring ≡ false →
     FormedOperation (st .histories) (record { id = i; updates = us; running = false }) → idPending i st ≡ false →
-    idDone i st ≡ false → live st < liveLimit → Good (withPending (arrived i us st) st)
-unfolding arrived live
-add-good i us st G off F e7 e8 e10 =
+    idDone i st ≡ false → (T (any (neverNow (st .log)) us) → ⊥) → live st < liveLimit → Good (withPending (arrived i us st) st)
+unfolding arrived live holdsNever
+add-good i us st G off F e7 e8 never e10 =
     good-with st (st .pending ++ x ∷ []) G off
     (subst (λ (ids : List ℕ). Pending (st .histories) ids (st .log) (st .pending ++ x ∷ [])) (sym more)
-    (pending-more (st .histories) (operationIds (st .pending)) (st .log) (st .pending) x (good-pending st G) F refl))
+    (pending-more (st .histories) (operationIds (st .pending)) (st .log) (st .pending) x (good-pending st G) F refl never))
     (omega (arith, length-append (st .pending) (x ∷ [])))
     (subst (λ (ids : List ℕ). Nodup (didIds (liveDone st) ++ (didIds (st .waiting) ++ ids))) (sym more)
     (ids-pend i (didIds (liveDone st)) (didIds (st .waiting)) (operationIds (st .pending)) (fresh-tested i st e7 e8) (G .ids)))
@@ -111,12 +120,14 @@ good-add i us st st′ a G le w e =
     let q7 = check-none _ IdPending _ (q6 .1) in
     let q8 = check-none _ AlreadyDone _ (q7 .1) in
     let q9 = check-none _ ReadOvertaken _ (q8 .1) in
-    let q10 = check-none _ TableFull _ (q9 .1) in
+    let q17 = check-none _ HighestVersion _ (q9 .1) in
+    let q10 = check-none _ TableFull _ (q17 .1) in
     let F : FormedOperation (st .histories) (record { id = i; updates = us; running = false }) =
     record { passes = q25 .0; orders = q6 .0; id = le; writable = all-at writableUpdate us w } in
     good-ok _ st′ _ a (q .1)
     (good-tried (withPending (arrived i us st) st)
-    (add-good i us st G (q14 .0) F (q7 .0) (or-false-left (idDone i st) (any (alreadyDone st) us) (q8 .0)) (not-le liveLimit (live st) (q10 .0)))
+    (add-good i us st G (q14 .0) F (q7 .0) (or-false-left (idDone i st) (any (alreadyDone st) us) (q8 .0))
+    (added-no-never st us (or-false-right (idDone i st) (any (alreadyDone st) us) (q8 .0)) (q9 .0) (q17 .0)) (not-le liveLimit (live st) (q10 .0)))
     (q14 .0))
 
 -- ### Withdraw
@@ -129,6 +140,7 @@ pending-without i st G =
     pending-part (st .histories) (operationIds (st .pending)) (st .log) (st .pending) (keep f (st .pending)) (st .log) (good-pending st G)
     (λ y k. mem-of-keep f (st .pending) k .0)
     (λ y k r. G .running y (mem-of-keep f (st .pending) k .0) r)
+    (λ y k t. G .noNever y (mem-of-keep f (st .pending) k .0) t)
 
 pub good-withdraw : (i : ℕ) (st st′ : State) (a : Answer) → Good st → withdraw i st ≡ ok st′ a → Good st′
 unfolding withdraw withdrawRefusal without live
@@ -155,11 +167,11 @@ module _ {A : Type 0} (f : A → Bool) where
       go true p k below = let same : y ≡ x = cc in (here (sym same), subst (λ (z : A). T (f z)) same (true-T (f y) p))
       go false p k below = up (below k)
 
--- An operation in progress done, and taken from the pending ones.
+-- An operation in progress done, and taken from the pending ones, with those that it overtook.
 finish-good : (st : State) (x : Operation) → Good st → Mem x (st .pending) → T (x .running) → st .restoring ≡ false →
     length (logBytes st) + sum lineBytes (st .waiting) + lineBytes (lineOf (st .log) x) ≤ st .room →
-    Good (withLog (st .log ++ lineOf (st .log) x ∷ []) (withPending (without (x .id) (st .pending)) st))
-unfolding live liveDone logBytes without lineOf
+    (let log = st .log ++ lineOf (st .log) x ∷ [] in Good (withLog log (withPending (notOvertaken log (without (x .id) (st .pending))) st)))
+unfolding live liveDone logBytes without notOvertaken lineOf
 finish-good st x G at on off fits =
     record {
       histories = G .histories;
@@ -179,6 +191,7 @@ finish-good st x G at on off fits =
             length-drop (st .stableTo) (st .log),
             length-drop (st .stableTo) log′,
             length-keep-less f at gone,
+            length-keep stays (keep f (st .pending)),
             low,
           );
       ids = ids;
@@ -186,6 +199,7 @@ finish-good st x G at on off fits =
       nobodyWaits = G .nobodyWaits;
       pendingFormed = P .formed;
       running = P .may;
+      noNever = P .noNever;
       apart =
           apart-unblocked (st .histories) (operationIds left) log′ left P
           (nodup-right W (operationIds left) (nodup-right D (W ++ operationIds left) fewer));
@@ -200,8 +214,15 @@ finish-good st x G at on off fits =
     f : Operation → Bool
     f y = not (eqb (y .id) (x .id))
 
+    stays : Operation → Bool
+    stays y = not (overtaken log′ y)
+
     left : List Operation
-    left = keep f (st .pending)
+    left = keep stays (keep f (st .pending))
+
+    -- one that is left was there before, and was not the one done
+    from : (y : Operation) → Mem y left → Mem y (st .pending) × T (f y)
+    from y k = mem-of-keep f (st .pending) (mem-of-keep stays (keep f (st .pending)) k .0)
 
     D : List ℕ
     D = didIds (drop (st .stableTo) (st .log))
@@ -228,17 +249,22 @@ finish-good st x G at on off fits =
     gone t = T-not (eqb (x .id) (x .id)) t (eqb-refl (x .id))
 
     other : (y : Operation) → Mem y left → x .id ≡ y .id → ⊥
-    other y k e = T-not (eqb (y .id) (x .id)) (mem-of-keep f (st .pending) k .1) (rw e (eqb-refl (y .id)))
+    other y k e = T-not (eqb (y .id) (x .id)) (from y k .1) (rw e (eqb-refl (y .id)))
+
+    still : (y : Operation) → Mem y left → T (y .running) → T (all (mayRunNow log′) (y .updates))
+    still y k r =
+        let q = from y k .0 in
+        still-may (st .log) x y (unblocked-apart (st .pending) (G .apart) x y at q (other y k) on r) (G .running y q r)
 
     P : Pending (st .histories) (operationIds left) log′ left
     P =
         pending-part (st .histories) (operationIds (st .pending)) (st .log) (st .pending) left log′ (good-pending st G)
-        (λ y k. mem-of-keep f (st .pending) k .0)
-        (λ y k r. let q = mem-of-keep f (st .pending) k .0 in
-        still-may (st .log) x y (unblocked-apart (st .pending) (G .apart) x y at q (other y k) on r) (G .running y q r))
+        (λ y k. from y k .0)
+        still
+        (λ y k. stay-no-never log′ y (mem-of-keep stays (keep f (st .pending)) k .1) (still y k))
 
     fewer : Nodup (D ++ (W ++ operationIds left))
-    fewer = ids-without D W f (st .pending) (G .ids)
+    fewer = ids-without D W stays (keep f (st .pending)) (ids-without D W f (st .pending) (G .ids))
 
     mine : Mem (x .id) (operationIds (st .pending))
     mine = Memᴰ·map (λ (y : Operation). y .id) at
@@ -268,7 +294,10 @@ good-finish i st st′ a G e =
     go (some x) p off r =
         let b = unless-check _ NoRoom _ st′ a r in
         let k = find-at (inProgress i) (st .pending) x p in
+        let log = st .log ++ lineOf (st .log) x ∷ [] in
+        let left = without (x .id) (st .pending) in
         good-ok _ st′ _ a (b .1)
-        (good-tried (withLog (st .log ++ lineOf (st .log) x ∷ []) (withPending (without (x .id) (st .pending)) st))
+        (subst (λ (xs : List Operation). Good (withLog log (withPending xs st))) (sym (drop-before-tries log left .left))
+        (good-tried (withLog log (withPending (notOvertaken log left) st))
         (finish-good st x G (k .0) (and-right (eqb (x .id) i) (x .running) (k .1)) off (not-lt (st .room) _ (b .0)))
-        off)
+        off))

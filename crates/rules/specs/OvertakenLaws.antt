@@ -1,0 +1,233 @@
+-- Overtaken operations: who holds a never, that add brings none in, and that dropping before the tries comes to the same.
+use mathlib.Core.Path.{_≡_, refl, sym, ap, _∙_, subst}
+use mathlib.Core.Logic.{_⊎_, inl, inr}
+use mathlib.Core.Bool.{Bool, true, false, cond, not, _&&_, _||_}
+use mathlib.Core.List.{List, [], _∷_, _++_, map, map-append, append-nil, append-assoc}
+use mathlib.Core.List.{List·Memᴰ as Mem}
+use Prim.Native.Nat.{ℕ}
+use lib.Dec.{T, T-not, leb, ltb}
+use Rattle.forms.specs.Decimal.{top}
+use Rattle.forms.specs.Lists.{all, any, keep}
+use Rattle.forms.specs.ListLaws.{true-T, false-T, and-intro, all-at, any-at, any-of, or-cases, keep-append}
+use Rattle.forms.specs.Forms.{Update, Did}
+use Rattle.forms.specs.declared.Rule.{Rule}
+use Rattle.forms.specs.declared.Rule.the-variants.{Inc, Set, Not, Unk}
+use Rattle.rules.specs.Rules.{strong, ordered}
+use Rattle.rules.specs.Book.{cell}
+use Rattle.rules.specs.State.{Operation, State}
+use Rattle.rules.specs.Calls.{blockedBy, blocked, mayRunNow, ready, attempt, tryFrom, tryAll, madeReady, neverNow, holdsNever, overtaken, notOvertaken, overtakenIds}
+use Rattle.rules.specs.Calls.{alreadyDone, readOvertaken, atHighest}
+use Rattle.rules.specs.TimingLaws.{run-not-never, tooLate, never-is}
+use Rattle.rules.specs.PendingLaws.{MayRun, ready-may, try-keeps}
+
+-- ### Who holds a never
+
+-- An operation whose updates may run holds none.
+pub may-no-never : (log : List Did) (x : Operation) → MayRun log x → T (holdsNever log x) → ⊥
+unfolding holdsNever neverNow mayRunNow
+may-no-never log x may t =
+    let q = any-at (neverNow log) (x .updates) t in
+    let u = q .0 in
+    run-not-never (u .rule) (cell (u .history) log .version) (u .version) (all-at (mayRunNow log) (x .updates) may u (q .1)) (q .2)
+
+-- One that stays holds none: it is in progress, or was seen to hold none.
+pub stay-no-never : (log : List Did) (x : Operation) → T (not (overtaken log x)) → (T (x .running) → MayRun log x) → T (holdsNever log x) → ⊥
+unfolding overtaken
+stay-no-never log x stays may t = go (x .running) refl
+  where
+    go : (b : Bool) → x .running ≡ b → ⊥
+    go true e = may-no-never log x (may (true-T (x .running) e)) t
+    go false e = T-not (overtaken log x) stays (and-intro (not (x .running)) (holdsNever log x) (true-T (not (x .running)) (ap not e)) t)
+
+or-none : (b : Bool) → b ≡ (b || false)
+or-none true = refl
+or-none false = refl
+
+late-refused : (r : Rule) (c u : ℕ) →
+    tooLate r c u ≡ (strong r && ordered r && leb u c || (not (strong r) && ltb u c || not (ordered r) && leb top c))
+late-refused Inc c u = or-none (leb u c)
+late-refused Set c u = or-none (leb u c)
+late-refused Not c u = or-none (ltb u c)
+late-refused Unk c u = refl
+
+-- 8, 9 and 17 of an add: an update is a never exactly if one of these tests meets it.
+pub never-refused : (st : State) (u : Update) → neverNow (st .log) u ≡ (alreadyDone st u || (readOvertaken st u || atHighest st u))
+unfolding neverNow alreadyDone readOvertaken atHighest
+never-refused st u =
+    let c = cell (u .history) (st .log) .version in
+    never-is (u .rule) c (u .version) ∙ late-refused (u .rule) c (u .version)
+
+-- So an add that passes 8, 9 and 17 brings no never in.
+pub added-no-never : (st : State) (us : List Update) → any (alreadyDone st) us ≡ false → any (readOvertaken st) us ≡ false →
+    any (atHighest st) us ≡ false → T (any (neverNow (st .log)) us) → ⊥
+added-no-never st us e8 e9 e17 t =
+    let q = any-at (neverNow (st .log)) us t in
+    let u = q .0 in
+    let rest = readOvertaken st u || atHighest st u in
+    eight u (q .1) (or-cases (alreadyDone st u) rest (subst T (never-refused st u) (q .2)))
+  where
+    nine : (u : Update) → Mem u us → T (readOvertaken st u) ⊎ T (atHighest st u) → ⊥
+    nine u m (inl p) = false-T (any (readOvertaken st) us) e9 (any-of (readOvertaken st) m p)
+    nine u m (inr p) = false-T (any (atHighest st) us) e17 (any-of (atHighest st) m p)
+
+    eight : (u : Update) → Mem u us → T (alreadyDone st u) ⊎ T (readOvertaken st u || atHighest st u) → ⊥
+    eight u m (inl p) = false-T (any (alreadyDone st) us) e8 (any-of (alreadyDone st) m p)
+    eight u m (inr p) = nine u m (or-cases (readOvertaken st u) (atHighest st u) p)
+
+-- ### Dropping before the tries
+
+any-keep : {A : Type 0} (p f : A → Bool) → ((x : A) → f x ≡ false → p x ≡ false) → (l : List A) → any p (keep f l) ≡ any p l
+any-keep p f off [] = refl
+any-keep {A} p f off (x ∷ l) = go (f x) refl (any-keep p f off l)
+  where
+    go : (b : Bool) → f x ≡ b → any p (keep f l) ≡ any p l → any p (cond b (x ∷ keep f l) (keep f l)) ≡ (p x || any p l)
+    go true e below = ap (λ (c : Bool). p x || c) below
+    go false e below = below ∙ sym (ap (λ (c : Bool). c || any p l) (off x e))
+
+module _ (log : List Did) where
+  -- an operation that is not dropped
+  abbrev stays : Operation → Bool
+  stays x = not (overtaken log x)
+
+  gone-future : (x : Operation) → stays x ≡ false → x .running ≡ false
+  unfolding overtaken
+  gone-future x e = go (x .running) (holdsNever log x) e
+    where
+      go : (r h : Bool) → not (not r && h) ≡ false → r ≡ false
+      go true h p = absurd (false-T true p tt)
+      go false h p = refl
+
+  -- a future operation blocks nobody
+  blocked-same : (others : List Operation) (u : Update) → blocked (keep stays others) u ≡ blocked others u
+  unfolding blocked blockedBy
+  blocked-same others u = any-keep (blockedBy u) stays (λ x e. idle (x .running) _ (gone-future x e)) others
+    where
+      idle : (r b : Bool) → r ≡ false → (r && b) ≡ false
+      idle true b e = absurd (false-T true e tt)
+      idle false b e = refl
+
+  ready-same : (others : List Operation) (x : Operation) → ready log (keep stays others) x ≡ ready log others x
+  unfolding ready
+  ready-same others x = λ i. all (λ (u : Update). mayRunNow log u && not (blocked-same others u i)) (x .updates)
+
+  attempt-same : (others : List Operation) (x : Operation) → attempt log (keep stays others) x ≡ attempt log others x
+  unfolding attempt
+  attempt-same others x = λ i. record { id = x .id; updates = x .updates; running = x .running || ready-same others x i }
+
+  -- a never is not ready: a try changes nothing of who is overtaken
+  overtaken-same : (others : List Operation) (x : Operation) → overtaken log (attempt log others x) ≡ overtaken log x
+  unfolding overtaken holdsNever attempt
+  overtaken-same others x =
+      go (x .running) (ready log others x) (any (neverNow log) (x .updates)) (λ q h. may-no-never log x (ready-may log others x q) h)
+    where
+      go : (r q h : Bool) → (T q → T h → ⊥) → (not (r || q) && h) ≡ (not r && h)
+      go true q h out = refl
+      go false true true out = absurd (out tt tt)
+      go false true false out = refl
+      go false false h out = refl
+
+  drop-from : (xs tried : List Operation) → keep stays (tryFrom log tried xs) ≡ tryFrom log (keep stays tried) (keep stays xs)
+  unfolding tryFrom
+  drop-from [] tried = refl
+  drop-from (x ∷ xs) tried = drop-from xs (tried ++ y ∷ []) ∙ go (stays x) refl
+    where
+      y : Operation
+      y = attempt log (tried ++ xs) x
+
+      same : y ≡ attempt log (keep stays tried ++ keep stays xs) x
+      same = sym (attempt-same (tried ++ xs) x) ∙ ap (λ (l : List Operation). attempt log l x) (keep-append stays tried xs)
+
+      tested : (b : Bool) → stays x ≡ b → keep stays (tried ++ y ∷ []) ≡ keep stays tried ++ cond b (y ∷ []) []
+      tested b e =
+          keep-append stays tried (y ∷ [])
+          ∙ ap (λ (c : Bool). keep stays tried ++ cond c (y ∷ []) []) (ap not (overtaken-same (tried ++ xs) x) ∙ e)
+
+      go : (b : Bool) → stays x ≡ b →
+          tryFrom log (keep stays (tried ++ y ∷ [])) (keep stays xs) ≡ tryFrom log (keep stays tried) (cond b (x ∷ keep stays xs) (keep stays xs))
+      go true e =
+          ap (λ (l : List Operation). tryFrom log l (keep stays xs))
+          (tested true e ∙ ap (λ (z : Operation). keep stays tried ++ z ∷ []) same)
+      go false e = ap (λ (l : List Operation). tryFrom log l (keep stays xs)) (tested false e ∙ append-nil (keep stays tried))
+
+  ids-from : (xs : List Operation) → overtakenIds log (tryAll log xs) ≡ overtakenIds log xs
+  unfolding overtakenIds attempt
+  ids-from xs = try-keeps (λ ys. names ys ≡ names xs) log (λ a x b e. one a x b ∙ e) xs [] refl
+    where
+      id : Operation → ℕ
+      id x = x .id
+
+      names : List Operation → List ℕ
+      names ys = map id (keep (overtaken log) ys)
+
+      split : (a : List Operation) (x : Operation) (b : List Operation) → names (a ++ x ∷ b) ≡ names a ++ cond (overtaken log x) (x .id ∷ names b) (names b)
+      split a x b = ap (map id) (keep-append (overtaken log) a (x ∷ b)) ∙ map-append id (keep (overtaken log) a) (keep (overtaken log) (x ∷ b)) ∙ go (overtaken log x)
+        where
+          go : (c : Bool) →
+              names a ++ map id (cond c (x ∷ keep (overtaken log) b) (keep (overtaken log) b)) ≡ names a ++ cond c (x .id ∷ names b) (names b)
+          go true = refl
+          go false = refl
+
+      one : (a : List Operation) (x : Operation) (b : List Operation) → names (a ++ attempt log (a ++ b) x ∷ b) ≡ names (a ++ x ∷ b)
+      one a x b =
+          split a (attempt log (a ++ b) x) b
+          ∙ ap (λ (c : Bool). names a ++ cond c (x .id ∷ names b) (names b)) (overtaken-same (a ++ b) x)
+          ∙ sym (split a x b)
+
+  -- The tries make of each operation one that is overtaken like it, and one that is overtaken stays future.
+  abbrev Tried : List Operation → List Operation → Type 0
+  Tried [] [] = Unit {0}
+  Tried [] (y ∷ ys) = ⊥
+  Tried (x ∷ xs) [] = ⊥
+  Tried (x ∷ xs) (y ∷ ys) = (stays y ≡ stays x) × Tried xs ys
+
+  tried-snoc : (xs ys : List Operation) (x y : Operation) → Tried xs ys → stays y ≡ stays x → Tried (xs ++ x ∷ []) (ys ++ y ∷ [])
+  tried-snoc [] [] x y t e = (e, tt)
+  tried-snoc [] (z ∷ ys) x y t e = absurd t
+  tried-snoc (z ∷ xs) [] x y t e = absurd t
+  tried-snoc (z ∷ xs) (w ∷ ys) x y t e = (t .0, tried-snoc xs ys x y (t .1) e)
+
+  try-tried : (xs before tried : List Operation) → Tried before tried → Tried (before ++ xs) (tryFrom log tried xs)
+  unfolding tryFrom
+  try-tried [] before tried t = subst (λ (l : List Operation). Tried l tried) (sym (append-nil before)) t
+  try-tried (x ∷ xs) before tried t =
+      subst (λ (l : List Operation). Tried l (tryFrom log (tried ++ attempt log (tried ++ xs) x ∷ []) xs)) (append-assoc before (x ∷ []) xs)
+      (try-tried xs (before ++ x ∷ []) (tried ++ attempt log (tried ++ xs) x ∷ [])
+      (tried-snoc before tried x (attempt log (tried ++ xs) x) t (ap not (overtaken-same (tried ++ xs) x))))
+
+  made-from : (xs ys : List Operation) → Tried xs ys → madeReady (keep stays xs) (keep stays ys) ≡ madeReady xs ys
+  unfolding madeReady
+  made-from [] [] t = refl
+  made-from [] (y ∷ ys) t = absurd t
+  made-from (x ∷ xs) [] t = absurd t
+  made-from (x ∷ xs) (y ∷ ys) t = go (stays x) (stays y) refl refl (t .0) (made-from xs ys (t .1))
+    where
+      go : (b c : Bool) → stays x ≡ b → stays y ≡ c → stays y ≡ stays x → madeReady (keep stays xs) (keep stays ys) ≡ madeReady xs ys →
+          madeReady (cond b (x ∷ keep stays xs) (keep stays xs)) (cond c (y ∷ keep stays ys) (keep stays ys))
+          ≡ cond (y .running && not (x .running)) (y .id ∷ madeReady xs ys) (madeReady xs ys)
+      go true true e f p below =
+          ap (λ (l : List ℕ). cond (y .running && not (x .running)) (y .id ∷ l) l) below
+      go true false e f p below = absurd (false-T true (sym e ∙ sym p ∙ f) tt)
+      go false true e f p below = absurd (false-T true (sym f ∙ p ∙ e) tt)
+      go false false e f p below =
+          below ∙ sym (ap (λ (r : Bool). cond (r && not (x .running)) (y .id ∷ madeReady xs ys) (madeReady xs ys)) (gone-future y f))
+
+-- Tries and then a drop, or a drop and then tries: the same.
+pub record Commute (log : List Did) (xs : List Operation) : Type 0 where
+  -- the operations that are left
+  pub left : notOvertaken log (tryAll log xs) ≡ tryAll log (notOvertaken log xs)
+  -- the ids made ready
+  pub ready : madeReady xs (tryAll log xs) ≡ madeReady (notOvertaken log xs) (tryAll log (notOvertaken log xs))
+  -- the ids overtaken
+  pub named : overtakenIds log (tryAll log xs) ≡ overtakenIds log xs
+
+-- Dropping before the tries comes to the same: a never is not ready, and a future operation blocks nobody.
+pub drop-before-tries : (log : List Did) (xs : List Operation) → Commute log xs
+unfolding notOvertaken
+drop-before-tries log xs =
+    record {
+      left = drop-from log xs [];
+      ready =
+          sym (made-from log xs (tryAll log xs) (try-tried log xs [] [] tt))
+          ∙ ap (madeReady (keep (stays log) xs)) (drop-from log xs []);
+      named = ids-from log xs;
+    }
