@@ -11,7 +11,7 @@ use lib.ListN.{length}
 use Rattle.forms.specs.ListLaws.{true-T}
 use Rattle.forms.specs.Refusals.{numberOf}
 use Rattle.forms.specs.declared.Refusal.{Refusal}
-use Rattle.forms.specs.declared.Refusal.the-variants.{Unreadable, WrongCount, NoSuchHistory, HistoryTwice, OperandRange, NothingOrders, IdPending, AlreadyDone, ReadOvertaken, TableFull, WrongState, NoRoom, AboveLimit, OutOfTurn, BadLog, WrongThreshold, NotSent, Conflict}
+use Rattle.forms.specs.declared.Refusal.the-variants.{Unreadable, WrongCount, NoSuchHistory, HistoryTwice, OperandRange, NothingOrders, IdPending, AlreadyDone, ReadOvertaken, TableFull, WrongState, NoRoom, AboveLimit, OutOfTurn, BadLog, HighestVersion, WrongThreshold, NotSent, Conflict}
 use Rattle.rules.specs.Checks.{check}
 use Rattle.rules.specs.State.{State, Reply, refused, ok}
 use Rattle.rules.specs.Calls.{restart}
@@ -51,6 +51,7 @@ tenth-is NoRoom e = absurd (true-T (isTen (refused NoRoom)) e)
 tenth-is AboveLimit e = absurd (true-T (isTen (refused AboveLimit)) e)
 tenth-is OutOfTurn e = absurd (true-T (isTen (refused OutOfTurn)) e)
 tenth-is BadLog e = absurd (true-T (isTen (refused BadLog)) e)
+tenth-is HighestVersion e = absurd (true-T (isTen (refused HighestVersion)) e)
 tenth-is WrongThreshold e = absurd (true-T (isTen (refused WrongThreshold)) e)
 tenth-is NotSent e = absurd (true-T (isTen (refused NotSent)) e)
 tenth-is Conflict e = absurd (true-T (isTen (refused Conflict)) e)

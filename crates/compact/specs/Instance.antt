@@ -20,7 +20,7 @@ use Rattle.rules.specs.Book.{touches, runsAt}
 use Rattle.rules.specs.Checks.{check, andThen, wrongCount, noSuchHistory, historyTwice, updateMisfits, formRefusal, updatesRefusal}
 use Rattle.rules.specs.Log.{ended, didsText, logText, linesFrom, restFrom, historiesFit}
 use Rattle.rules.specs.State.{State, ok, logBytes, versionAt, liveDone, live, asks, dry, becameDry, rose, lineBytes, settle}
-use Rattle.rules.specs.Calls.{Call, Add, Finish, Cut, Redo, End, unless, openFull, openRefusal, opened, openSite, blockedBy, blocked, mayRunNow, ready, attempt, tryFrom, madeReady, nothingOrders, idPending, idDone, alreadyDone, readOvertaken, tableFull, addRefusal, arrived, add, changeOf, lineOf, valuesAfter, inProgress, future, without, logFull, finished, finishFound, finish, restarted, restartAs, restart, cutAbove, cut, stale, redoRefusal, behind, pick, drain, delivered, redoRead, redo, writableUpdate, writable, perform, step}
+use Rattle.rules.specs.Calls.{Call, Add, Finish, Cut, Redo, End, unless, openFull, openRefusal, opened, openSite, blockedBy, blocked, mayRunNow, ready, attempt, tryFrom, madeReady, neverNow, holdsNever, overtaken, notOvertaken, overtakenIds, nothingOrders, idPending, idDone, alreadyDone, readOvertaken, atHighest, tableFull, addRefusal, arrived, add, changeOf, lineOf, valuesAfter, inProgress, future, without, logFull, finished, finishFound, finish, restarted, restartAs, restart, cutAbove, cut, stale, redoRefusal, behind, pick, drain, delivered, redoRead, redo, writableUpdate, writable, perform, step}
 use Rattle.rules.specs.When.{addWhen, redoReadWhen, redoWhen, lastly, cutWhen, performWhen, stepWhen}
 use Rattle.recovery.specs.Claim.{justOpened, countedAfter, lostBy, comesAfter}
 use Rattle.recovery.specs.Arrival.{every, SameWork}
@@ -75,7 +75,7 @@ record Computed : Type 0 where
   final : siteOr (slotAt 0 (runIn (inSlot 0) (xs ++ x ∷ ys) start) .site) .log ≡ one ∷ []
 
 computed : Computed
-unfolding replacedWith profileOf enteredWith enterWith enterAllWith cellFromWith cellWith touches runsAt canRunWith unless openFull openRefusal opened openSite blockedBy blocked mayRunNow ready attempt tryFrom madeReady nothingOrders idPending idDone alreadyDone readOvertaken tableFull addRefusal arrived add changeOf lineOf valuesAfter inProgress future without logFull finished finishFound finish restarted restartAs restart cutAbove cut stale redoRefusal behind pick drain delivered redoRead redo writableUpdate writable perform step check andThen wrongCount noSuchHistory historyTwice updateMisfits changeMisfitsWith formRefusal updatesRefusal changesRefusalWith ended didsText logText linesFrom restFrom historiesFit acceptsWith readLinesWith readFirstWith readLogWith logBytes versionAt liveDone live asks dry becameDry rose lineBytes settle below digitsWithin digits more number word fieldText fieldsText itemsText tailText listText changeText oneText siteText didText reading.field reading.doneRule reading.change reading.one reading.did reading.items reading.tail readWhole readDid readSite countedAfter comesAfter lostBy addWhen redoReadWhen redoWhen lastly cutWhen performWhen stepWhen runIn countedIn cameIn slotAt withSlot others liveOf lacks free taken uncovered meetsTen promisedAgain replyOf promiseOf nextOf
+unfolding replacedWith profileOf enteredWith enterWith enterAllWith cellFromWith cellWith touches runsAt canRunWith unless openFull openRefusal opened openSite blockedBy blocked mayRunNow ready attempt tryFrom madeReady neverNow holdsNever overtaken notOvertaken overtakenIds nothingOrders idPending idDone alreadyDone readOvertaken atHighest tableFull addRefusal arrived add changeOf lineOf valuesAfter inProgress future without logFull finished finishFound finish restarted restartAs restart cutAbove cut stale redoRefusal behind pick drain delivered redoRead redo writableUpdate writable perform step check andThen wrongCount noSuchHistory historyTwice updateMisfits changeMisfitsWith formRefusal updatesRefusal changesRefusalWith ended didsText logText linesFrom restFrom historiesFit acceptsWith readLinesWith readFirstWith readLogWith logBytes versionAt liveDone live asks dry becameDry rose lineBytes settle below digitsWithin digits more number word fieldText fieldsText itemsText tailText listText changeText oneText siteText didText reading.field reading.doneRule reading.change reading.one reading.did reading.items reading.tail readWhole readDid readSite countedAfter comesAfter lostBy addWhen redoReadWhen redoWhen lastly cutWhen performWhen stepWhen runIn countedIn cameIn slotAt withSlot others liveOf lacks free taken uncovered meetsTen promisedAgain replyOf promiseOf nextOf
 computed = record { opens = refl; isOpen = refl; counts = refl; cuts = refl; room = refl; lost = refl; came = refl; final = refl }
 
 two : (a : List Move) (y : Move) (b : List Move) → ys ≡ a ++ y ∷ b → (y ≡ p) ⊎ (y ≡ q)

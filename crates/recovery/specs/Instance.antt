@@ -19,7 +19,7 @@ use Rattle.rules.specs.Book.{Cell, cell, touches, runsAt}
 use Rattle.rules.specs.Checks.{check, andThen, wrongCount, noSuchHistory, historyTwice, updateMisfits, formRefusal, updatesRefusal}
 use Rattle.rules.specs.Log.{ended, didsText, logText, linesFrom, restFrom, historiesFit}
 use Rattle.rules.specs.State.{State, ok, withWaiting, withRestoring, logBytes, versionAt, liveDone, live, asks, dry, becameDry, rose, lineBytes, settle}
-use Rattle.rules.specs.Calls.{Call, Add, Finish, Persistent, Stable, Show, Cut, Redo, End, unless, openFull, openRefusal, opened, openSite, blockedBy, blocked, mayRunNow, ready, attempt, tryFrom, madeReady, nothingOrders, idPending, idDone, alreadyDone, readOvertaken, tableFull, addRefusal, arrived, add, changeOf, lineOf, valuesAfter, inProgress, future, without, logFull, finished, finishFound, finish, withdrawRefusal, withdraw, persistent, stable, show, restarted, restartAs, restart, cutAbove, cut, stale, redoRefusal, behind, pick, drain, delivered, redoRead, redo, end, writableUpdate, writable, perform, step}
+use Rattle.rules.specs.Calls.{Call, Add, Finish, Persistent, Stable, Show, Cut, Redo, End, unless, openFull, openRefusal, opened, openSite, blockedBy, blocked, mayRunNow, ready, attempt, tryFrom, madeReady, neverNow, holdsNever, overtaken, notOvertaken, overtakenIds, nothingOrders, idPending, idDone, alreadyDone, readOvertaken, atHighest, tableFull, addRefusal, arrived, add, changeOf, lineOf, valuesAfter, inProgress, future, without, logFull, finished, finishFound, finish, withdrawRefusal, withdraw, persistent, stable, show, restarted, restartAs, restart, cutAbove, cut, stale, redoRefusal, behind, pick, drain, delivered, redoRead, redo, end, writableUpdate, writable, perform, step}
 use Rattle.rules.specs.Good.{Good, didIds}
 use Rattle.rules.specs.Keeper.{sameBytes}
 use Rattle.rules.specs.Run.{run}
@@ -103,7 +103,7 @@ record ToCut : Type 0 where
   shown : step (Show 2) before ≡ ok before (Shown 2 3 1 1 3 11269)
 
 to-cut : ToCut
-unfolding replacedWith profileOf run enteredWith enterWith enterAllWith cellFromWith cellWith touches runsAt canRunWith unless openFull openRefusal opened openSite blockedBy blocked mayRunNow ready attempt tryFrom madeReady nothingOrders idPending idDone alreadyDone readOvertaken tableFull addRefusal arrived add changeOf lineOf valuesAfter inProgress future without logFull finished finishFound finish withdrawRefusal withdraw persistent stable show restarted restartAs restart cutAbove cut stale redoRefusal behind pick drain delivered redoRead redo end writableUpdate writable perform step check andThen wrongCount noSuchHistory historyTwice updateMisfits changeMisfitsWith formRefusal updatesRefusal changesRefusalWith ended didsText logText linesFrom restFrom historiesFit acceptsWith readLinesWith readFirstWith readLogWith logBytes versionAt liveDone live asks dry becameDry rose lineBytes settle below digitsWithin digits more number word fieldText fieldsText itemsText tailText listText changeText oneText siteText didText reading.field reading.doneRule reading.change reading.one reading.did reading.items reading.tail readWhole readDid readSite counted countedAfter lostBy
+unfolding replacedWith profileOf run enteredWith enterWith enterAllWith cellFromWith cellWith touches runsAt canRunWith unless openFull openRefusal opened openSite blockedBy blocked mayRunNow ready attempt tryFrom madeReady neverNow holdsNever overtaken notOvertaken overtakenIds nothingOrders idPending idDone alreadyDone readOvertaken atHighest tableFull addRefusal arrived add changeOf lineOf valuesAfter inProgress future without logFull finished finishFound finish withdrawRefusal withdraw persistent stable show restarted restartAs restart cutAbove cut stale redoRefusal behind pick drain delivered redoRead redo end writableUpdate writable perform step check andThen wrongCount noSuchHistory historyTwice updateMisfits changeMisfitsWith formRefusal updatesRefusal changesRefusalWith ended didsText logText linesFrom restFrom historiesFit acceptsWith readLinesWith readFirstWith readLogWith logBytes versionAt liveDone live asks dry becameDry rose lineBytes settle below digitsWithin digits more number word fieldText fieldsText itemsText tailText listText changeText oneText siteText didText reading.field reading.doneRule reading.change reading.one reading.did reading.items reading.tail readWhole readDid readSite counted countedAfter lostBy
 to-cut = record { opens = refl; cuts = refl; keeps = refl; wide = refl; histories = refl; kept = refl; lost-is = refl; shown = refl }
 
 started : Start 0 start
@@ -189,7 +189,7 @@ ran-some = bytes "(did 10 (inc 0 1 1 513))\n(did 11 (not 0 1 2 0)(inc 1 1 1 7))\
 
 -- `end` would name 15 and then 14, as they first came after the last cut.
 computed-some : Computed but13 some ran-some (15 ∷ 14 ∷ []) 0 (Shown 0 9 1 1 3 1000)
-unfolding replacedWith profileOf run enteredWith enterWith enterAllWith cellFromWith cellWith touches runsAt canRunWith unless openFull openRefusal opened openSite blockedBy blocked mayRunNow ready attempt tryFrom madeReady nothingOrders idPending idDone alreadyDone readOvertaken tableFull addRefusal arrived add changeOf lineOf valuesAfter inProgress future without logFull finished finishFound finish withdrawRefusal withdraw persistent stable show restarted restartAs restart cutAbove cut stale redoRefusal behind pick drain delivered redoRead redo end writableUpdate writable perform step check andThen wrongCount noSuchHistory historyTwice updateMisfits changeMisfitsWith formRefusal updatesRefusal changesRefusalWith ended didsText logText linesFrom restFrom historiesFit acceptsWith readLinesWith readFirstWith readLogWith logBytes versionAt liveDone live asks dry becameDry rose lineBytes settle below digitsWithin digits more number word fieldText fieldsText itemsText tailText listText changeText oneText siteText didText reading.field reading.doneRule reading.change reading.one reading.did reading.items reading.tail readWhole readDid readSite counted countedAfter comesAfter cameFrom allFine bringsChosen allCome sameBytes
+unfolding replacedWith profileOf run enteredWith enterWith enterAllWith cellFromWith cellWith touches runsAt canRunWith unless openFull openRefusal opened openSite blockedBy blocked mayRunNow ready attempt tryFrom madeReady neverNow holdsNever overtaken notOvertaken overtakenIds nothingOrders idPending idDone alreadyDone readOvertaken atHighest tableFull addRefusal arrived add changeOf lineOf valuesAfter inProgress future without logFull finished finishFound finish withdrawRefusal withdraw persistent stable show restarted restartAs restart cutAbove cut stale redoRefusal behind pick drain delivered redoRead redo end writableUpdate writable perform step check andThen wrongCount noSuchHistory historyTwice updateMisfits changeMisfitsWith formRefusal updatesRefusal changesRefusalWith ended didsText logText linesFrom restFrom historiesFit acceptsWith readLinesWith readFirstWith readLogWith logBytes versionAt liveDone live asks dry becameDry rose lineBytes settle below digitsWithin digits more number word fieldText fieldsText itemsText tailText listText changeText oneText siteText didText reading.field reading.doneRule reading.change reading.one reading.did reading.items reading.tail readWhole readDid readSite counted countedAfter comesAfter cameFrom allFine bringsChosen allCome sameBytes
 computed-some = record { fine = tt; come = tt; log = refl; ends = refl; shows = refl }
 
 -- (1) Line 15 is traced back to 14 and that to 13, which is not chosen: by the claim it has not run.
@@ -229,7 +229,7 @@ ran-all =
 
 -- The lines stand in another order than in the first log, and `show` of history 2 gives what it gave before the picked cut.
 computed-all : Computed every reversed ran-all [] 2 (Shown 2 3 1 1 3 11269)
-unfolding replacedWith profileOf run enteredWith enterWith enterAllWith cellFromWith cellWith touches runsAt canRunWith unless openFull openRefusal opened openSite blockedBy blocked mayRunNow ready attempt tryFrom madeReady nothingOrders idPending idDone alreadyDone readOvertaken tableFull addRefusal arrived add changeOf lineOf valuesAfter inProgress future without logFull finished finishFound finish withdrawRefusal withdraw persistent stable show restarted restartAs restart cutAbove cut stale redoRefusal behind pick drain delivered redoRead redo end writableUpdate writable perform step check andThen wrongCount noSuchHistory historyTwice updateMisfits changeMisfitsWith formRefusal updatesRefusal changesRefusalWith ended didsText logText linesFrom restFrom historiesFit acceptsWith readLinesWith readFirstWith readLogWith logBytes versionAt liveDone live asks dry becameDry rose lineBytes settle below digitsWithin digits more number word fieldText fieldsText itemsText tailText listText changeText oneText siteText didText reading.field reading.doneRule reading.change reading.one reading.did reading.items reading.tail readWhole readDid readSite counted countedAfter comesAfter cameFrom allFine bringsChosen allCome sameBytes
+unfolding replacedWith profileOf run enteredWith enterWith enterAllWith cellFromWith cellWith touches runsAt canRunWith unless openFull openRefusal opened openSite blockedBy blocked mayRunNow ready attempt tryFrom madeReady neverNow holdsNever overtaken notOvertaken overtakenIds nothingOrders idPending idDone alreadyDone readOvertaken atHighest tableFull addRefusal arrived add changeOf lineOf valuesAfter inProgress future without logFull finished finishFound finish withdrawRefusal withdraw persistent stable show restarted restartAs restart cutAbove cut stale redoRefusal behind pick drain delivered redoRead redo end writableUpdate writable perform step check andThen wrongCount noSuchHistory historyTwice updateMisfits changeMisfitsWith formRefusal updatesRefusal changesRefusalWith ended didsText logText linesFrom restFrom historiesFit acceptsWith readLinesWith readFirstWith readLogWith logBytes versionAt liveDone live asks dry becameDry rose lineBytes settle below digitsWithin digits more number word fieldText fieldsText itemsText tailText listText changeText oneText siteText didText reading.field reading.doneRule reading.change reading.one reading.did reading.items reading.tail readWhole readDid readSite counted countedAfter comesAfter cameFrom allFine bringsChosen allCome sameBytes
 computed-all = record { fine = tt; come = tt; log = refl; ends = refl; shows = refl }
 
 -- (5) So the claim says of each history.

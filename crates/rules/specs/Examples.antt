@@ -1,24 +1,30 @@
 -- The session of "A session, whole" and the cases P1 to P10 of "At the edges", computed from the definitions.
 use mathlib.Core.Path.{_≡_, refl, ap₂}
-use mathlib.Core.Bool.{Bool, not, _&&_}
+use mathlib.Core.Bool.{Bool, true, false, not, _&&_}
 use mathlib.Core.List.{List, [], _∷_, _++_}
 use mathlib.Core.List.{List·Memᴰ as Mem, List·Memᴰ·head as here, List·Memᴰ·tail as there, Memᴰ·append-left, Memᴰ·append-right}
-use Prim.Native.Nat.{ℕ}
+use mathlib.Core.Option.{none, some}
+use Prim.Native.Nat.{ℕ, zero, suc, _+_}
 use Prim.Native.String.{String}
 use lib.Dec.{T, eqb, eqb→eq}
 use Rattle.forms.specs.Lists.{all, below}
 use Rattle.forms.specs.ListLaws.{and-left, and-right, all-at}
 use Rattle.forms.specs.Words.{bytes, word}
-use Rattle.forms.specs.Decimal.{digitsWithin, digits, more, number}
+use Rattle.forms.specs.Decimal.{top, digitsWithin, digits, more, number}
 use Rattle.forms.specs.Refusals.{numberOf}
+use Rattle.forms.specs.Forms.{Update, Did}
 use Rattle.forms.specs.Forms.{fieldText, fieldsText, itemsText, tailText, listText, updateText, changeText, oneText, siteText, didText, redoText}
 use Rattle.forms.specs.Forms.{numbersText, answerText, outcomeText}
 use Rattle.forms.specs.Reading as reading
 use Rattle.forms.specs.Reading.{readDid, readSite, readCommand, readWhole}
+use Rattle.forms.specs.Limits.{logLimit}
+use Rattle.forms.specs.declared.Rule.the-variants.{Inc, Set, Unk}
+use Rattle.forms.specs.declared.DoneRule.the-variants.{DidSet}
+use Rattle.forms.specs.declared.Refusal.the-variants.{HighestVersion, TableFull}
 use Rattle.rules.specs.Book.{touches, runsAt}
 use Rattle.rules.specs.Checks.{check, andThen, wrongCount, noSuchHistory, historyTwice, updateMisfits, formRefusal, updatesRefusal}
 use Rattle.rules.specs.Log.{ended, didsText, logText, linesFrom, restFrom, historiesFit}
-use Rattle.rules.specs.State.{logBytes, versionAt, liveDone, live, asks, dry, becameDry, rose, lineBytes}
+use Rattle.rules.specs.State.{Operation, State, logBytes, versionAt, liveDone, live, asks, dry, becameDry, rose, lineBytes}
 use Rattle.rules.specs.Calls.{unless, openFull, openRefusal, opened, openSite, blockedBy, blocked, mayRunNow, ready, attempt, tryFrom, madeReady, neverNow, holdsNever, overtaken, notOvertaken, overtakenIds}
 use Rattle.rules.specs.Calls.{nothingOrders, idPending, idDone, alreadyDone, readOvertaken, atHighest, tableFull, addRefusal, arrived, add, changeOf, lineOf}
 use Rattle.rules.specs.Calls.{valuesAfter, inProgress, future, without, logFull, finished, finishFound, finish, withdrawRefusal, withdraw, persistent}
@@ -66,7 +72,9 @@ at0 calls answers = row (bytes "(site 1)\n" ++ calls) (bytes "(ok)\n" ++ answers
 -- A site of one history at C = 4, with profile 65536, and more calls.
 abbrev at4 : List ℕ → List ℕ → Row
 at4 calls answers =
-    row (bytes "(site 1)\n(add 1 (set 0 4 65536))\n(finish 1)\n" ++ calls) (bytes "(ok)\n(ok (ready 1))\n(ok 1 (values 65536)(ready)(overtaken))\n" ++ answers)
+    row
+    (bytes "(site 1)\n(add 1 (set 0 4 65536))\n(finish 1)\n" ++ calls)
+    (bytes "(ok)\n(ok (ready 1))\n(ok 1 (values 65536)(ready)(overtaken))\n" ++ answers)
 
 -- "At the edges": P1 to P10.
 abbrev pub edges : List Row
@@ -145,7 +153,8 @@ abbrev pub overtakes : List Row
 overtakes =
     -- set with U < C and U = C is never, with U = C + 1 now; "Withdrawing such an operation then meets 11", and its id is free at once
     under4
-    (bytes "(add 2 (set 0 3 0))\n(add 3 (set 0 4 0))\n(add 4 (set 0 5 8))\n(finish 1)\n(withdraw 3)\n(finish 3)\n(add 3 (set 0 6 9))\n(finish 4)\n")
+    (bytes "(add 2 (set 0 3 0))\n(add 3 (set 0 4 0))\n(add 4 (set 0 5 8))\n(finish 1)\n"
+    ++ bytes "(withdraw 3)\n(finish 3)\n(add 3 (set 0 6 9))\n(finish 4)\n")
     (bytes "(ok (ready))\n(ok (ready))\n(ok (ready))\n(ok 1 (values 7)(ready 4)(overtaken 2 3))\n"
     ++ bytes "(refused 11)\n(refused 11)\n(ok (ready))\n(ok 2 (values 8)(ready 3)(overtaken))\n")
     -- inc with U < C and U = C is never, with U = C + 1 now, with U = C + 2 later
@@ -172,7 +181,8 @@ overtakes =
     ∷ nearTop "18446744073709551615" "(inc 1 1 0)(not 0 18446744073709551615 0)" "(ok (ready 2))"
     -- "oldest arrival first", whatever the ids; one never among updates that may run or still could
     ∷ under4
-    (bytes "(add 9 (set 0 4 0))\n(add 3 (inc 1 1 0)(not 0 2 0))\n(add 5 (inc 1 2 0))\n(add 4 (inc 1 7 0)(inc 0 4 0))\n(finish 1)\n(withdraw 5)\n")
+    (bytes "(add 9 (set 0 4 0))\n(add 3 (inc 1 1 0)(not 0 2 0))\n(add 5 (inc 1 2 0))\n(add 4 (inc 1 7 0)(inc 0 4 0))\n"
+    ++ bytes "(finish 1)\n(withdraw 5)\n")
     (bytes "(ok (ready))\n(ok (ready))\n(ok (ready))\n(ok (ready))\n(ok 1 (values 7)(ready)(overtaken 9 3 4))\n(ok (dry 1))\n")
     -- "one that a drop made dry is named by no call": history 1, which only 2 asked for. History 0 has a volatile update yet
     ∷ under4
@@ -231,8 +241,10 @@ computed =
     unfold formRefusal updatesRefusal changesRefusalWith in
     unfold ended didsText logText linesFrom restFrom historiesFit acceptsWith readLinesWith readFirstWith readLogWith in
     unfold logBytes versionAt liveDone live asks dry becameDry rose lineBytes in
-    unfold unless openFull openRefusal opened openSite blockedBy blocked mayRunNow ready attempt tryFrom madeReady neverNow holdsNever overtaken notOvertaken overtakenIds nothingOrders idPending idDone in
-    unfold alreadyDone readOvertaken atHighest tableFull addRefusal arrived add changeOf lineOf valuesAfter inProgress future without logFull finished in
+    unfold unless openFull openRefusal opened openSite blockedBy blocked mayRunNow ready attempt tryFrom madeReady in
+    unfold neverNow holdsNever overtaken notOvertaken overtakenIds nothingOrders idPending idDone in
+    unfold alreadyDone readOvertaken atHighest tableFull addRefusal arrived add changeOf lineOf valuesAfter inProgress future in
+    unfold without logFull finished in
     unfold finishFound finish withdrawRefusal withdraw persistent stable show restarted restartAs restart cutAbove cut stale redoRefusal behind pick in
     unfold drain delivered redoRead redo end writableUpdate writable perform step in
     unfold turnOf opening calling obey onCommand turn replies restReply sessionIn session in
@@ -260,3 +272,57 @@ overtakes-hold r m = row-holds r (there (Memᴰ·append-right edges (Memᴰ·app
 -- "a refused finish drops nothing", on a log of 30 bytes
 pub full-log-holds : sessionIn 30 (fullLog .input) ≡ fullLog .replies
 full-log-holds = same-bytes (sessionIn 30 (fullLog .input)) (fullLog .replies) (and-right (all holds rows) _ computed)
+
+-- ### What no short session shows
+
+-- (set 0 2^64 − 1 ..), done in history 0
+abbrev topLine : Did
+topLine = record { id = 1; changes = record { rule = DidSet; history = 0; version = top; place = 1; operand = 7 } ∷ [] }
+
+-- so many future operations, each for a version of history 1 that is still to come
+unfoldable futures : ℕ → List Operation
+futures zero = []
+futures (suc n) =
+    record { id = n + 2; updates = record { rule = Inc; history = 1; version = 9; operand = 0 } ∷ []; running = false } ∷ futures n
+
+-- a site of two histories with that line and so many future operations
+abbrev having : ℕ → State
+having n =
+    record {
+      histories = 2;
+      room = logLimit;
+      log = topLine ∷ [];
+      pending = futures n;
+      waiting = [];
+      persistentTo = 0;
+      stableTo = 0;
+      restoring = false;
+    }
+
+-- an inc in history 1, and the same with an unk in history 0
+abbrev anInc : Update
+anInc = record { rule = Inc; history = 1; version = 1; operand = 0 }
+
+abbrev anUnk : Update
+anUnk = record { rule = Unk; history = 0; version = 0; operand = 0 }
+
+-- an operation in history 0 with this version of a set
+abbrev setting : ℕ → Bool → Operation
+setting u running = record { id = u; updates = record { rule = Set; history = 0; version = u; operand = 0 } ∷ []; running = running }
+
+-- What the tests say of such states and operations.
+record OnEdge : Type 0 where
+  -- "17 .., after 9" and so before 10: with 64 live an unk at the highest version is refused 17, and an add without it 10
+  highestFirst : addRefusal 100 (anInc ∷ anUnk ∷ []) (having 63) ≡ some HighestVersion
+  full : addRefusal 100 (anInc ∷ []) (having 63) ≡ some TableFull
+  lastFree : addRefusal 100 (anInc ∷ []) (having 62) ≡ none
+  -- only a future operation is overtaken, and only by its version
+  inProgress : overtaken (topLine ∷ []) (setting top true) ≡ false
+  future : overtaken (topLine ∷ []) (setting top false) ≡ true
+
+on-edge : OnEdge
+on-edge =
+    unfold addRefusal futures check andThen updatesRefusal formRefusal wrongCount noSuchHistory historyTwice updateMisfits in
+    unfold nothingOrders idPending idDone liveDone live alreadyDone readOvertaken atHighest tableFull in
+    unfold overtaken holdsNever neverNow cellWith cellFromWith enterAllWith enterWith enteredWith in
+    record { highestFirst = refl; full = refl; lastFree = refl; inProgress = refl; future = refl }

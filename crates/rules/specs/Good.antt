@@ -41,6 +41,10 @@ didIds ds = map (λ (d : Did). d .id) ds
 abbrev pub operationIds : List Operation → List ℕ
 operationIds xs = map (λ (x : Operation). x .id) xs
 
+-- No operation, future or in progress, holds a never.
+abbrev pub NoNever : State → Type 0
+NoNever st = (x : Operation) → Mem x (st .pending) → T (holdsNever (st .log) x) → ⊥
+
 pub record Good (st : State) : Type 0 where
   pub histories : T (historiesFit (st .histories))
   -- the log is one that restart accepts
@@ -63,8 +67,8 @@ pub record Good (st : State) : Type 0 where
   pub pendingFormed : (x : Operation) → Mem x (st .pending) → FormedOperation (st .histories) x
   -- an operation in progress may still run
   pub running : (x : Operation) → Mem x (st .pending) → T (x .running) → T (all (mayRunNow (st .log)) (x .updates))
-  -- no operation, future or in progress, holds a never: a finish drops those that do, and no add brings one in
-  pub noNever : (x : Operation) → Mem x (st .pending) → T (holdsNever (st .log) x) → ⊥
+  -- a finish drops those that do, and no add brings one in
+  pub noNever : NoNever st
   -- two operations in progress never conflict
   pub apart : (a : List Operation) (x : Operation) (b : List Operation) → st .pending ≡ a ++ x ∷ b → T (x .running) →
       (u : Update) → Mem u (x .updates) → T (blocked (a ++ b) u) → ⊥

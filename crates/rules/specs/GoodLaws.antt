@@ -13,9 +13,9 @@ use Rattle.forms.specs.ListLaws.{true-T, and-left, and-right}
 use Rattle.forms.specs.Forms.{Did, Answer}
 use Rattle.forms.specs.declared.Refusal.the-variants.{Unreadable, NoSuchHistory, AboveLimit}
 use Rattle.rules.specs.State.{State, Reply, refused, ok, logBytes, liveDone, live, withMarks, settle}
-use Rattle.rules.specs.Calls.{persistent, stable, show, Call, Add, Finish, Withdraw, Persistent, Stable, Show, Cut, Redo, End, writableUpdate}
+use Rattle.rules.specs.Calls.{openSite, restart, persistent, stable, show, Call, Add, Finish, Withdraw, Persistent, Stable, Show, Cut, Redo, End, writableUpdate}
 use Rattle.rules.specs.Calls.{writable, perform, step}
-use Rattle.rules.specs.Good.{Good, didIds, operationIds}
+use Rattle.rules.specs.Good.{Good, NoNever, didIds, operationIds}
 use Rattle.rules.specs.CheckLaws.{unless-check, not-lt, not-false}
 use Rattle.rules.specs.IdLaws.{ids-later}
 use Rattle.rules.specs.WorkLaws.{good-ok, good-add, good-finish, good-withdraw}
@@ -102,3 +102,12 @@ pub good-run : (cs : List Call) (st : State) → Good st → Good (run cs st)
 unfolding run
 good-run [] st G = G
 good-run (c ∷ cs) st G = good-run cs (settle (step c st) st) (good-step c st G)
+
+-- 02 (b), in every state that calls reach: a future operation holds no never, and neither does one in progress. From a site just opened ..
+pub opened-no-never : (n room : ℕ) (st : State) (a : Answer) → openSite n room ≡ ok st a → (cs : List Call) → NoNever (run cs st)
+opened-no-never n room st a e cs = good-run cs st (good-open n room st a e) .noNever
+
+-- .. and from one restarted from any log that restart accepts.
+pub restarted-no-never : (buffer : List ℕ) (k : ℕ) (st : State) (a : Answer) → restart buffer k ≡ ok st a →
+    (cs : List Call) → NoNever (run cs st)
+restarted-no-never buffer k st a e cs = good-run cs st (good-restart buffer k st a e) .noNever

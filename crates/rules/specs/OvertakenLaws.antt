@@ -8,7 +8,7 @@ use Prim.Native.Nat.{ℕ}
 use lib.Dec.{T, T-not, leb, ltb}
 use Rattle.forms.specs.Decimal.{top}
 use Rattle.forms.specs.Lists.{all, any, keep}
-use Rattle.forms.specs.ListLaws.{true-T, false-T, and-intro, all-at, any-at, any-of, or-cases, keep-append}
+use Rattle.forms.specs.ListLaws.{T-false, true-T, false-T, and-intro, and-left, all-at, any-at, any-of, or-cases, keep-append}
 use Rattle.forms.specs.Forms.{Update, Did}
 use Rattle.forms.specs.declared.Rule.{Rule}
 use Rattle.forms.specs.declared.Rule.the-variants.{Inc, Set, Not, Unk}
@@ -17,10 +17,16 @@ use Rattle.rules.specs.Book.{cell}
 use Rattle.rules.specs.State.{Operation, State}
 use Rattle.rules.specs.Calls.{blockedBy, blocked, mayRunNow, ready, attempt, tryFrom, tryAll, madeReady, neverNow, holdsNever, overtaken, notOvertaken, overtakenIds}
 use Rattle.rules.specs.Calls.{alreadyDone, readOvertaken, atHighest}
+use Rattle.rules.specs.CheckLaws.{not-false}
 use Rattle.rules.specs.TimingLaws.{run-not-never, tooLate, never-is}
 use Rattle.rules.specs.PendingLaws.{MayRun, ready-may, try-keeps}
 
 -- ### Who holds a never
+
+-- Only a future operation is overtaken.
+pub overtaken-future : (log : List Did) (x : Operation) → T (overtaken log x) → T (not (x .running))
+unfolding overtaken
+overtaken-future log x t = and-left (not (x .running)) (holdsNever log x) t
 
 -- An operation whose updates may run holds none.
 pub may-no-never : (log : List Did) (x : Operation) → MayRun log x → T (holdsNever log x) → ⊥
@@ -31,7 +37,8 @@ may-no-never log x may t =
     run-not-never (u .rule) (cell (u .history) log .version) (u .version) (all-at (mayRunNow log) (x .updates) may u (q .1)) (q .2)
 
 -- One that stays holds none: it is in progress, or was seen to hold none.
-pub stay-no-never : (log : List Did) (x : Operation) → T (not (overtaken log x)) → (T (x .running) → MayRun log x) → T (holdsNever log x) → ⊥
+pub stay-no-never : (log : List Did) (x : Operation) → T (not (overtaken log x)) → (T (x .running) → MayRun log x) →
+    T (holdsNever log x) → ⊥
 unfolding overtaken
 stay-no-never log x stays may t = go (x .running) refl
   where
@@ -90,12 +97,8 @@ module _ (log : List Did) where
   stays x = not (overtaken log x)
 
   gone-future : (x : Operation) → stays x ≡ false → x .running ≡ false
-  unfolding overtaken
-  gone-future x e = go (x .running) (holdsNever log x) e
-    where
-      go : (r h : Bool) → not (not r && h) ≡ false → r ≡ false
-      go true h p = absurd (false-T true p tt)
-      go false h p = refl
+  gone-future x e =
+      T-false (x .running) (T-not (x .running) (overtaken-future log x (true-T (overtaken log x) (not-false (overtaken log x) e))))
 
   -- a future operation blocks nobody
   blocked-same : (others : List Operation) (u : Update) → blocked (keep stays others) u ≡ blocked others u
@@ -143,7 +146,8 @@ module _ (log : List Did) where
           ∙ ap (λ (c : Bool). keep stays tried ++ cond c (y ∷ []) []) (ap not (overtaken-same (tried ++ xs) x) ∙ e)
 
       go : (b : Bool) → stays x ≡ b →
-          tryFrom log (keep stays (tried ++ y ∷ [])) (keep stays xs) ≡ tryFrom log (keep stays tried) (cond b (x ∷ keep stays xs) (keep stays xs))
+          tryFrom log (keep stays (tried ++ y ∷ [])) (keep stays xs)
+          ≡ tryFrom log (keep stays tried) (cond b (x ∷ keep stays xs) (keep stays xs))
       go true e =
           ap (λ (l : List Operation). tryFrom log l (keep stays xs))
           (tested true e ∙ ap (λ (z : Operation). keep stays tried ++ z ∷ []) same)
@@ -159,11 +163,16 @@ module _ (log : List Did) where
       names : List Operation → List ℕ
       names ys = map id (keep (overtaken log) ys)
 
-      split : (a : List Operation) (x : Operation) (b : List Operation) → names (a ++ x ∷ b) ≡ names a ++ cond (overtaken log x) (x .id ∷ names b) (names b)
-      split a x b = ap (map id) (keep-append (overtaken log) a (x ∷ b)) ∙ map-append id (keep (overtaken log) a) (keep (overtaken log) (x ∷ b)) ∙ go (overtaken log x)
+      split : (a : List Operation) (x : Operation) (b : List Operation) →
+          names (a ++ x ∷ b) ≡ names a ++ cond (overtaken log x) (x .id ∷ names b) (names b)
+      split a x b =
+          ap (map id) (keep-append (overtaken log) a (x ∷ b))
+          ∙ map-append id (keep (overtaken log) a) (keep (overtaken log) (x ∷ b))
+          ∙ go (overtaken log x)
         where
           go : (c : Bool) →
-              names a ++ map id (cond c (x ∷ keep (overtaken log) b) (keep (overtaken log) b)) ≡ names a ++ cond c (x .id ∷ names b) (names b)
+              names a ++ map id (cond c (x ∷ keep (overtaken log) b) (keep (overtaken log) b))
+              ≡ names a ++ cond c (x .id ∷ names b) (names b)
           go true = refl
           go false = refl
 

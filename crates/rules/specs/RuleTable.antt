@@ -287,7 +287,8 @@ computed =
     unfold formRefusal updatesRefusal changesRefusalWith in
     unfold ended didsText logText linesFrom restFrom historiesFit acceptsWith readLinesWith readFirstWith readLogWith in
     unfold logBytes versionAt liveDone live asks dry becameDry rose lineBytes in
-    unfold unless blockedBy blocked mayRunNow ready attempt tryFrom madeReady neverNow holdsNever overtaken notOvertaken overtakenIds nothingOrders idPending idDone in
+    unfold unless blockedBy blocked mayRunNow ready attempt tryFrom madeReady in
+    unfold neverNow holdsNever overtaken notOvertaken overtakenIds nothingOrders idPending idDone in
     unfold alreadyDone readOvertaken atHighest tableFull addRefusal arrived add changeOf lineOf valuesAfter inProgress future without in
     unfold logFull finished finishFound finish show restarted restartAs restart stale redoRefusal behind pick in
     unfold drain delivered redoRead redo end writableUpdate writable perform step in

@@ -91,21 +91,23 @@ late-never : (r : Rule) (c u : ℕ) → T (tooLate r c u) → T (isNever (timing
 late-never Inc c u t =
     let le = leb→le u c t in
     never-of (eqb u (c + 1)) (ltb (c + 1) u) (λ e. omega (arith, eqb→eq u (c + 1) e)) (λ e. omega (arith, ltb→lt (c + 1) u e))
-late-never Set c u t = let le = leb→le u c t in never-of (ltb c u) false (λ e. omega (arith, ltb→lt c u e)) (λ e. e)
+late-never Set c u t = let le = leb→le u c t in never-of (mayRun Set c u) (mayLater Set c u) (λ e. omega (arith, ltb→lt c u e)) (λ e. e)
 late-never Not c u t =
     let lt = ltb→lt u c t in
     never-of (eqb u c) (ltb c u) (λ e. omega (arith, eqb→eq u c e)) (λ e. omega (arith, ltb→lt c u e))
-late-never Unk c u t = let le = leb→le top c t in never-of (ltb c top) false (λ e. omega (arith, ltb→lt c top e)) (λ e. e)
+late-never Unk c u t =
+    let le = leb→le top c t in
+    never-of (mayRun Unk c u) (mayLater Unk c u) (λ e. omega (arith, ltb→lt c top e)) (λ e. e)
 
 never-late : (r : Rule) (c u : ℕ) → T (isNever (timing r c u)) → T (tooLate r c u)
 never-late Inc c u t =
     let q = never-at (eqb u (c + 1)) (ltb (c + 1) u) t in
     le→leb u c (omega (arith, not-less (c + 1) u (q .1), not-same u (c + 1) (q .0)))
-never-late Set c u t = le→leb u c (not-less c u (never-at (ltb c u) false t .0))
+never-late Set c u t = le→leb u c (not-less c u (never-at (mayRun Set c u) (mayLater Set c u) t .0))
 never-late Not c u t =
     let q = never-at (eqb u c) (ltb c u) t in
     lt→ltb u c (omega (arith, not-less c u (q .1), not-same u c (q .0)))
-never-late Unk c u t = le→leb top c (not-less c top (never-at (ltb c top) false t .0))
+never-late Unk c u t = le→leb top c (not-less c top (never-at (mayRun Unk c u) (mayLater Unk c u) t .0))
 
 -- The test of "never", rule by rule.
 pub never-is : (r : Rule) (c u : ℕ) → isNever (timing r c u) ≡ tooLate r c u

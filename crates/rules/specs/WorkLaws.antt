@@ -127,7 +127,8 @@ good-add i us st st′ a G le w e =
     good-ok _ st′ _ a (q .1)
     (good-tried (withPending (arrived i us st) st)
     (add-good i us st G (q14 .0) F (q7 .0) (or-false-left (idDone i st) (any (alreadyDone st) us) (q8 .0))
-    (added-no-never st us (or-false-right (idDone i st) (any (alreadyDone st) us) (q8 .0)) (q9 .0) (q17 .0)) (not-le liveLimit (live st) (q10 .0)))
+    (added-no-never st us (or-false-right (idDone i st) (any (alreadyDone st) us) (q8 .0)) (q9 .0) (q17 .0))
+    (not-le liveLimit (live st) (q10 .0)))
     (q14 .0))
 
 -- ### Withdraw
