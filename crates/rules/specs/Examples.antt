@@ -1,4 +1,4 @@
--- The session of "A session, whole" and the cases P1 to P10 of "At the edges", computed from the definitions.
+-- The session of "A session, whole", the cases P1 to P10 of "At the edges" and those of 02 (b) and (l), computed from the definitions.
 use mathlib.Core.Path.{_≡_, refl, ap₂}
 use mathlib.Core.Bool.{Bool, true, false, not, _&&_}
 use mathlib.Core.List.{List, [], _∷_, _++_}

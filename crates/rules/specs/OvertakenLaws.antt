@@ -182,7 +182,7 @@ module _ (log : List Did) where
           ∙ ap (λ (c : Bool). names a ++ cond c (x .id ∷ names b) (names b)) (overtaken-same (a ++ b) x)
           ∙ sym (split a x b)
 
-  -- The tries make of each operation one that is overtaken like it, and one that is overtaken stays future.
+  -- Two lists of one length, whose operations are overtaken alike: before and after the tries.
   abbrev Tried : List Operation → List Operation → Type 0
   Tried [] [] = Unit {0}
   Tried [] (y ∷ ys) = ⊥
