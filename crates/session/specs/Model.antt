@@ -5,6 +5,7 @@ use mathlib.Core.Bool.{Bool, true, false}
 use mathlib.Core.List.{List, []}
 use mathlib.Core.Option.{Option, none, some}
 use lib.ListN.{length, drop}
+use Rattle.forms.specs.Limits.{replyLimit}
 use Rattle.forms.specs.Forms.{Outcome, Refused, Accepted, outcomeText}
 use Rattle.forms.specs.Held.{Replied, replied, outcomeOf}
 use Rattle.forms.specs.declared.Refusal.{Refusal}
@@ -108,11 +109,11 @@ pub record Starts (s : Session) (bytes : Lent) : Type 0 where
   pub view : sessionView s bytes ≡ none
   pub valid : ValidSession s bytes
 
--- The reply with its end is written at a position of the buffer that was `out` and is `written`, if it fits there. It has at most 2,730
+-- The reply with its end is written at a position of the buffer that was `out` and is `written`, if it fits there. It has at most 2,741
 -- bytes.
 pub record WritesTurn (r : Replied) (out : List ℕ) (at : ℕ) (n : Written) (written : List ℕ) : Type 0 where
   pub text : Writes out at (withEnd (outcomeText (outcomeOf r))) n written
-  pub short : length (outcomeText (outcomeOf r)) + 1 ≤ 2730
+  pub short : length (outcomeText (outcomeOf r)) + 1 ≤ replyLimit
 
 -- The turn t is taken, and its reply with its end stands at the front of the buffer that was `out` and is `written`, if it fits there.
 pub record Answers (s : Session) (old : Lent) (t : Turn) (r : Answered) (new : Lent) (out written : List ℕ) : Type 0 where

@@ -114,7 +114,7 @@ fn call(
 }
 
 // Writes the reply of a turn, with its end: its lists stand one behind the other at the front of what was lent for them.
-// It has at most 2,730 bytes.
+// It has at most 2,741 bytes.
 pub fn write_turn(out: &mut [u8], at: usize, r: ReplyLine, lists: &[u64]) -> Written
     requires { ⌜ Printable (replied r (now lists)) ⌝ }
     ensures { λ w. ⌜ WritesTurn (replied r (was lists)) (was out) at w (left out) ⌝ }

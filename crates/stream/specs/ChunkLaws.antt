@@ -5,6 +5,7 @@ use mathlib.Core.Path.{_≡_, refl, sym, ap, ap₂, subst, _∙_}
 use mathlib.Core.List.{List, [], _∷_, _++_}
 use lib.ListN.{length, take, drop, length-drop}
 use lib.Seq.{take-at, length-take-le}
+use Rattle.forms.specs.Limits.{replyLimit}
 use Rattle.rules.specs.Session.{restReply, sessionIn}
 use Rattle.site.specs.Model.{Lent}
 use Rattle.session.specs.Model.{sessionView}
@@ -130,10 +131,10 @@ calls-whole cs s bytes starts f =
 
 -- ### Each call moves on
 
--- With 2,730 bytes for replies, a call uses something of a chunk that is not empty.
+-- With 2,741 bytes for replies, a call uses something of a chunk that is not empty.
 pub moves : (s : Stream) (old : Lent) (chunk : List ℕ) (r : FeedResult) (new : Lent) (out page : List ℕ) → ValidStream s old →
     Feeds s old chunk r new out page →
-    2730 ≤ length out → 0 < length chunk → 0 < r .used
+    replyLimit ≤ length out → 0 < length chunk → 0 < r .used
 moves s old chunk r new out page v f long some = by-used (r .used) refl
   where
     -- nothing is written where nothing is used
@@ -154,7 +155,7 @@ pub record Moves (chunk : List ℕ) (at used : ℕ) : Type 0 where
   pub within : at + used ≤ length chunk
 
 pub moves-on : (s : Stream) (old : Lent) (chunk : List ℕ) (at : ℕ) (r : FeedResult) (new : Lent) (out page : List ℕ) → ValidStream s old →
-    Feeds s old (take (length chunk - at) (drop at chunk)) r new out page → 2730 ≤ length out → at < length chunk → Moves chunk at (r .used)
+    Feeds s old (take (length chunk - at) (drop at chunk)) r new out page → replyLimit ≤ length out → at < length chunk → Moves chunk at (r .used)
 moves-on s old chunk at r new out page v f long lt =
     record {
       some = moves s old (take (length chunk - at) (drop at chunk)) r new out page v f long (omega (arith, size, lt));

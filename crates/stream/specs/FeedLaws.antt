@@ -5,6 +5,7 @@ use mathlib.Core.Path.{_≡_, refl, sym, ap, ap₂, subst, _∙_}
 use mathlib.Core.List.{List, [], _∷_, _++_, append-nil}
 use lib.ListN.{length, take, drop, take-append-drop, length-drop}
 use lib.Seq.{take-all, take-length}
+use Rattle.forms.specs.Limits.{replyLimit}
 use Rattle.forms.specs.Forms.{Outcome, outcomeText}
 use Rattle.forms.specs.Held.{replied, outcomeOf}
 use Rattle.rules.specs.Log.{ended, linesFrom, restFrom}
@@ -70,7 +71,7 @@ module _ (s : Stream) (old : Lent) (chunk : List ℕ) (r : FeedResult) (new : Le
       fronts-fits (fed (length (old .log)) (take (r .used) chunk) (standing s (l .line) old) .replied) out page (r .written)
       (a .does (l .line) (l .begins) .replies) (a .long)
 
-  pub along-feeds : (r .used < length chunk → length out < r .written + 2730) → Feeds s old chunk r new out page
+  pub along-feeds : (r .used < length chunk → length out < r .written + replyLimit) → Feeds s old chunk r new out page
   along-feeds h =
       record {
         within = a .within;

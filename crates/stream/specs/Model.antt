@@ -5,6 +5,7 @@ use mathlib.Core.Bool.{Bool, true, false}
 use mathlib.Core.List.{List, [], _++_}
 use mathlib.Core.Option.{none}
 use lib.ListN.{length, take, drop}
+use Rattle.forms.specs.Limits.{replyLimit}
 use Rattle.rules.specs.Log.{linesFrom, linesOf}
 use Rattle.rules.specs.Session.{afterLines, sessionIn}
 use Rattle.table.specs.declared.Table.{Table}
@@ -57,7 +58,7 @@ pub record Progressed (g : Progress) (s : Stream) (bytes : Lent) (out page : Lis
 -- reply `out` may have no room.
 pub record Feeds (s : Stream) (old : Lent) (chunk : List ℕ) (r : FeedResult) (new : Lent) (out page : List ℕ) : Type 0 where
   pub within : r .used ≤ length chunk
-  pub stops : r .used < length chunk → length out < r .written + 2730
+  pub stops : r .used < length chunk → length out < r .written + replyLimit
   pub fits : r .written ≤ length out
   pub room : length (new .log) ≡ length (old .log)
   pub valid : ValidStream (r .stream) new
@@ -77,7 +78,7 @@ pub record RunsWhole (input old : List ℕ) (r : RunResult) (out page : List ℕ
 -- `out` is too short, or nearly: the replies to the lines that were taken are written.
 pub record RunsPart (input old : List ℕ) (r : RunResult) (out page : List ℕ) : Type 0 where
   pub within : r .used ≤ length input
-  pub short : length out < length (sessionIn (length old) input) + 2730
+  pub short : length out < length (sessionIn (length old) input) + replyLimit
   pub replies : Fronts (fed (length old) (take (r .used) input) atStart .replied) out page (r .written)
 
 abbrev pub RunsIf : Bool → List ℕ → List ℕ → RunResult → List ℕ → List ℕ → Type 0

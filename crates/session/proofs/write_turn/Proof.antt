@@ -4,6 +4,7 @@ use mathlib.Core.Path.{sym, subst}
 use lib.ListN.{length, take, drop}
 use lib.Seq.{length-take-le}
 use denote.Ref.{now}
+use Rattle.forms.specs.Limits.{replyLimit}
 use Rattle.forms.specs.Forms.{outcomeText}
 use Rattle.forms.specs.Held.{numbersOf, replied, outcomeWith, outcomeOf}
 use Rattle.forms.specs.Write.{Writes, withEnd}
@@ -57,7 +58,7 @@ returns c =
           subst (λ (k : ℕ). Writes (now (e .args .out)) (e .args .at) (withEnd (outcomeText (outcomeWith (r .form) (take (r .first) ns) (take k (drop (r .first) ns))))) (w .result) (w .last .0))
           (second-counts (r .first) (r .second)) (w .ensures .0);
       short =
-          subst (λ (k : ℕ). length (outcomeText (outcomeWith (r .form) (take (r .first) ns) (take k (drop (r .first) ns)))) + 1 ≤ 2730)
+          subst (λ (k : ℕ). length (outcomeText (outcomeWith (r .form) (take (r .first) ns) (take k (drop (r .first) ns)))) + 1 ≤ replyLimit)
           (second-counts (r .first) (r .second)) (w .ensures .1);
     }
 

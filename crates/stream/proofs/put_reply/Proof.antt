@@ -1,4 +1,4 @@
--- 2,730 bytes are free and no reply is longer, so the writer never answers that there is no room.
+-- 2,741 bytes are free and no reply is longer, so the writer never answers that there is no room.
 use native.Mathlib.Omega.{arith}
 use denote.Ref.{now}
 use Rattle.forms.specs.Forms.{outcomeText}
