@@ -1,5 +1,5 @@
 #!/usr/bin/env bash
-# Every refusal number, each at least twice and in different ways, in one session.
+# Every refusal number of 01, each at least twice and in different ways, in one session.
 set -eu
 cd "$(dirname "${BASH_SOURCE[0]}")"
 say() { printf '%s\n' "$@"; }
