@@ -29,7 +29,7 @@ unfolding outcomeWith
 refused-form (ReplyForm.Refused p) xs ys q e = ap ReplyForm.Refused (same-refusal p q e)
 refused-form ReplyForm.Opened xs ys q e = no-refusal _ q e
 refused-form ReplyForm.Added xs ys q e = no-refusal _ q e
-refused-form (ReplyForm.Finished n) xs ys q e = no-refusal _ q e
+refused-form (ReplyForm.Finished n ready) xs ys q e = no-refusal _ q e
 refused-form ReplyForm.Withdrawn xs ys q e = no-refusal _ q e
 refused-form ReplyForm.Persisted xs ys q e = no-refusal _ q e
 refused-form ReplyForm.Stabilised xs ys q e = no-refusal _ q e

@@ -2,6 +2,7 @@
 ghost use mathlib.Core.List.{[]};
 ghost use Prim.Native.Nat.{_≤_};
 ghost use lib.ListN.{length};
+ghost use Rattle.forms.specs.Limits.{replyLimit};
 ghost use Rattle.session.specs.Feeding.{UsablePartial};
 ghost use Rattle.site.specs.Model.{received, newWith};
 ghost use Rattle.stream.specs.Model.{ValidStream};
@@ -34,7 +35,7 @@ fn answer(
     out: &mut [u8],
 ) -> Serving
     requires { ⌜ ValidStream start (received log rows order book) ⌝ }
-    requires { ⌜ 2730 ≤ length (now out) ⌝ }
+    requires { ⌜ replyLimit ≤ length (now out) ⌝ }
     ensures { λ r. ⌜ ValidStream (r .stream) (newWith [] log rows order book) ⌝ }
 {
     let mut stream = start;
@@ -72,7 +73,7 @@ fn step(
     out: &mut [u8],
 ) -> Serving
     requires { ⌜ ValidStream stream (received log rows order book) ⌝ }
-    requires { ⌜ 2730 ≤ length (now out) ⌝ }
+    requires { ⌜ replyLimit ≤ length (now out) ⌝ }
     ensures { λ r. ⌜ ValidStream (r .stream) (newWith [] log rows order book) ⌝ }
 {
     let got = libc::read(STDIN_FILENO, chunk);
@@ -97,7 +98,7 @@ fn serve(
     chunk: &mut [u8],
     out: &mut [u8],
 )
-    requires { ⌜ 2730 ≤ length (now out) ⌝ }
+    requires { ⌜ replyLimit ≤ length (now out) ⌝ }
 {
     let mut stream = Stream::start();
     let mut turns = u64::MAX;
