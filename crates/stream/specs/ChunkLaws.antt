@@ -155,7 +155,8 @@ pub record Moves (chunk : List ℕ) (at used : ℕ) : Type 0 where
   pub within : at + used ≤ length chunk
 
 pub moves-on : (s : Stream) (old : Lent) (chunk : List ℕ) (at : ℕ) (r : FeedResult) (new : Lent) (out page : List ℕ) → ValidStream s old →
-    Feeds s old (take (length chunk - at) (drop at chunk)) r new out page → replyLimit ≤ length out → at < length chunk → Moves chunk at (r .used)
+    Feeds s old (take (length chunk - at) (drop at chunk)) r new out page → replyLimit ≤ length out → at < length chunk →
+    Moves chunk at (r .used)
 moves-on s old chunk at r new out page v f long lt =
     record {
       some = moves s old (take (length chunk - at) (drop at chunk)) r new out page v f long (omega (arith, size, lt));
