@@ -9,6 +9,7 @@ use borrow.Author.Tests.{eqb-true, eqb-false}
 use lib.Dec.{leb, ltb, eqb}
 use lib.ListN.{length, getD, take, set, length-map, length-take}
 use lib.Seq.{take-suc, getD-set-same, getD-set-other}
+use Rattle.forms.specs.Decimal.{top}
 use Rattle.forms.specs.Lists.{any}
 use Rattle.forms.specs.Forms.{Update, Change, Did}
 use Rattle.forms.specs.declared.Rule.{Rule}
@@ -22,9 +23,9 @@ use Rattle.rules.specs.Calls.{mayRunNow, stale, alreadyDone, readOvertaken, cha
 use Rattle.history.specs.declared.History.{History}
 use Rattle.history.specs.declared.Item.{Item}
 use Rattle.history.specs.declared.Entry.{Entry}
-use Rattle.history.specs.declared.ItemTest.the-variants.{Waits, Stale, Ran, Overtaken}
+use Rattle.history.specs.declared.ItemTest.the-variants.{Waits, Stale, Ran, Overtaken, Highest}
 use Rattle.history.specs.Entries.{noHistory, cellOf, cellsOf, noItem, itemUpdate, itemChange, itemsOf, operationOf, didOfEntry, canRunIn, mayRunIn}
-use Rattle.history.specs.Cells.{itemTest, testIn, staleIn, alreadyDoneIn, readOvertakenIn, changeIn, lineIn, valuesIn}
+use Rattle.history.specs.Cells.{itemTest, testIn, staleIn, alreadyDoneIn, readOvertakenIn, atHighestIn, changeIn, lineIn, valuesIn}
 use Rattle.history.specs.Tests.{none-fails, all-map, any-map}
 use Rattle.rules.specs.Book.{canRunWith, enterAllWith, enterWith, enteredWith}
 
@@ -120,6 +121,14 @@ module _ (c : Cell) (x : Item) where
   unfolding itemTest
   overtaken-weak e = rw e
 
+  pub highest-ordered : ordered (x .rule) ≡ true → false ≡ itemTest Highest c x
+  unfolding itemTest
+  highest-ordered e = rw e
+
+  pub highest-unordered : ordered (x .rule) ≡ false → leb top (c .version) ≡ itemTest Highest c x
+  unfolding itemTest
+  highest-unordered e = rw e
+
 -- ### The items of an entry as changes and as updates
 
 module _ (cells : ℕ → Cell) (e : Entry) where
@@ -140,6 +149,10 @@ module _ (cells : ℕ → Cell) (e : Entry) where
   pub overtaken-updates : any (testIn Overtaken cells) (itemsOf e) ≡ any (readOvertakenIn cells) (operationOf e .updates)
   unfolding readOvertakenIn operationOf itemTest
   overtaken-updates = sym (any-map itemUpdate (readOvertakenIn cells) (itemsOf e))
+
+  pub highest-updates : any (testIn Highest cells) (itemsOf e) ≡ any (atHighestIn cells) (operationOf e .updates)
+  unfolding atHighestIn operationOf itemTest
+  highest-updates = sym (any-map itemUpdate (atHighestIn cells) (itemsOf e))
 
 -- ### Performing item after item
 

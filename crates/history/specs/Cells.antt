@@ -5,15 +5,17 @@ use mathlib.Core.Bool.{Bool, false, _&&_, not}
 use mathlib.Core.List.{List, map}
 use lib.Dec.{leb, ltb}
 use lib.ListN.{length, getD}
+use Rattle.forms.specs.Decimal.{top}
+use Rattle.forms.specs.Lists.{any}
 use Rattle.forms.specs.Forms.{Update, Change, Did}
-use Rattle.rules.specs.Rules.{strong, ordered, ruleOf, loggedAs, versionAfter}
+use Rattle.rules.specs.Rules.{timing, isNever, strong, ordered, ruleOf, loggedAs, versionAfter}
 use Rattle.rules.specs.Book.{Cell, runsAt, enterAll}
 use Rattle.rules.specs.State.{Operation}
 use Rattle.history.specs.declared.History.{History}
 use Rattle.history.specs.declared.Item.{Item}
 use Rattle.history.specs.declared.Entry.{Entry}
 use Rattle.history.specs.declared.ItemTest.{ItemTest}
-use Rattle.history.specs.declared.ItemTest.the-variants.{Waits, Stale, Ran, Overtaken}
+use Rattle.history.specs.declared.ItemTest.the-variants.{Waits, Stale, Ran, Overtaken, Highest}
 use Rattle.history.specs.Entries.{cellsOf, noItem, itemChange, operationOf, didOfEntry, UsableEntry}
 
 -- ### Tests of refusals
@@ -30,15 +32,30 @@ alreadyDoneIn cells u = strong (u .rule) && ordered (u .rule) && leb (u .version
 unfoldable pub readOvertakenIn : (ℕ → Cell) → Update → Bool
 readOvertakenIn cells u = not (strong (u .rule)) && ltb (u .version) (cells (u .history) .version)
 
+-- 17: "an added `unk` in a history at the highest version"
+unfoldable pub atHighestIn : (ℕ → Cell) → Update → Bool
+atHighestIn cells u = not (ordered (u .rule)) && leb top (cells (u .history) .version)
+
 -- The same, and "cannot run now", of one item against the cell of its history.
 unfoldable pub itemTest : ItemTest → Cell → Item → Bool
 itemTest Waits c x = not (runsAt c (itemChange x))
 itemTest Stale c x = leb (x .place .0) (c .place)
 itemTest Ran c x = strong (x .rule) && ordered (x .rule) && leb (x .version .0) (c .version)
 itemTest Overtaken c x = not (strong (x .rule)) && ltb (x .version .0) (c .version)
+itemTest Highest c x = not (ordered (x .rule)) && leb top (c .version)
 
 abbrev pub testIn : ItemTest → (ℕ → Cell) → Item → Bool
 testIn t cells x = itemTest t (cells (x .history)) x
+
+-- ### Overtaken
+
+-- the update can never run, against the cell of its history
+unfoldable pub neverIn : (ℕ → Cell) → Update → Bool
+neverIn cells u = isNever (timing (u .rule) (cells (u .history) .version) (u .version))
+
+-- 02 (b): "every future operation that holds a never"
+unfoldable pub overtakenIn : (ℕ → Cell) → Operation → Bool
+overtakenIn cells x = not (x .running) && any (neverIn cells) (x .updates)
 
 -- ### Finishing
 

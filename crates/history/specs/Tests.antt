@@ -7,8 +7,8 @@ use mathlib.Core.Logic.{_⊎_, inl, inr}
 use mathlib.Core.List.{List·Memᴰ as Mem, List·Memᴰ·head as here, List·Memᴰ·tail as there, List·Memᴰ·not-nil, List·Memᴰ·cases-cons}
 use native.Mathlib.Omega.{arith}
 use native.Mathlib.Numerals.{add-one}
-use borrow.Author.Tests.{eq-eqb, ne-eqb, eqb-true, eqb-false}
-use lib.Dec.{eqb}
+use borrow.Author.Tests.{eq-eqb, ne-eqb, eqb-true, eqb-false, lt-ltb, ltb-true, ltb-false}
+use lib.Dec.{eqb, ltb}
 use lib.ListN.{length, getD, take, drop, length-take, List·getD-map, List·getD-eq-default}
 use lib.Seq.{split-at, take-suc, take-take, getD-take, length-take-le}
 use Rattle.forms.specs.Lists.{all, any}
@@ -20,6 +20,17 @@ eqb-iff a b x y f g = go (eqb a b) refl
     go : (t : Bool) → eqb a b ≡ t → eqb a b ≡ eqb x y
     go true e = e ∙ sym (eq-eqb x y (f (eqb-true a b e)))
     go false e = e ∙ sym (ne-eqb x y (λ q. eqb-false a b e (g q)))
+
+pub ltb-iff : (a b x y : ℕ) → (a < b → x < y) → (x < y → a < b) → ltb a b ≡ ltb x y
+ltb-iff a b x y f g = go (ltb a b) refl
+  where
+    go : (t : Bool) → ltb a b ≡ t → ltb a b ≡ ltb x y
+    go true e = e ∙ sym (lt-ltb x y (f (ltb-true a b e)))
+    go false e = e ∙ sym (other (ltb x y) refl)
+      where
+        other : (s : Bool) → ltb x y ≡ s → ltb x y ≡ false
+        other true q = absurd (omega (arith, g (ltb-true x y q), ltb-false a b e))
+        other false q = q
 
 pub and-true-parts : (a b : Bool) → (a && b) ≡ true → (a ≡ true) × (b ≡ true)
 and-true-parts true b e = (refl, e)
