@@ -8,8 +8,9 @@ use mathlib.Core.List.{List, [], _∷_, map}
 use mathlib.Core.List.{List·Memᴰ as Mem, List·Memᴰ·not-nil, List·Memᴰ·cases-cons}
 use lib.ListN.{length, getD, take}
 use Rattle.forms.specs.Forms.{Update, Change, Did}
-use Rattle.rules.specs.Rules.{mayRun}
+use Rattle.rules.specs.Rules.{mayRun, timing, isNever}
 use Rattle.rules.specs.Book.{Cell, cell, runsAt, canRun, canRunWith}
+use Rattle.history.specs.Cells.{neverIn}
 use Rattle.history.specs.declared.History.{History}
 use Rattle.history.specs.declared.Item.{Item}
 use Rattle.history.specs.declared.Entry.{Entry}
@@ -57,3 +58,12 @@ module _ (hs : List History) (y : Item) {h : History} {b : Bool} where
       → mayRunIn (cellsOf hs) (itemUpdate y) ≡ b
   unfolding mayRunIn
   may-read f g = sym (g ∙ ap (λ (k : History). mayRun (y .rule) (k .version .0) (y .version .0)) f)
+
+  pub never-read : {x : Item} → x ≡ y → h ≡ getD hs (x .history) noHistory → b ≡ isNever (timing (x .rule) (h .version .0) (x .version .0))
+      → neverIn (cellsOf hs) (itemUpdate y) ≡ b
+  unfolding neverIn
+  never-read {x} e f g =
+      sym
+      (g
+      ∙ ap (λ (k : History). isNever (timing (x .rule) (k .version .0) (x .version .0))) f
+      ∙ ap (λ (z : Item). isNever (timing (z .rule) (cellsOf hs (z .history) .version) (z .version .0))) e)

@@ -12,6 +12,7 @@ pub mod Tables
 pub mod TableLaws
 pub mod StepLaws
 pub mod Tries
+pub mod Overtaken
 pub mod LoopLaws
 pub mod RangeLaws
 pub mod ArrayLaws
@@ -27,3 +28,5 @@ pub mod FindLaws
 pub mod BookLaws
 pub mod RoundLaws
 pub mod RowExamples
+pub mod OvertakenLaws
+pub mod DropLaws

@@ -18,6 +18,7 @@ use rows::row_at;
 pub mod blocking;
 pub mod busy;
 pub mod order;
+pub mod overtaken;
 pub mod rows;
 pub mod search;
 pub mod tries;
@@ -48,6 +49,12 @@ pub struct Marks {
 pub struct Table {
     pub finished: usize,
     pub queue: usize,
+}
+
+// The table after operations that were overtaken have left it, and how many they were.
+pub struct Dropped {
+    pub table: Table,
+    pub count: usize,
 }
 
 impl Table {
