@@ -113,13 +113,13 @@ pub struct Shown {
     pub profile: u64,
 }
 
-// Which form a reply has, with its single numbers. Its lists stand beside it. Of the second list of a finish the first `ready` ids are
-// those made ready, and the others those overtaken.
+// Which form a reply has, with its single numbers. Its lists stand beside it. Of the second list of a finish the first `overtaken`
+// ids are those overtaken, and the others those made ready.
 pub enum ReplyForm {
     Refused(Refusal),
     Opened,
     Added,
-    Finished { number: LogNumber, ready: usize },
+    Finished { number: LogNumber, overtaken: usize },
     Withdrawn,
     Persisted,
     Stabilised,

@@ -170,15 +170,16 @@ fn write_pair(buf: &mut [u8], at: usize, w: &[u8], xs: &[u64], v: &[u8], ys: &[u
     write_word(buf, b, b")")
 }
 
-// Writes a list in two parts, the first k ids as made ready and the rest as overtaken, and the bracket that closes the reply.
+// Writes a list in two parts, the ids behind the first k as made ready and the first k as overtaken, and the bracket that closes the
+// reply.
 fn write_parts(buf: &mut [u8], at: usize, k: usize, ids: &[u64]) -> usize
     requires { ⌜ at + length (partsText k (now ids)) ≤ length (now buf) ⌝ }
     ensures { λ r. ⌜ Wrote (now (buf .entry)) at (partsText k (now (ids .entry))) r (now (buf .exit)) ⌝ }
 {
     if ids.len() <= k {
-        return write_pair(buf, at, b"(ready", ids, b"(overtaken", &[]);
+        return write_pair(buf, at, b"(ready", &[], b"(overtaken", ids);
     }
-    write_pair(buf, at, b"(ready", &ids[..k], b"(overtaken", &ids[k..])
+    write_pair(buf, at, b"(ready", &ids[k..], b"(overtaken", &ids[..k])
 }
 
 // Writes what finish replies.
@@ -230,7 +231,7 @@ fn write_form(buf: &mut [u8], at: usize, form: ReplyForm, xs: &[u64], ys: &[u64]
         ReplyForm::Refused(r) => write_one(buf, at, b"(refused", refusal_number(r)),
         ReplyForm::Opened => write_word(buf, at, b"(ok)"),
         ReplyForm::Added => write_listed(buf, at, b"(ready", xs),
-        ReplyForm::Finished { number, ready } => write_finished(buf, at, number.0, xs, ready, ys),
+        ReplyForm::Finished { number, overtaken } => write_finished(buf, at, number.0, xs, overtaken, ys),
         ReplyForm::Withdrawn => write_listed(buf, at, b"(dry", xs),
         ReplyForm::Persisted => write_persisted(buf, at, xs, ys),
         ReplyForm::Stabilised => write_listed(buf, at, b"(histories", xs),

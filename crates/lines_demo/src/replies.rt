@@ -27,13 +27,13 @@ fn say_plain(form: ReplyForm) {
     say_reply(form, &[], &[]);
 }
 
-// What finish replies: of its ids the first are made ready, as many as `ready` says, and the rest overtaken.
-fn say_finished(number: u64, values: &[u64], ready: usize, ids: &[u64])
+// What finish replies: of its ids the first are overtaken, as many as `overtaken` says, and the rest made ready.
+fn say_finished(number: u64, values: &[u64], overtaken: usize, ids: &[u64])
     requires { ⌜ (length (now values) ≤ 64) × (length (now ids) ≤ 64) ⌝ }
 {
     let form = ReplyForm::Finished {
         number: LogNumber(number),
-        ready,
+        overtaken,
     };
     say_reply(form, values, ids);
 }
@@ -78,7 +78,7 @@ pub fn say_paper() {
     say_plain(ReplyForm::Opened);
     say_reply(ReplyForm::Added, &[5], &[]);
     say_reply(ReplyForm::Added, &[], &[]);
-    say_finished(1, &[65536, 0], 1, &[6]);
+    say_finished(1, &[65536, 0], 0, &[6]);
     say_finished(2, &[1000], 0, &[]);
     say_reply(ReplyForm::Persisted, &[0], &[0]);
     say_shown(0, 1, 1, 0, 1, 65536);
@@ -101,11 +101,11 @@ pub fn say_edges() {
     let all = [MOST; 64];
     let two = [MOST, 0];
     say_reply(ReplyForm::Added, &all, &two);
-    say_finished(MOST, &few, 64, &all);
-    say_finished(MOST, &all, 60, &all);
-    say_finished(3, &two, 0, &two);
-    say_finished(3, &two, 1, &two);
+    say_finished(MOST, &few, 0, &all);
+    say_finished(MOST, &all, 4, &all);
     say_finished(3, &two, 2, &two);
+    say_finished(3, &two, 1, &two);
+    say_finished(3, &two, 0, &two);
     say_finished(3, &two, 3, &two);
     say_reply(ReplyForm::Persisted, &two, &all);
     say_plain(ReplyForm::Persisted);

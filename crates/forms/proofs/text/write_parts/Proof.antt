@@ -1,4 +1,4 @@
--- Where all are ready, the first k are the whole list and the rest is empty; else the two parts are slices of it.
+-- Where all were overtaken, the first k are the whole list and the rest is empty; else the two parts are slices of it.
 use mathlib.Core.Path.{sym}
 use native.Mathlib.Omega.{arith}
 use lib.Seq.{length-take-le}
@@ -35,12 +35,12 @@ slice-aggregate-write-pair-4 : tie.Need-slice-aggregate-write-pair-4
 slice-aggregate-write-pair-4 c = search needs
 
 slice-aggregate-write-pair-5 : tie.Need-slice-aggregate-write-pair-5
-slice-aggregate-write-pair-5 c =
-    let s = c .before .before .before .before .before .before in
-    sym (length-take-le (s .args .k) (now (s .args .ids)) (omega (arith, c .before .before .before .if1 .left)))
+slice-aggregate-write-pair-5 c = search needs
 
 slice-aggregate-write-pair-6 : tie.Need-slice-aggregate-write-pair-6
-slice-aggregate-write-pair-6 c = search needs
+slice-aggregate-write-pair-6 c =
+    let s = c .before .before .before .before .before .before .before .before in
+    sym (length-take-le (s .args .k) (now (s .args .ids)) (omega (arith, c .before .before .before .before .before .if1 .left)))
 
 mul-write-pair : tie.Need-mul-write-pair
 mul-write-pair c = search needs
@@ -78,12 +78,12 @@ write-parts-spec =
     same-length
     returns
     slice-aggregate-write-pair-4
-    slice-aggregate-write-pair-5
-    slice-aggregate-write-pair-6
     mul-write-pair
     sub-write-pair
     part-write-pair-start
     part-write-pair-end
+    slice-aggregate-write-pair-5
+    slice-aggregate-write-pair-6
     write-pair-requires-2
     same-length-2
     returns-2)
