@@ -115,7 +115,10 @@ fn form_length(form: ReplyForm, a: usize, b: usize) -> usize
         ReplyForm::Refused(r) => number_length(refusal_number(r)) + 11,
         ReplyForm::Opened => 5,
         ReplyForm::Added => a + 13,
-        ReplyForm::Finished { number, overtaken: _ } => number_length(number.0) + a + b + 33,
+        ReplyForm::Finished {
+            number,
+            overtaken: _,
+        } => number_length(number.0) + a + b + 33,
         ReplyForm::Withdrawn => a + 11,
         ReplyForm::Persisted => a + b + 22,
         ReplyForm::Stabilised => a + 17,

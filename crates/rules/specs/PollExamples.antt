@@ -20,6 +20,7 @@ use Rattle.rules.specs.Checks.{check, andThen, wrongCount, noSuchHistory
 use Rattle.rules.specs.Log.{ended, didsText, logText, linesOf, linesFrom, restFrom, historiesFit}
 use Rattle.rules.specs.State.{logBytes, versionAt, liveDone, live, asks, dry, becameDry, rose, lineBytes}
 use Rattle.rules.specs.Calls.{unless, openFull, openRefusal, opened, openSite, blockedBy, blocked, mayRunNow, ready, attempt, tryFrom, madeReady}
+use Rattle.rules.specs.Calls.{neverNow, holdsNever, overtaken, notOvertaken, overtakenIds, atHighest}
 use Rattle.rules.specs.Calls.{nothingOrders, idPending, idDone, alreadyDone, readOvertaken, tableFull, addRefusal, arrived, add, changeOf, lineOf}
 use Rattle.rules.specs.Calls.{valuesAfter, inProgress, future, without, logFull, finished, finishFound, finish, withdrawRefusal, withdraw, persistent}
 use Rattle.rules.specs.Calls.{stable, restarted, restartAs, restart, cutAbove, cut, stale, redoRefusal, behind, pick, drain, delivered}
@@ -90,6 +91,9 @@ edges =
     ∷ row (volatile ++ bytes "(persistent 1)\n(stable 1)\n") dryDry
     -- the first of two is persistent, the second is volatile
     ∷ row (volatile ++ bytes "(add 6 (inc 1 1 0))\n(finish 6)\n(persistent 1)\n") dryBusy
+    -- (b): the updates of an operation that a finish overtook count no more
+    ∷ row (bytes "(add 5 (set 0 5 0))\n(add 6 (inc 0 2 0)(inc 1 1 0))\n(finish 5)\n") busyDry
+    ∷ row (bytes "(add 5 (set 0 5 0))\n(add 6 (inc 0 6 0)(inc 1 2 0))\n(finish 5)\n") (1 ∷ 1 ∷ 3 ∷ [])
     -- a refused call changes nothing
     ∷ row (volatile ++ bytes "(persistent 2)\n(withdraw 5)\n") busyDry
     -- after a cut nothing counts, whether the line was kept or lost
@@ -121,6 +125,7 @@ computed =
     unfold ended didsText logText linesFrom restFrom historiesFit acceptsWith readLinesWith readFirstWith readLogWith in
     unfold logBytes versionAt liveDone live asks dry becameDry rose lineBytes in
     unfold unless openFull openRefusal opened openSite blockedBy blocked mayRunNow ready attempt tryFrom madeReady nothingOrders idPending idDone in
+    unfold neverNow holdsNever overtaken notOvertaken overtakenIds atHighest in
     unfold alreadyDone readOvertaken tableFull addRefusal arrived add changeOf lineOf valuesAfter inProgress future without logFull finished in
     unfold finishFound finish withdrawRefusal withdraw persistent stable restarted restartAs restart cutAbove cut stale redoRefusal behind pick in
     unfold drain delivered redoRead redo end writableUpdate writable perform step in

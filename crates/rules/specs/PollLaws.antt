@@ -154,19 +154,20 @@ sum-parts {A} n p (x ∷ l) = go (p x) (sum-parts n p l)
     go true e = omega (arith, e)
     go false e = omega (arith, e)
 
--- A finish: the updates that were in progress are volatile, and those of the operations dropped are fewer.
+-- A finish: the updates that were in progress are volatile, those of the operations overtaken count no more. (They are dropped before the
+-- tries here, which comes to the same: `drop-before-tries`.)
 pub busy-finished : (st : State) (x : Operation) (h : ℕ) → Good st → Mem x (st .pending) →
     (let log = st .log ++ (lineOf (st .log) x ∷ []) in
-    let tried = tryAll log (without (x .id) (st .pending)) in
-    busy (withLog log (withPending (notOvertaken log tried) st)) h + sum (asksIn h) (keep (overtaken log) tried) ≡ busy st h)
+    let left = without (x .id) (st .pending) in
+    busy (withLog log (withPending (tryAll log (notOvertaken log left)) st)) h + sum (asksIn h) (keep (overtaken log) left) ≡ busy st h)
 unfolding busy notOvertaken
 busy-finished st x h G m =
     let log = st .log ++ (lineOf (st .log) x ∷ []) in
-    let tried = tryAll log (without (x .id) (st .pending)) in
+    let left = without (x .id) (st .pending) in
     omega (
       arith,
-      sum-parts (asksIn h) (overtaken log) tried,
-      asks-tried h log (without (x .id) (st .pending)),
+      sum-parts (asksIn h) (overtaken log) left,
+      asks-tried h log (keep (λ (y : Operation). not (overtaken log y)) left),
       asks-without h x (st .pending) (pending-once st G) m,
       volatile-more h (st .persistentTo) (st .log) (lineOf (st .log) x ∷ []) (G .persistentBelow),
       line-asks h (st .log) x,

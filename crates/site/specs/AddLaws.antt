@@ -19,14 +19,14 @@ use Rattle.forms.specs.HeldLaws.{updates-back}
 use Rattle.forms.specs.declared.AskedHeld.{AskedHeld}
 use Rattle.forms.specs.declared.ReplyForm.{ReplyForm}
 use Rattle.forms.specs.declared.Refusal.{Refusal}
-use Rattle.forms.specs.declared.Refusal.the-variants.{NothingOrders, IdPending, AlreadyDone, ReadOvertaken, TableFull, OutOfTurn}
+use Rattle.forms.specs.declared.Refusal.the-variants.{NothingOrders, IdPending, AlreadyDone, ReadOvertaken, HighestVersion, TableFull, OutOfTurn}
 use Rattle.rules.specs.Checks.{check, andThen, updatesRefusal}
 use Rattle.rules.specs.CheckLaws.{check-none, andThen-none, formed-updates, not-le}
 use Rattle.rules.specs.Poll.{asksIn, busy}
 use Rattle.rules.specs.PollLaws.{busy-added, busy-few}
 use Rattle.rules.specs.State.{Operation, State, refused, ok, live, withPending}
 use Rattle.rules.specs.Calls.{Call, unless, writable, writableUpdate, perform, step, tryAll, madeReady}
-use Rattle.rules.specs.Calls.{add, addRefusal, arrived, nothingOrders, idPending, idDone, alreadyDone, readOvertaken, tableFull}
+use Rattle.rules.specs.Calls.{add, addRefusal, arrived, nothingOrders, idPending, idDone, alreadyDone, readOvertaken, atHighest, tableFull}
 use Rattle.history.specs.declared.History.{History}
 use Rattle.history.specs.declared.Entry.{Entry}
 use Rattle.history.specs.declared.Verdict.{Verdict}
@@ -36,8 +36,8 @@ use Rattle.history.specs.AskingLaws.{usable-held}
 use Rattle.history.specs.Entries.{cellsOf, operationOf, InFirst}
 use Rattle.history.specs.Words.{entryIn}
 use Rattle.history.specs.BusyLaws.{items-asked, all-in-first, entry-few}
-use Rattle.history.specs.Cells.{alreadyDoneIn, readOvertakenIn}
-use Rattle.history.specs.AtLog.{asked-first, already-done-book, read-overtaken-book}
+use Rattle.history.specs.Cells.{alreadyDoneIn, readOvertakenIn, atHighestIn}
+use Rattle.history.specs.AtLog.{asked-first, already-done-book, read-overtaken-book, at-highest-book}
 use Rattle.table.specs.Tries.{tryAllIn, operationsOf}
 use Rattle.table.specs.TryLaws.{try-all-is}
 use Rattle.site.specs.declared.seen.CheckInputs.{CheckInputs}
@@ -57,25 +57,28 @@ addedOperation i us = record { id = i; updates = us; running = false }
 module _ (x : CheckInputs) (hs : List History) (i : ℕ) (us : List Update) (st : State) (s : Sees x hs i st) where
   -- the checks behind turn and form, by what was read
   abbrev others : Option Refusal
-  others = check (nothingOrders us) NothingOrders (conflictRefusal (x .pending) (x .done || any (alreadyDone st) us) (any (readOvertaken st) us) (x .full) false)
+  others =
+      check (nothingOrders us) NothingOrders
+      (conflictRefusal (x .pending) (x .done || any (alreadyDone st) us) (any (readOvertaken st) us) (any (atHighest st) us) (x .full) false)
 
   pub add-refusal-is : addRefusal i us st ≡ check (x .restoring) OutOfTurn (andThen (updatesRefusal (x .count) us) others)
   unfolding addRefusal conflictRefusal check
   add-refusal-is =
       sym (λ j. check (s .restoring j) OutOfTurn (andThen (updatesRefusal (s .count j) us) (check (nothingOrders us) NothingOrders
-      (conflictRefusal (s .pending j) (s .done j || any (alreadyDone st) us) (any (readOvertaken st) us) (s .full j) false))))
+      (conflictRefusal (s .pending j) (s .done j || any (alreadyDone st) us) (any (readOvertaken st) us) (any (atHighest st) us) (s .full j) false))))
 
   pub nothing-orders-is : nothingOrders us ≡ true → Refused NothingOrders ≡ verdictOf others
   unfolding check verdictOf
   nothing-orders-is e = rw e refl
 
-  pub conflict-is : updatesRefusal (x .count) us ≡ none → nothingOrders us ≡ false → (e : Entry) → Enters (addedOperation i us) e → (done overtaken : Bool) →
+  pub conflict-is : updatesRefusal (x .count) us ≡ none → nothingOrders us ≡ false → (e : Entry) → Enters (addedOperation i us) e → (done overtaken highest : Bool) →
       done ≡ (x .done || any (alreadyDoneIn (cellsOf hs)) (operationOf e .updates)) →
       overtaken ≡ any (readOvertakenIn (cellsOf hs)) (operationOf e .updates) →
-      (v : Verdict) → v ≡ verdictOf (conflictRefusal (x .pending) done overtaken (x .full) false) → v ≡ verdictOf others
+      highest ≡ any (atHighestIn (cellsOf hs)) (operationOf e .updates) →
+      (v : Verdict) → v ≡ verdictOf (conflictRefusal (x .pending) done overtaken highest (x .full) false) → v ≡ verdictOf others
   unfolding check
-  conflict-is formed orders e enters done overtaken d o v h =
-      h ∙ λ j. verdictOf (check (sym orders j) NothingOrders (conflictRefusal (x .pending) (ran j) (late j) (x .full) false))
+  conflict-is formed orders e enters done overtaken highest d o t v h =
+      h ∙ λ j. verdictOf (check (sym orders j) NothingOrders (conflictRefusal (x .pending) (ran j) (late j) (top-is j) (x .full) false))
     where
       within : InFirst (x .count) e
       within = asked-first (x .count) e (enters .usable) (ap (λ (y : Operation). updatesRefusal (x .count) (y .updates)) (enters .operation) ∙ formed)
@@ -89,6 +92,11 @@ module _ (x : CheckInputs) (hs : List History) (i : ℕ) (us : List Update) (st 
       late =
           o ∙ read-overtaken-book (x .count) hs st (s .book) e within
           ∙ ap (λ (y : Operation). any (readOvertaken st) (y .updates)) (enters .operation)
+
+      top-is : highest ≡ any (atHighest st) us
+      top-is =
+          t ∙ at-highest-book (x .count) hs st (s .book) e within
+          ∙ ap (λ (y : Operation). any (atHighest st) (y .updates)) (enters .operation)
 
 -- What passed all checks.
 pub record Free (i : ℕ) (us : List Update) (st : State) : Type 0 where
@@ -105,7 +113,8 @@ free-of i us st e =
     let d = check-none (idPending i st) IdPending _ (c .1) in
     let f = check-none (idDone i st || any (alreadyDone st) us) AlreadyDone _ (d .1) in
     let g = check-none (any (readOvertaken st) us) ReadOvertaken _ (f .1) in
-    let h = check-none (leb 64 (live st)) TableFull none (g .1) in
+    let u = check-none (any (atHighest st) us) HighestVersion _ (g .1) in
+    let h = check-none (leb 64 (live st)) TableFull none (u .1) in
     record { turn = a .0; formed = b .0; room = not-le 64 (live st) (h .0) }
 
 -- updates that passed 2 to 5 can become an entry

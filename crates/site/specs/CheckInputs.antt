@@ -7,7 +7,7 @@ use mathlib.Core.Option.{Option, none}
 use lib.ListN.{length}
 use Rattle.forms.specs.Lists.{sum}
 use Rattle.forms.specs.declared.Refusal.{Refusal}
-use Rattle.forms.specs.declared.Refusal.the-variants.{IdPending, AlreadyDone, ReadOvertaken, TableFull, NoRoom}
+use Rattle.forms.specs.declared.Refusal.the-variants.{IdPending, AlreadyDone, ReadOvertaken, HighestVersion, TableFull, NoRoom}
 use Rattle.rules.specs.Book.{cell}
 use Rattle.rules.specs.Checks.{check}
 use Rattle.rules.specs.State.{State, logBytes, lineBytes}
@@ -29,7 +29,9 @@ pub record Sees (x : CheckInputs) (hs : List History) (i : ℕ) (st : State) : T
 abbrev pub LeavesLines : ℕ → State → Type 0
 LeavesLines n st = length (logBytes st) + sum lineBytes (st .waiting) + n ≡ st .room
 
--- The refusals 7 to 12 in their order: an add has no 12, a redo no 9.
-unfoldable pub conflictRefusal : Bool → Bool → Bool → Bool → Bool → Option Refusal
-conflictRefusal pending done overtaken full short =
-    check pending IdPending (check done AlreadyDone (check overtaken ReadOvertaken (check full TableFull (check short NoRoom none))))
+-- The refusals 7 to 12 in their order, 17 after 9: an add has no 12, a redo no 9 and no 17.
+unfoldable pub conflictRefusal : Bool → Bool → Bool → Bool → Bool → Bool → Option Refusal
+conflictRefusal pending done overtaken highest full short =
+    check pending IdPending
+    (check done AlreadyDone
+    (check overtaken ReadOvertaken (check highest HighestVersion (check full TableFull (check short NoRoom none)))))

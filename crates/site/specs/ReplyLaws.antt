@@ -6,7 +6,8 @@ use mathlib.Core.List.{List, _++_}
 use lib.ListN.{length, take, drop, length-drop}
 use lib.Seq.{take-at, drop-at, drop-drop, length-take-le}
 use Rattle.forms.specs.Held.{listed, numbersOf}
-use Rattle.forms.specs.Write.{placed}
+use Rattle.forms.specs.Write.{placed, Wrote}
+use Rattle.forms.specs.WriteLaws.{wrote-more}
 use Rattle.history.specs.Lists.{Lists}
 use Rattle.site.specs.ModelLaws.{Means}
 use Rattle.site.specs.LineLaws.{Appended, behind-past, behind-length}
@@ -58,6 +59,20 @@ module _ {old xs : List ℕ} {n : ℕ} {new : List ℕ} (l : Lists old 0 xs n ne
   past-one = let e : 0 + n ≡ n + 0 = omega arith in subst (λ (k : ℕ). drop k new ≡ drop k old) e (list-past l)
 
 -- ### Two lists, the second behind the first
+
+-- .. as one
+pub lists-joined : {old : List ℕ} {at : ℕ} {xs : List ℕ} {n : ℕ} {mid ys : List ℕ} {m : ℕ} {new : List ℕ} → Lists old at xs n mid →
+    Lists mid (at + n) ys m new → n + m ≤ 64 → Lists old at (xs ++ ys) (n + m) new
+lists-joined {old} {at} {xs} {n} {mid} {ys} {m} {new} f g few =
+    let e : at + n + m ≡ at + (n + m) = omega arith in
+    record {
+      few = few;
+      room = omega (arith, g .room, list-length f);
+      wrote =
+          subst (λ (k : ℕ). Wrote old at (xs ++ ys) k new) e
+          (wrote-more old at xs ys (at + n) (at + n + m) mid new
+          (omega (arith, g .room, f .wrote .behind, g .wrote .behind, list-length f)) (f .wrote) (g .wrote));
+    }
 
 module _ {old xs : List ℕ} {n : ℕ} {mid ys : List ℕ} {m : ℕ} {new : List ℕ} (f : Lists old 0 xs n mid) (g : Lists mid n ys m new) where
   pub means-first : Means (listed n new) xs

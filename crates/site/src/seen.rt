@@ -17,9 +17,16 @@ pub struct CheckInputs {
     pub full: bool,
 }
 
-// The checks 7 to 12, by what each has found.
-pub fn conflict(pending: bool, done: bool, overtaken: bool, full: bool, short: bool) -> Verdict
-    ensures { λ r. ⌜ r ≡ verdictOf (conflictRefusal pending done overtaken full short) ⌝ }
+// The checks 7 to 9, 17, 10 and 12, by what each has found.
+pub fn conflict(
+    pending: bool,
+    done: bool,
+    overtaken: bool,
+    highest: bool,
+    full: bool,
+    short: bool,
+) -> Verdict
+    ensures { λ r. ⌜ r ≡ verdictOf (conflictRefusal pending done overtaken highest full short) ⌝ }
 {
     if pending {
         return Verdict::Refused(Refusal::IdPending);
@@ -29,6 +36,9 @@ pub fn conflict(pending: bool, done: bool, overtaken: bool, full: bool, short: b
     }
     if overtaken {
         return Verdict::Refused(Refusal::ReadOvertaken);
+    }
+    if highest {
+        return Verdict::Refused(Refusal::HighestVersion);
     }
     if full {
         return Verdict::Refused(Refusal::TableFull);

@@ -219,11 +219,11 @@ module _ (cells : ℕ → Cell) (l k : List Entry) (m : Marks) (old : List ℕ) 
       ∙ sym (done (operationsOf (take i k)) (operationsOf (drop i k)) (ap operationsOf (drop-of-length-le k h)))
       ∙ p .tries
 
-  pub ready-all : start ≤ 4 → i ≤ 64
+  pub ready-all : start + i ≤ 68 → i ≤ 64
       → Lists old start (madeReady (operationsOf l) (tryAllIn cells (operationsOf l))) (ready .count) (ready .values)
   ready-all early few = record {
     few = omega (arith, p .few);
-    room = omega (arith, p .few, p .ready .long);
+    room = omega (arith, early, p .few, p .ready .long);
     wrote =
         subst (λ (ids : List ℕ). Wrote old start ids (start + ready .count) (ready .values))
         (ap₂ madeReady (ap operationsOf (take-all i l (omega arith))) (ap operationsOf all ∙ tried-all)) (p .ready .wrote);

@@ -203,14 +203,15 @@ passing-at cells o old new words from to m r first start ready n lists vs i e f 
 -- The end of the pass.
 pub passing-all : (cells : ℕ → Cell) (t : Table) (o old new : List ℕ) (m : Marks) (first : List ℕ) (start ready : ℕ) (lists : List ℕ)
     (i : ℕ)
-    → start ≤ 4 → i ≡ liveCount t → Passing cells o old new (t .finished) (liveCount t) m first start ready lists i
+    → start + t .queue ≤ 68 → i ≡ liveCount t → Passing cells o old new (t .finished) (liveCount t) m first start ready lists i
     → Tries cells t o old new first start ready lists
 passing-all cells t o old new m first start ready lists i early e p = record {
   owns = record { usable = p .usable; within = p .within; once = p .once };
   frame = p .frame;
   finished = p .finished;
   queue = tried-all cells l k m first start (listed ready lists) (i - t .finished) (p .tried) whole;
-  ready = ready-all cells l k m first start (listed ready lists) (i - t .finished) (p .tried) whole early (omega (arith, p .usable .few));
+  ready = ready-all cells l k m first start (listed ready lists) (i - t .finished) (p .tried) whole (omega (arith, early, e))
+      (omega (arith, p .usable .few));
 }
   where
     l : List Entry

@@ -1,10 +1,10 @@
 -- Laws of calls of several steps: the frames of the steps are one frame, and an operation that is done has its row written where it stands.
-use Prim.Native.Nat.{ℕ, _+_, _-_, _≤_, _<_}
+use Prim.Native.Nat.{ℕ, zero, suc, _+_, _-_, _≤_, _<_}
 use native.Mathlib.Omega.{arith}
-use mathlib.Core.Path.{_≡_, refl, sym, ap, ap₂, _∙_}
+use mathlib.Core.Path.{_≡_, refl, sym, ap, subst, _∙_}
 use mathlib.Core.List.{List, [], _∷_, _++_}
-use lib.ListN.{getD, take, drop}
-use lib.Seq.{getD-set-same, take-set-le, drop-set-lt, take-take}
+use lib.ListN.{length, getD, set, take, drop}
+use lib.Seq.{take-take}
 use Rattle.history.specs.declared.Entry.{Entry}
 use Rattle.history.specs.Entries.{UsableEntry}
 use Rattle.table.specs.declared.Table.{Table}
@@ -12,7 +12,7 @@ use Rattle.table.specs.Order.{tally, moved}
 use Rattle.table.specs.OrderLaws.{tally-parts}
 use Rattle.table.specs.Rows.{PutRow}
 use Rattle.table.specs.Tables.{liveCount, finishedRows, queueRows, liveNumbers, Owns, Frame, Becomes}
-use Rattle.table.specs.TableLaws.{queue-length, finished, finished-live, rewritten}
+use Rattle.table.specs.TableLaws.{finished-length, finished, rewritten}
 
 -- A call that changes nothing in the table.
 pub frame-same : (live ws : List ℕ) → Frame live ws ws
@@ -45,27 +45,38 @@ pub live-more : (t u : Table) (o : List ℕ) (e : ℕ) → liveCount t ≤ liveC
 live-more t u o e h =
     omega (arith, tally-parts e (liveCount t) (liveNumbers u o), ap (tally e) (take-take (liveCount t) (liveCount u) o h))
 
--- An operation is done: its row is written where it stands, and its number is the last of the done ones.
-pub completed : (t : Table) (o ws : List ℕ) → Owns t o ws → (i : ℕ) → i < t .queue → (e : Entry) (p new : List ℕ) → UsableEntry e
-    → PutRow (getD o (t .finished + i) 0) e ws new → p ≡ moved (t .finished + i) (t .finished) o
-    → Becomes o ws (record { finished = t .finished + 1; queue = t .queue - 1 }) p new (finishedRows t o ws ++ (e ∷ []))
-    (take i (queueRows t o ws) ++ drop (i + 1) (queueRows t o ws))
-completed t o ws own i h e p new good put m =
-    let u : Table = record { finished = t .finished + 1; queue = t .queue - 1 } in
-    let q = queueRows t o ws in
-    let first = rewritten t o ws own e new good i h put in
-    let second = finished t o new (first .owns) i h e p m in
-    let both =
-    becomes-then o ws t o new _ _ u p new _ _ first (λ k z. sym (finished-live t o new (first .owns) i h p m k) ∙ z) second in
-    let row : getD (queueRows t o new) i e ≡ e =
-    ap (λ (l : List Entry). getD l i e) (first .queueIs) ∙ getD-set-same q i e e (omega (arith, h, queue-length t o ws own)) in
+set-last : {A : Type 0} (l : List A) (x e : A) (n : ℕ) → n ≡ length l → set (l ++ (x ∷ [])) n e ≡ l ++ (e ∷ [])
+set-last [] x e zero q = refl
+set-last [] x e (suc n) q = absurd (omega (arith, q))
+set-last (y ∷ l) x e zero q = absurd (omega (arith, q))
+set-last {A} (y ∷ l) x e (suc n) q = ap (λ (k : List A). y ∷ k) (set-last l x e n (omega (arith, q)))
+
+-- Where the done ones stay, there are as many.
+pub done-stays : (u : Table) (p ws : List ℕ) → Owns u p ws → (v : Table) (r : List ℕ) → Owns v r ws → finishedRows v r ws ≡ finishedRows u p ws
+    → v .finished ≡ u .finished
+done-stays u p ws own v r left e = sym (finished-length v r ws left) ∙ ap length e ∙ finished-length u p ws own
+
+-- An operation is done: its number is the last of the done ones; then others leave, and its row is written where it stands.
+pub completed : (t : Table) (o ws : List ℕ) → Owns t o ws → (i : ℕ) → i < t .queue → (e : Entry) → UsableEntry e → (u : Table) (p : List ℕ)
+    → u ≡ record { finished = t .finished + 1; queue = t .queue - 1 } → p ≡ moved (t .finished + i) (t .finished) o
+    → (v : Table) (r : List ℕ) (q : List Entry) → Becomes p ws v r ws (finishedRows u p ws) q
+    → (new : List ℕ) → PutRow (getD r (v .finished - 1) 0) e ws new → Becomes o ws v r new (finishedRows t o ws ++ (e ∷ [])) q
+completed t o ws own i h e good u p z m v r q left new put =
+    let Q = queueRows t o ws in
+    let F = finishedRows t o ws in
+    let x = getD Q i e in
+    let first : Becomes o ws u p ws (F ++ (x ∷ [])) (take i Q ++ drop (i + 1) Q) =
+    subst (λ (s : Table). Becomes o ws s p ws (F ++ (x ∷ [])) (take i Q ++ drop (i + 1) Q)) (sym z) (finished t o ws own i h e p m) in
+    let rows = left .finishedIs ∙ first .finishedIs in
+    let many : v .finished ≡ t .finished + 1 = done-stays u p ws (first .owns) v r (left .owns) (left .finishedIs) ∙ ap (λ (s : Table). s .finished) z in
+    let last = rewritten v r ws (left .owns) e new good (v .finished - 1) (omega (arith, many)) put in
     record {
-      owns = both .owns;
-      same = both .same;
-      frame = both .frame;
-      finishedIs = both .finishedIs ∙ ap₂ (λ (a : List Entry) (b : Entry). a ++ (b ∷ [])) (first .finishedIs) row;
-      queueIs =
-          both .queueIs
-          ∙ ap (λ (l : List Entry). take i l ++ drop (i + 1) l) (first .queueIs)
-          ∙ ap₂ (λ (a b : List Entry). a ++ b) (take-set-le i q i e (omega arith)) (drop-set-lt (i + 1) q i e (omega arith));
+      owns = last .owns;
+      same = λ k. last .same k ∙ left .same k ∙ first .same k;
+      frame = last .frame;
+      finishedIs =
+          last .finishedIs
+          ∙ ap (λ (l : List Entry). set l (v .finished - 1) e) rows
+          ∙ set-last F x e (v .finished - 1) (omega (arith, many, finished-length t o ws own));
+      queueIs = last .queueIs ∙ left .queueIs;
     }

@@ -350,34 +350,34 @@ module _ (t : Table) (o ws : List ℕ) (own : Owns t o ws) (e : Entry) (new : Li
       none : tally x done + tally x queue ≡ 0
       none = omega (arith, parts-once x, ap (tally x) free, tally-cons x x rest, tally-one x)
 
-  -- The row at place i of those not done is another.
-  pub rewritten : (i : ℕ) → i < t .queue → PutRow (getD o (t .finished + i) 0) e ws new
-      → Becomes o ws t o new (finishedRows t o ws) (set (queueRows t o ws) i e)
+  -- The row at place i of the done ones is another.
+  pub rewritten : (i : ℕ) → i < t .finished → PutRow (getD o i 0) e ws new
+      → Becomes o ws t o new (set (finishedRows t o ws) i e) (queueRows t o ws)
   rewritten i h put =
       record {
         owns =
             owns-of t o new long (own .usable .few) (λ k l. omega (arith, put .long, row-of t o ws own k l))
             (λ k l. one-usable x e ws new put good k (λ ne. usable-row t o ws own k l)) (own .once);
         same = λ k. refl;
-        frame = one-row x e ws new (liveNumbers t o) put (omega (arith, in-queue, live-tally t o x));
-        finishedIs = rows-other x e ws new put done (omega (arith, in-queue, parts-once x));
-        queueIs = rows-set e ws new queue i (subst (λ (k : ℕ). PutRow k e ws new) (sym is) put) there only;
+        frame = one-row x e ws new (liveNumbers t o) put (omega (arith, in-done, live-tally t o x));
+        finishedIs = rows-set e ws new done i (subst (λ (k : ℕ). PutRow k e ws new) (sym is) put) there only;
+        queueIs = rows-other x e ws new put queue (omega (arith, in-done, parts-once x));
       }
     where
       x : ℕ
-      x = getD o (t .finished + i) 0
+      x = getD o i 0
 
-      is : getD queue i 0 ≡ x
-      is = queue-number t o i h
+      is : getD done i 0 ≡ x
+      is = getD-take (t .finished) o i 0 h
 
-      there : i < length queue
-      there = omega (arith, h, queue-long t o (live-low t o ws own))
+      there : i < length done
+      there = omega (arith, h, done-long t o (live-low t o ws own))
 
-      in-queue : 1 ≤ tally x queue
-      in-queue = subst (λ (k : ℕ). 1 ≤ tally k queue) is (tally-at i queue there)
+      in-done : 1 ≤ tally x done
+      in-done = subst (λ (k : ℕ). 1 ≤ tally k done) is (tally-at i done there)
 
-      only : tally (getD queue i 0) queue ≤ 1
-      only = omega (arith, parts-once (getD queue i 0))
+      only : tally (getD done i 0) done ≤ 1
+      only = omega (arith, parts-once (getD done i 0))
 
 -- ### Neighbours and the start
 

@@ -91,12 +91,12 @@ impl Table {
         }
     }
 
-    // The entry at place i of those not done has the row e from now on.
-    pub fn rewrite(self, order: &Order, rows: &mut [u64], i: usize, e: Entry)
-        requires { ⌜ (self .finished + i < 64) × HasRow (now rows) (getD (now order) (self .finished + i) 0) ⌝ }
-        ensures { λ r. ⌜ PutRow (getD (was order) (self .finished + i) 0) e (was rows) (left rows) ⌝ }
+    // The last of the done ones has the row e from now on.
+    pub fn rewrite_last(self, order: &Order, rows: &mut [u64], e: Entry)
+        requires { ⌜ (0 < self .finished) × (self .finished ≤ 64) × HasRow (now rows) (getD (now order) (self .finished - 1) 0) ⌝ }
+        ensures { λ r. ⌜ PutRow (getD (was order) (self .finished - 1) 0) e (was rows) (left rows) ⌝ }
     {
-        let number = order[self.finished + i];
+        let number = order[self.finished - 1];
         put_row(rows, number as usize, e);
     }
 

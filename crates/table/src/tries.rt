@@ -1,6 +1,6 @@
 // Trying the future operations once, oldest arrival first.
 ghost use mathlib.Core.Path.{_≡_};
-ghost use Prim.Native.Nat.{_≤_};
+ghost use Prim.Native.Nat.{_+_, _≤_};
 ghost use Rattle.forms.specs.Lists.{all};
 ghost use Rattle.history.specs.Entries.{UsableEntry, cellsOf, operationOf};
 ghost use Rattle.history.specs.Words.{historiesIn};
@@ -71,7 +71,7 @@ impl Table {
         lists: &mut ReplyNumbers,
         at: usize,
     ) -> usize
-        requires { ⌜ Owns self (now order) (now rows) × (at ≤ 4) ⌝ }
+        requires { ⌜ Owns self (now order) (now rows) × (at + self .queue ≤ 68) ⌝ }
         ensures { λ r. ⌜ Tries (cellsOf (historiesIn (was book))) self (was order) (was rows) (left rows) (was lists) at r (left lists) ⌝ }
     {
         known_length(lists);

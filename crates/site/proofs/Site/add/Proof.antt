@@ -117,7 +117,7 @@ raise-requires c κs =
     (y .entry-of-asked .ensures .usable, passed-counts (site e) (now (e .args .log)) (e .pre .sound) (e .args .id) _ (free (c .before .before .before .before .before .before)) _ (enters y))
 
 try-all-requires : tie.Need-try-all-requires
-try-all-requires c κs = let p = c .before .before .before .before .before .before .before in (pushing p .owns, omega arith)
+try-all-requires c κs = let p = c .before .before .before .before .before .before .before in (pushing p .owns, omega (arith, pushing p .owns .usable .few))
 
 same-length : tie.Need-same-length
 same-length c = search needs

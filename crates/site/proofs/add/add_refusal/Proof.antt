@@ -58,6 +58,9 @@ either-requires c κs = search needs
 read-overtaken-requires : tie.Need-read-overtaken-requires
 read-overtaken-requires c κs = c .before .before .entry-of-asked .ensures .usable
 
+at-highest-requires : tie.Need-at-highest-requires
+at-highest-requires c κs = c .before .before .before .entry-of-asked .ensures .usable
+
 conflict-requires : tie.Need-conflict-requires
 conflict-requires c κs = search needs
 
@@ -76,13 +79,13 @@ returns-3 c =
 returns-4 : tie.Need-returns-4
 returns-4 c =
     λ us h st s.
-    let t = c .before .before .before .before .before .before .before in
+    let t = c .before .before .before .before .before .before .before .before in
     formed-then _ _ _ _ (add-refusal-is _ _ _ us st s) (t .before .before .before .if1 .left) (passed t us h) _
     (conflict-is _ _ _ us st s (passes-is _ (passed t us h)) (ap nothingOrders (sym (back t us h)) ∙ sym
-    (c .before .before .before .before .before .before .nothing-orders .ensures) ∙ c .before .before .before .before .before .if2 .left)
-    _ (asked-enters _ _ us (back t us h) _ (c .before .before .before .before .entry-of-asked .ensures)) _ _
-    (c .before .before .either .ensures ∙ ap (_||_ (start t .args .seen .done)) (c .before .before .before .already-done .ensures))
-    (c .before .read-overtaken .ensures) _ (c .conflict .ensures))
+    (c .before .before .before .before .before .before .before .nothing-orders .ensures) ∙ c .before .before .before .before .before .before .if2 .left)
+    _ (asked-enters _ _ us (back t us h) _ (c .before .before .before .before .before .entry-of-asked .ensures)) _ _ _
+    (c .before .before .before .either .ensures ∙ ap (_||_ (start t .args .seen .done)) (c .before .before .before .before .already-done .ensures))
+    (c .before .before .read-overtaken .ensures) (c .before .at-highest .ensures) _ (c .conflict .ensures))
 
 pub add-refusal-spec : {M : Type 1} → statement M
 add-refusal-spec =
@@ -97,6 +100,7 @@ add-refusal-spec =
     already-done-requires
     either-requires
     read-overtaken-requires
+    at-highest-requires
     conflict-requires
     returns-2
     returns-3

@@ -23,27 +23,15 @@ returns-4 c = rw (c .before .before .before .if1 .left, c .before .before .if2 .
 
 returns-5 : tie.Need-returns-5
 unfolding conflictRefusal check verdictOf
-returns-5 c =
-    rw (
-      c .before .before .before .before .if1 .left,
-      c .before .before .before .if2 .left,
-      c .before .before .if3 .left,
-      c
-          .before .if4 .left,
-      c .if5 .taken,
-    ) refl
+returns-5 c = rw (c .before .before .before .before .if1 .left, c .before .before .before .if2 .left, c .before .before .if3 .left, c .before .if4 .left, c .if5 .taken) refl
 
 returns-6 : tie.Need-returns-6
 unfolding conflictRefusal check verdictOf
-returns-6 c =
-    rw (
-      c .before .before .before .before .if1 .left,
-      c .before .before .before .if2 .left,
-      c .before .before .if3 .left,
-      c
-          .before .if4 .left,
-      c .if5 .left,
-    ) refl
+returns-6 c = rw (c .before .before .before .before .before .if1 .left, c .before .before .before .before .if2 .left, c .before .before .before .if3 .left, c .before .before .if4 .left, c .before .if5 .left, c .if6 .taken) refl
+
+returns-7 : tie.Need-returns-7
+unfolding conflictRefusal check verdictOf
+returns-7 c = rw (c .before .before .before .before .before .if1 .left, c .before .before .before .before .if2 .left, c .before .before .before .if3 .left, c .before .before .if4 .left, c .before .if5 .left, c .if6 .left) refl
 
 pub conflict-spec : {M : Type 1} → statement M
-conflict-spec = tie.close (tie.spec returns returns-2 returns-3 returns-4 returns-5 returns-6)
+conflict-spec = tie.close (tie.spec returns returns-2 returns-3 returns-4 returns-5 returns-6 returns-7)

@@ -16,7 +16,7 @@ use Rattle.table.proofs.Table.try_all.Tie as tie
 
 abbrev Inv-loop : tie.InvT-loop
 Inv-loop order rows₀ book lists₀ at from to m₀ ready₀ i₀ rows lists m ready i =
-    (from ≤ i) × (i ≤ to) × (to ≤ 64) × (at ≤ 4) × (ready ≤ i - from)
+    (from ≤ i) × (i ≤ to) × (to ≤ 64) × (at + (to - from) ≤ 68) × (ready ≤ i - from)
     × Passing (cellsOf (historiesIn book)) order rows₀ rows from to m lists₀ at ready lists i
 
 abbrev μ-loop : tie.MeasureT-loop
@@ -39,7 +39,7 @@ loop-holds c =
       omega arith,
       omega arith,
       p .0 .usable .few,
-      p .1,
+      omega (arith, p .1),
       omega arith,
       passing-none _ (a .self) (a .order .now) (now (a .rows)) (c .in-progress .result) (now (a .lists)) (a .at) (p .0)
           (c .in-progress .ensures) long,
@@ -134,7 +134,7 @@ returns : tie.Need-returns Inv-loop μ-loop
 returns c =
     let a = c .before .before .before .before .before .before .before .before .before .args in
     let l = c .before .loop in
-    passing-all _ (a .self) (a .order .now) (now (a .rows)) (l .rows) (l .m) (now (a .lists)) (a .at) _ _ (l .i) (l .inv .3) (omega arith)
+    passing-all _ (a .self) (a .order .now) (now (a .rows)) (l .rows) (l .m) (now (a .lists)) (a .at) _ _ (l .i) (omega (arith, l .inv .3)) (omega arith)
     (l .inv .5)
 
 pub try-all-spec : {M : Type 1} → statement M
