@@ -24,7 +24,7 @@ pub const DRY: u64 = 1001;
 pub const BUSY: u64 = 1000;
 
 /// The room that is lent behind the replies of a session. No reply has more bytes.
-pub const SPARE: usize = 2730;
+pub const SPARE: usize = 2741;
 
 /// One implementation of the ledger.
 pub trait Program {

@@ -34,6 +34,8 @@ pub enum Refusal {
     WrongTime = 14,
     /// The log cannot be restarted from.
     BadLog = 15,
+    /// An added `unk` in a history at the highest version.
+    HighestVersion = 17,
     /// A threshold of 0, or above the number of full copies.
     BadThreshold = 18,
     /// A site that the operation was not sent to, or an operation without a record.

@@ -1,7 +1,7 @@
 //! What holds of every session of this program after every line, whatever it was.
 
-use second::forms::{Answer, Reply, Update};
-use second::rules::Rules;
+use second::forms::{Answer, Operation, Reply, Update};
+use second::rules::{Rules, Timing};
 use second::session::Session;
 use second::site::Site;
 
@@ -24,7 +24,8 @@ pub fn check(trial: &SessionTrial) {
 
 /// A refused call changes nothing; an accepted one no byte past those in use. With w lines
 /// waiting, the new one included, a redo that runs R of them examines at most (R + 1) × w. The
-/// histories named dry are those whose polls say so after the call and not before it.
+/// histories named dry are those whose polls say so after the call and not before it. Overtaken
+/// are the operations that were future and can never run now, in the order of arrival.
 fn check_change(before: &(Session, Vec<u8>), after: (&Session, &Vec<u8>), answer: &Answer) {
     if answer.is_err() {
         assert_eq!((&before.0, &before.1), after, "a refused call changed something");
@@ -38,6 +39,15 @@ fn check_change(before: &(Session, Vec<u8>), after: (&Session, &Vec<u8>), answer
             let (then, now) = (before.0.poll(history), after.0.poll(history));
             assert_eq!(dry.contains(history), (then, now) == (Ok(false), Ok(true)));
         }
+    }
+    if let (Ok(Reply::Finished(finished)), Some(before), Some(site)) =
+        (answer, before.0.site(), after.0.site())
+    {
+        let future = before.pending().filter(|found| !found.1).map(|found| found.0);
+        let overtaken = future.filter(|operation| has_never(site, operation));
+        assert!(overtaken.map(|operation| operation.id).eq(finished.overtaken.iter().copied()));
+        let gone = |id: &u64| site.pending().all(|found| found.0.id != *id);
+        assert!(finished.overtaken.iter().all(gone), "an overtaken operation is still there");
     }
     let used = after.0.site().map_or(0, Site::used);
     assert_eq!(before.1[used..], after.1[used..], "a byte past those in use changed");
@@ -74,8 +84,18 @@ fn after_lines(site: &Site, log: &[u8], operations: u64) -> Site {
     restarted
 }
 
-/// Updates in progress may still run, and a strong one is alone in its history.
+/// Whether an update of the operation can never run.
+fn has_never(site: &Site, operation: &Operation) -> bool {
+    operation.updates.iter().any(|update| {
+        let version = site.show(update.history).expect("the history exists").version;
+        Rules::PAPER.timing(update, version) == Timing::Never
+    })
+}
+
+/// No operation holds a never between calls; updates in progress may still run, and a strong one
+/// is alone in its history.
 fn check_running(site: &Site) {
+    assert!(site.pending().all(|found| !has_never(site, found.0)), "a never waits");
     let running: Vec<&Update> =
         site.pending().filter(|found| found.1).flat_map(|found| found.0.updates.iter()).collect();
     for (at, update) in running.iter().enumerate() {

@@ -117,7 +117,7 @@ mod library {
         assert_notices_every_flaw(&Library);
     }
 
-    /// It asks for 2,730 free bytes before each line, and does not write past what is lent.
+    /// It asks for 2,741 free bytes before each line, and does not write past what is lent.
     #[test]
     fn it_says_when_the_replies_do_not_fit() {
         let ends = |trial: &SessionTrial| trial.pieces.iter().all(|piece| piece.ends_with(b"\n"));
@@ -268,6 +268,7 @@ fn the_trials_reach_everything() {
     };
     let expected = KINDS.iter().map(|kind| kind.to_string()).chain(
         (1..=15)
+            .chain([17])
             .map(|number| format!("(refused {number})"))
             .chain(refusals("poll ", &[3, 14]))
             .chain(refusals("keep ", &[1, 2, 3, 4, 5, 8, 12, 13, 20, NO_KEEPER]))
@@ -284,16 +285,34 @@ fn the_trials_reach_everything() {
     }
 }
 
+/// Operations are overtaken often: one, several, and several whose ids do not rise.
+#[test]
+fn the_trials_overtake() {
+    let (mut finishes, mut some, mut several, mut falling) = (0, 0, 0, 0);
+    for reply in sessions().flat_map(|trial| trial.answers(&Second::from_paper())) {
+        let Some((_, named)) = reply.split_once("(overtaken") else { continue };
+        let ids: Vec<u64> = named.split([' ', ')']).filter_map(|id| id.parse().ok()).collect();
+        finishes += 1;
+        some += usize::from(!ids.is_empty());
+        several += usize::from(ids.len() > 1);
+        falling += usize::from(!ids.is_sorted());
+    }
+    println!("{finishes} finishes, {some} overtake, {several} several, {falling} not rising");
+    assert!(some >= 5000 && several >= 1000 && falling >= 500);
+}
+
 /// Replies to a redo that are kept as they are: no log has so few bytes that a cut replies them.
 const LOOKS: [&str; 5] = ["(ok 0 1)", "(ok 0 2)", "(ok 1 1)", "(ok 1 3)", "(ok 2 3)"];
 
 /// The kinds of replies, refusals aside.
-const KINDS: [&str; 36] = [
+const KINDS: [&str; 38] = [
     "(ok)",
     "(ok (ready N))",
     "(ok (ready))",
-    "(ok N (values N)(ready N))",
-    "(ok N (values N)(ready))",
+    "(ok N (values N)(ready N)(overtaken N))",
+    "(ok N (values N)(ready N)(overtaken))",
+    "(ok N (values N)(ready)(overtaken N))",
+    "(ok N (values N)(ready)(overtaken))",
     "(ok (dry N))",
     "(ok (dry))",
     "(ok (histories N)(dry N))",

@@ -207,11 +207,12 @@ impl<'r> Scribe<'r> {
     }
 
     fn update(&mut self, history: u64) -> String {
+        let last = self.shown(history).version == u64::MAX;
         let rule = self.random.weighted(&[
             (40, Rule::Inc),
             (22, Rule::Set),
             (26, Rule::Not),
-            (12, Rule::Unk),
+            (if last { 90 } else { 12 }, Rule::Unk),
         ]);
         let version = self.version(rule, history);
         let operand = made_up::operand(self.random, rule);
@@ -269,11 +270,12 @@ impl<'r> Scribe<'r> {
         }
     }
 
-    /// An id: mostly a new one.
+    /// An id: mostly a new one, above or below those before it.
     fn id(&mut self) -> u64 {
         let id = match self.random.below(100) {
             0..=4 if !self.ids.is_empty() => self.random.pick(&self.ids),
             5..=6 => self.random.pick(&EDGES),
+            7..=30 => 1_000_000 - self.ids.len() as u64,
             _ => self.ids.len() as u64 + 5,
         };
         self.ids.push(id);
