@@ -186,9 +186,6 @@ module _ (t : Table) (o ws book lists : List ℕ) (at : ℕ) (d : Dropped) (p bo
   same-test : (e : Entry) → overtakenEntry book′ e ≡ overtakenEntry book e
   same-test e = ap (λ (hs : List History). overtakenIn (cellsOf hs) (operationOf e)) (sym (s .counts .histories))
 
-  pub dropping-owns : Owns (d .table) p ws
-  dropping-owns = own
-
   pub dropping-covers : Covers book′ (rowIn (d .table) p ws i ∷ [])
   dropping-covers = subst (λ (e : Entry). Covers book′ (e ∷ [])) here (covers-one book′ queue i there (s .enough))
 

@@ -1,17 +1,15 @@
 -- Laws of calls of several steps: the frames of the steps are one frame, and an operation that is done has its row written where it stands.
-use Prim.Native.Nat.{ℕ, zero, suc, _+_, _-_, _≤_, _<_}
+use Prim.Native.Nat.{ℕ, zero, suc, _+_, _-_, _<_}
 use native.Mathlib.Omega.{arith}
 use mathlib.Core.Path.{_≡_, refl, sym, ap, subst, _∙_}
 use mathlib.Core.List.{List, [], _∷_, _++_}
 use lib.ListN.{length, getD, set, take, drop}
-use lib.Seq.{take-take}
 use Rattle.history.specs.declared.Entry.{Entry}
 use Rattle.history.specs.Entries.{UsableEntry}
 use Rattle.table.specs.declared.Table.{Table}
 use Rattle.table.specs.Order.{tally, moved}
-use Rattle.table.specs.OrderLaws.{tally-parts}
 use Rattle.table.specs.Rows.{PutRow}
-use Rattle.table.specs.Tables.{liveCount, finishedRows, queueRows, liveNumbers, Owns, Frame, Becomes}
+use Rattle.table.specs.Tables.{finishedRows, queueRows, liveNumbers, Owns, Frame, Becomes}
 use Rattle.table.specs.TableLaws.{finished-length, finished, rewritten}
 
 -- A call that changes nothing in the table.
@@ -27,23 +25,6 @@ pub frame-then : (live live′ x y z : List ℕ) → ((e : ℕ) → tally e live
     → Frame live′ x z
 frame-then live live′ x y z kept f g =
     record { long = g .long ∙ f .long; rest = λ e j l q. g .rest e j l q ∙ f .rest e j l (kept e q) }
-
-pub becomes-then : (o x : List ℕ) (t : Table) (p y : List ℕ) (a b : List Entry) (u : Table) (r z : List ℕ) (c d : List Entry)
-    → Becomes o x t p y a b → ((e : ℕ) → tally e (liveNumbers u r) ≡ 0 → tally e (liveNumbers t p) ≡ 0) → Becomes p y u r z c d
-    → Becomes o x u r z c d
-becomes-then o x t p y a b u r z c d first kept second =
-    record {
-      owns = second .owns;
-      same = λ e. second .same e ∙ first .same e;
-      frame = frame-then (liveNumbers t p) (liveNumbers u r) x y z kept (first .frame) (second .frame);
-      finishedIs = second .finishedIs;
-      queueIs = second .queueIs;
-    }
-
--- with more places live, no entry is less
-pub live-more : (t u : Table) (o : List ℕ) (e : ℕ) → liveCount t ≤ liveCount u → tally e (liveNumbers t o) ≤ tally e (liveNumbers u o)
-live-more t u o e h =
-    omega (arith, tally-parts e (liveCount t) (liveNumbers u o), ap (tally e) (take-take (liveCount t) (liveCount u) o h))
 
 set-last : {A : Type 0} (l : List A) (x e : A) (n : ℕ) → n ≡ length l → set (l ++ (x ∷ [])) n e ≡ l ++ (e ∷ [])
 set-last [] x e zero q = refl
