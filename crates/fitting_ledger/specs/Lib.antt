@@ -1,0 +1,5 @@
+pub mod Counters
+pub mod Model
+pub mod CounterLaws
+pub mod BeginLaws
+pub mod TakeLaws

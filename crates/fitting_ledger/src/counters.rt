@@ -1,0 +1,76 @@
+// A session's counters in words: from call to call they stand in an array that is lent.
+ghost use mathlib.Core.Path.{_≡_};
+ghost use mathlib.Core.Bool.{cond};
+ghost use Rattle.table.specs.Ends.{was, left};
+ghost use Rattle.fitting_ledger.specs.Counters.{sessionAt, wordsOf};
+use forms::LogNumber;
+use session::Session;
+use site::Site;
+use table::Table;
+
+// How many words there are: whether a site is open; its histories, bytes of the log in use, operations done, persistent and stable; whether
+// it is restoring; the bytes that its waiting lines will take; operations done and not yet stable, and not done (or waiting).
+pub const COUNTERS: usize = 10;
+
+pub type Counters = [u64; COUNTERS];
+
+// 1 for yes and 0 for no.
+fn bit(b: bool) -> u64
+    ensures { λ r. ⌜ r ≡ cond b 1 0 ⌝ }
+{
+    b as u64
+}
+
+// The session whose counters these are.
+pub(crate) fn session_at(words: &Counters) -> Session
+    ensures { λ r. ⌜ r ≡ sessionAt (was words) ⌝ }
+{
+    let table = Table {
+        finished: words[8] as usize,
+        queue: words[9] as usize,
+    };
+    let site = Site {
+        count: words[1] as usize,
+        used: words[2] as usize,
+        done: LogNumber(words[3]),
+        persistent: LogNumber(words[4]),
+        stable: LogNumber(words[5]),
+        restoring: words[6] == 1,
+        reserved: words[7] as usize,
+        table,
+    };
+    Session {
+        opened: words[0] == 1,
+        site,
+    }
+}
+
+// The counters of a session.
+fn words_of(s: Session) -> Counters
+    ensures { λ r. ⌜ r ≡ wordsOf s ⌝ }
+{
+    let site = s.site;
+    let table = site.table;
+    let done = site.done;
+    let persistent = site.persistent;
+    let stable = site.stable;
+    [
+        bit(s.opened),
+        site.count as u64,
+        site.used as u64,
+        done.0,
+        persistent.0,
+        stable.0,
+        bit(site.restoring),
+        site.reserved as u64,
+        table.finished as u64,
+        table.queue as u64,
+    ]
+}
+
+// The counters become those of a session.
+pub(crate) fn put_session(words: &mut Counters, s: Session)
+    ensures { λ _. ⌜ left words ≡ wordsOf s ⌝ }
+{
+    *words = words_of(s);
+}

@@ -1,0 +1,84 @@
+// A line in, a reply out, and how much of the log is in use.
+ghost use Prim.Native.Nat.{_≤_};
+ghost use mathlib.Core.Path.{_≡_};
+ghost use mathlib.Core.List.{[]};
+ghost use lib.ListN.{length};
+ghost use Rattle.forms.specs.Forms.{outcomeText};
+ghost use Rattle.forms.specs.Held.{replied, outcomeOf};
+ghost use Rattle.forms.specs.Limits.{replyLimit};
+ghost use Rattle.forms.specs.Write.{Wrote, withEnd};
+ghost use Rattle.rules.specs.Session.{turn};
+ghost use Rattle.table.specs.Ends.{was, left};
+ghost use Rattle.site.specs.Model.{received, oldWith, newWith, Printable};
+ghost use Rattle.fitting_ledger.specs.Model.{ValidState, stateAt, usedBy, AnswersIfRoom};
+use super::counters::Counters;
+use super::counters::put_session;
+use super::counters::session_at;
+use forms::ReplyLine;
+use forms::ReplyNumbers;
+use forms::limits::LIVE;
+use forms::limits::REPLY_BYTES;
+use forms::limits::UPDATES;
+use forms::writer::Written;
+use history::book::BookWords;
+use session::write_turn;
+use table::order::Order;
+use table::rows::Rows;
+
+// Writes a reply, with its end, at the front of a buffer that has room for the longest.
+fn put_reply(out: &mut [u8], r: ReplyLine, lists: &ReplyNumbers) -> usize
+    requires { ⌜ Printable (replied r (now lists)) ⌝ }
+    requires { ⌜ replyLimit ≤ length (now out) ⌝ }
+    ensures { λ n. ⌜ Wrote (was out) 0 (withEnd (outcomeText (outcomeOf (replied r (was lists))))) n (left out) ⌝ }
+{
+    match write_turn(out, 0, r, lists) {
+        Written::At(n) => n,
+        Written::NoRoom => 0,
+    }
+}
+
+// Obeys a line, given without its end, and writes its reply, with its end: the bytes of the reply. 0, and nothing has happened, where `out`
+// has less room than the longest reply.
+#[no_mangle]
+pub extern "C" fn fl_line_parts(
+    counters: &mut Counters,
+    log: &mut [u8],
+    rows: &mut Rows,
+    order: &mut Order,
+    book: &mut BookWords,
+    line: &[u8],
+    out: &mut [u8],
+) -> usize
+    requires { ⌜ ValidState (now counters) (received log rows order book) ⌝ }
+    ensures { λ n. ⌜ AnswersIfRoom (was counters) (oldWith [] log rows order book)
+        (turn (length (was log)) (was line) (stateAt (was counters) (oldWith [] log rows order book)))
+        n (left counters) (newWith [] log rows order book) (was out) (left out) ⌝ }
+{
+    if out.len() < REPLY_BYTES {
+        return 0;
+    }
+    let mut lists = [0u64; UPDATES + LIVE];
+    let s = session_at(counters);
+    let t = s.turn(log, rows, order, book, &mut lists, line);
+    let session = t.session;
+    let reply = t.reply;
+    put_session(counters, session);
+    put_reply(out, reply, &lists)
+}
+
+// How many bytes of the log are in use: 0 "before site".
+#[no_mangle]
+pub extern "C" fn fl_log_used_parts(
+    counters: &Counters,
+    log: &[u8],
+    rows: &Rows,
+    order: &Order,
+    book: &BookWords,
+) -> usize
+    requires { ⌜ ValidState (now counters) (received log rows order book) ⌝ }
+    ensures { λ n. ⌜ n ≡ usedBy (stateAt (was counters) (oldWith [] log rows order book)) ⌝ }
+{
+    let s = session_at(counters);
+    let site = s.site;
+    if s.opened { site.used } else { 0 }
+}

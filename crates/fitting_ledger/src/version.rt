@@ -1,0 +1,31 @@
+// What a header must agree with before it lends anything.
+ghost use mathlib.Core.Path.{_≡_};
+ghost use Rattle.forms.specs.Limits.{replyLimit};
+use super::counters::COUNTERS;
+use forms::limits::HISTORIES;
+use forms::limits::LIVE;
+use forms::limits::REPLY_BYTES;
+use history::book::WIDTH;
+use table::rows::ROW;
+
+// The version of the calls and of what is lent to them.
+#[no_mangle]
+pub extern "C" fn fl_version() -> u64
+    ensures { λ n. ⌜ n ≡ 1 ⌝ }
+{
+    1
+}
+
+// The bytes of a state: its counters, its table's rows and the numbers of its histories, of eight bytes each, and the order of its entries.
+#[no_mangle]
+pub extern "C" fn fl_state_bytes() -> usize {
+    8 * (COUNTERS + LIVE * ROW + HISTORIES * WIDTH) + LIVE
+}
+
+// The room that a line asks for its reply: what the longest has.
+#[no_mangle]
+pub extern "C" fn fl_reply_bytes() -> usize
+    ensures { λ n. ⌜ n ≡ replyLimit ⌝ }
+{
+    REPLY_BYTES
+}
