@@ -3,3 +3,7 @@ pub mod Model
 pub mod CounterLaws
 pub mod BeginLaws
 pub mod TakeLaws
+pub mod Calls
+pub mod CallLaws
+pub mod Adding
+pub mod AddingLaws

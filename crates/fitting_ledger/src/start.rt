@@ -18,6 +18,12 @@ use site::Site;
 use table::order::Order;
 use table::rows::Rows;
 
+// 1: "unreadable line".
+pub(crate) const UNREADABLE: u64 = 1;
+
+// 14: "before site".
+pub(crate) const OUT_OF_TURN: u64 = 14;
+
 // 0 for a reply that accepts, and a refusal's number.
 pub(crate) fn reply_number(form: ReplyForm) -> u64
     ensures { λ n. ⌜ n ≡ formNumber form ⌝ }
