@@ -37,12 +37,19 @@ extern "C" {
 /* More than any call was seen to need of the stack (less than 4,096). */
 #define FL_STACK_BYTES 8192
 
+/* "1 to 4 updates": as many as fl_add can be given. */
+#define FL_UPDATES 4
+
 /* Words of a state's parts. */
 #define FL_COUNTER_WORDS 10
 #define FL_ROW_WORDS 23
 #define FL_HISTORY_WORDS 5
 
-/* What fl_start and fl_restart return: FL_OK, or the number of the refusal, which is the paper's and that of a reply `(refused N)`. */
+/* Words of a reply's parts. */
+#define FL_ANSWER_WORDS 8
+#define FL_NUMBER_WORDS 68
+
+/* What every call but fl_line returns: FL_OK, or the number of the refusal, which is the paper's and that of a reply `(refused N)`. */
 enum {
     FL_OK = 0,
     FL_UNREADABLE = 1,
@@ -75,6 +82,40 @@ typedef struct fl_site {
     size_t log_bytes; /* how long that buffer is */
 } fl_site;
 
+/* The rules of updates. */
+enum { FL_INC = 0, FL_SET = 1, FL_NOT = 2, FL_UNK = 3 };
+
+/* An update of fl_add: (RULE H U O). */
+typedef struct fl_update {
+    uint64_t rule; /* FL_INC, FL_SET, FL_NOT or FL_UNK */
+    uint64_t history;
+    uint64_t version;
+    uint64_t operand;
+} fl_update;
+
+/* The reply to a call without text. A refused call leaves it as it was. */
+typedef struct fl_reply {
+    uint64_t answer[FL_ANSWER_WORDS];  /* how many numbers its lists have, and its single numbers; 0 where a reply has fewer */
+    uint64_t numbers[FL_NUMBER_WORDS]; /* its lists: fl_first, and behind it fl_second */
+} fl_reply;
+
+/* Where a reply's answer has what. */
+enum {
+    FL_FIRST_COUNT = 0,
+    FL_SECOND_COUNT = 1,
+    FL_LOG_NUMBER = 2, /* of a finish */
+    FL_LINES = 2,      /* of a cut: the did lines that it kept .. */
+    FL_USED = 3,       /* .. and the bytes of the log in use */
+    FL_RAN = 2,        /* of a redo: the lines that ran .. */
+    FL_EXAMINED = 3,   /* .. and the examinations that it made */
+    FL_HISTORY = 2,    /* of a show .. */
+    FL_HISTORY_VERSION = 3,
+    FL_PERSISTENT_VERSION = 4,
+    FL_STABLE_VERSION = 5,
+    FL_PLACE = 6,
+    FL_PROFILE = 7
+};
+
 /*
  * What the library exports: the calls below hand it the parts of a state, one by one. A slice passes as its address and its length.
  */
@@ -89,6 +130,25 @@ size_t fl_line_parts(uint64_t *counters, uint8_t *log, size_t log_bytes, uint64_
                      const uint8_t *line, size_t line_bytes, uint8_t *reply, size_t reply_bytes);
 size_t fl_log_used_parts(const uint64_t *counters, const uint8_t *log, size_t log_bytes, const uint64_t *rows, const uint8_t *order,
                          const uint64_t *histories);
+
+uint64_t fl_add_parts(uint64_t *counters, const uint8_t *log, size_t log_bytes, uint64_t *rows, const uint8_t *order,
+                      const uint64_t *histories, uint64_t *numbers, uint64_t *answer, uint64_t id, const uint64_t *updates, size_t count);
+uint64_t fl_finish_parts(uint64_t *counters, uint8_t *log, size_t log_bytes, uint64_t *rows, uint8_t *order, uint64_t *histories,
+                         uint64_t *numbers, uint64_t *answer, uint64_t id);
+uint64_t fl_withdraw_parts(uint64_t *counters, const uint8_t *log, size_t log_bytes, const uint64_t *rows, uint8_t *order,
+                           const uint64_t *histories, uint64_t *numbers, uint64_t *answer, uint64_t id);
+uint64_t fl_persistent_parts(uint64_t *counters, const uint8_t *log, size_t log_bytes, const uint64_t *rows, const uint8_t *order,
+                             uint64_t *histories, uint64_t *numbers, uint64_t *answer, uint64_t n);
+uint64_t fl_stable_parts(uint64_t *counters, const uint8_t *log, size_t log_bytes, const uint64_t *rows, uint8_t *order,
+                         uint64_t *histories, uint64_t *numbers, uint64_t *answer, uint64_t n);
+uint64_t fl_end_parts(uint64_t *counters, const uint8_t *log, size_t log_bytes, const uint64_t *rows, const uint8_t *order,
+                      const uint64_t *histories, uint64_t *numbers, uint64_t *answer);
+uint64_t fl_show_parts(uint64_t *counters, const uint8_t *log, size_t log_bytes, const uint64_t *rows, const uint8_t *order,
+                       const uint64_t *histories, uint64_t *answer, uint64_t history);
+uint64_t fl_cut_parts(uint64_t *counters, const uint8_t *log, size_t log_bytes, const uint64_t *rows, const uint8_t *order,
+                      uint64_t *histories, uint64_t *answer, uint64_t kept);
+uint64_t fl_redo_parts(uint64_t *counters, uint8_t *log, size_t log_bytes, uint64_t *rows, uint8_t *order, uint64_t *histories,
+                       uint64_t *answer, const uint8_t *line, size_t line_bytes);
 
 /* Whether the library that was linked is the one that this header speaks of: 1 or 0. Ask once, first. */
 static inline int fl_fits(void) {
@@ -137,6 +197,75 @@ static inline size_t fl_line(fl_site *site, const uint8_t *line, size_t line_byt
 static inline size_t fl_log_used(const fl_site *site) {
     return fl_log_used_parts(site->counters, site->log, site->log_bytes, site->rows, site->order, site->histories);
 }
+
+/*
+ * The same calls without text. Each returns FL_OK and fills the reply, or the number of the refusal, and then neither the state nor the log
+ * nor the reply has changed; FL_OUT_OF_TURN without a site.
+ */
+
+/* Adds an operation. FL_UNREADABLE: a rule's number is none. The reply's first list: the ids that became ready. */
+static inline uint64_t fl_add(fl_site *site, uint64_t id, const fl_update *updates, size_t count, fl_reply *reply) {
+    uint64_t words[FL_UPDATES * 4] = {0};
+    for (size_t i = 0; i < count && i < FL_UPDATES; i++) {
+        words[4 * i] = updates[i].rule;
+        words[4 * i + 1] = updates[i].history;
+        words[4 * i + 2] = updates[i].version;
+        words[4 * i + 3] = updates[i].operand;
+    }
+    return fl_add_parts(site->counters, site->log, site->log_bytes, site->rows, site->order, site->histories, reply->numbers, reply->answer,
+                        id, words, count);
+}
+
+/* Finishes an operation that is in progress: FL_LOG_NUMBER; first list: the values after it, second: the ids that became ready. */
+static inline uint64_t fl_finish(fl_site *site, uint64_t id, fl_reply *reply) {
+    return fl_finish_parts(site->counters, site->log, site->log_bytes, site->rows, site->order, site->histories, reply->numbers,
+                           reply->answer, id);
+}
+
+/* Withdraws a future operation: first list: the histories that became dry. */
+static inline uint64_t fl_withdraw(fl_site *site, uint64_t id, fl_reply *reply) {
+    return fl_withdraw_parts(site->counters, site->log, site->log_bytes, site->rows, site->order, site->histories, reply->numbers,
+                             reply->answer, id);
+}
+
+/* Makes log numbers up to n persistent: first list: the histories whose persistent version rose, second: those that became dry. */
+static inline uint64_t fl_persistent(fl_site *site, uint64_t n, fl_reply *reply) {
+    return fl_persistent_parts(site->counters, site->log, site->log_bytes, site->rows, site->order, site->histories, reply->numbers,
+                               reply->answer, n);
+}
+
+/* Makes log numbers up to n stable: first list: the histories whose stable version rose. */
+static inline uint64_t fl_stable(fl_site *site, uint64_t n, fl_reply *reply) {
+    return fl_stable_parts(site->counters, site->log, site->log_bytes, site->rows, site->order, site->histories, reply->numbers,
+                           reply->answer, n);
+}
+
+/* Ends restoring: first list: the ids of the lines that still waited, and are dropped. */
+static inline uint64_t fl_end(fl_site *site, fl_reply *reply) {
+    return fl_end_parts(site->counters, site->log, site->log_bytes, site->rows, site->order, site->histories, reply->numbers,
+                        reply->answer);
+}
+
+/* Shows a history: FL_HISTORY to FL_PROFILE. */
+static inline uint64_t fl_show(fl_site *site, uint64_t history, fl_reply *reply) {
+    return fl_show_parts(site->counters, site->log, site->log_bytes, site->rows, site->order, site->histories, reply->answer, history);
+}
+
+/* A supply cut that leaves the first `kept` bytes of the log, and a restart from them: FL_LINES and FL_USED. */
+static inline uint64_t fl_cut(fl_site *site, uint64_t kept, fl_reply *reply) {
+    return fl_cut_parts(site->counters, site->log, site->log_bytes, site->rows, site->order, site->histories, reply->answer, kept);
+}
+
+/* Takes back a did line, given without its end: FL_RAN and FL_EXAMINED. */
+static inline uint64_t fl_redo(fl_site *site, const uint8_t *line, size_t line_bytes, fl_reply *reply) {
+    return fl_redo_parts(site->counters, site->log, site->log_bytes, site->rows, site->order, site->histories, reply->answer, line,
+                         line_bytes);
+}
+
+/* The lists of a reply: fl_first has answer[FL_FIRST_COUNT] numbers, fl_second has answer[FL_SECOND_COUNT]. */
+static inline const uint64_t *fl_first(const fl_reply *reply) { return reply->numbers; }
+
+static inline const uint64_t *fl_second(const fl_reply *reply) { return reply->numbers + reply->answer[FL_FIRST_COUNT]; }
 
 #ifdef __cplusplus
 }

@@ -1,0 +1,72 @@
+/*
+ * The session of document 01 on numbers: each call prints what the session prints. The supply is cut in the middle, the lost line comes back,
+ * and the histories are as before.
+ *
+ * usage: numbers
+ */
+#include "fitting_ledger.h"
+
+#include <inttypes.h>
+#include <stdio.h>
+#include <string.h>
+
+static fl_site site;
+static uint8_t log_buffer[FL_LOG_BYTES];
+static fl_reply reply;
+
+static void list(const char *name, const uint64_t *numbers, uint64_t count) {
+    printf("(%s", name);
+    for (uint64_t i = 0; i < count; i++) printf(" %" PRIu64, numbers[i]);
+    printf(")");
+}
+
+/* Prints a reply: its single numbers, then its lists, which have these names. */
+static void say(uint64_t code, unsigned singles, const char *first, const char *second) {
+    if (code != FL_OK) {
+        printf("(refused %" PRIu64 ")\n", code);
+        return;
+    }
+    printf("(ok");
+    for (unsigned i = 0; i < singles; i++) printf(" %" PRIu64, reply.answer[FL_LOG_NUMBER + i]);
+    if (first != NULL) {
+        printf(" ");
+        list(first, fl_first(&reply), reply.answer[FL_FIRST_COUNT]);
+    }
+    if (second != NULL) list(second, fl_second(&reply), reply.answer[FL_SECOND_COUNT]);
+    printf(")\n");
+}
+
+static void show(uint64_t history) {
+    if (fl_show(&site, history, &reply) != FL_OK) return;
+    printf("(history");
+    for (unsigned i = FL_HISTORY; i <= FL_PROFILE; i++) printf(" %" PRIu64, reply.answer[i]);
+    printf(")\n");
+}
+
+int main(void) {
+    const fl_update five[] = {{FL_INC, 0, 1, 513}, {FL_NOT, 1, 0, 0}};
+    const fl_update six[] = {{FL_SET, 1, 4, 1000}};
+    const fl_update none[] = {{7, 0, 1, 0}};
+    const char *lost = "(did 6 (set 1 4 2 1000))";
+    if (!fl_fits()) return 1;
+    say(fl_start(&site, log_buffer, sizeof log_buffer, 2), 0, NULL, NULL);
+    say(fl_add(&site, 5, five, 2, &reply), 0, "ready", NULL);
+    say(fl_add(&site, 6, six, 1, &reply), 0, "ready", NULL);
+    say(fl_finish(&site, 5, &reply), 1, "values", "ready");
+    say(fl_finish(&site, 6, &reply), 1, "values", "ready");
+    say(fl_persistent(&site, 1, &reply), 0, "histories", "dry");
+    show(0);
+    say(fl_cut(&site, 60, &reply), 2, NULL, NULL);
+    show(1);
+    say(fl_redo(&site, (const uint8_t *)lost, strlen(lost), &reply), 2, NULL, NULL);
+    say(fl_redo(&site, (const uint8_t *)lost, strlen(lost), &reply), 2, NULL, NULL);
+    say(fl_end(&site, &reply), 0, "waiting", NULL);
+    show(1);
+    /* a rule that is none, an operation without updates, and what is not there */
+    say(fl_add(&site, 7, none, 1, &reply), 0, "ready", NULL);
+    say(fl_add(&site, 7, none, 0, &reply), 0, "ready", NULL);
+    say(fl_withdraw(&site, 7, &reply), 0, "dry", NULL);
+    say(fl_stable(&site, 2, &reply), 0, "histories", NULL);
+    printf("%zu bytes of log\n", fl_log_used(&site));
+    return 0;
+}
