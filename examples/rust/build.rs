@@ -1,0 +1,15 @@
+//! Says where the proved library is linked from.
+
+use std::env;
+use std::path::Path;
+
+fn main() {
+    println!("cargo:rerun-if-changed=build.rs");
+    println!("cargo:rerun-if-env-changed=LEDGER_LIB_DIR");
+    let here = env::var("CARGO_MANIFEST_DIR").expect("cargo sets CARGO_MANIFEST_DIR");
+    let asked = env::var("LEDGER_LIB_DIR").unwrap_or_else(|_| "../../target/staticlib".to_string());
+    let folder = Path::new(&here).join(asked);
+    println!("cargo:rerun-if-changed={}", folder.join("libfitting_ledger.a").display());
+    println!("cargo:rustc-link-search=native={}", folder.display());
+    println!("cargo:rustc-link-lib=static=fitting_ledger");
+}

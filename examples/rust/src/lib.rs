@@ -1,0 +1,410 @@
+//! The library for controllers behind a safe type: a [`Site`] can only be had from [`Site::start`] or [`Site::restart`], and its words and
+//! the log that was lent to it can only be changed by its calls. That is what these ask for.
+
+/// The greatest log buffer.
+pub const LOG_BYTES: usize = 65_536;
+/// The longest reply.
+pub const REPLY_BYTES: usize = 2_730;
+const VERSION: u64 = 1;
+const COUNTERS: usize = 10;
+const ROWS: usize = 64 * 23;
+const HISTORIES: usize = 16 * 5;
+const ORDER: usize = 64;
+const ANSWER: usize = 8;
+const NUMBERS: usize = 68;
+const UPDATES: usize = 4;
+
+/// The library's functions. A slice passes as its address and its length, an array as its address.
+mod linked {
+    use super::*;
+
+    extern "C" {
+        pub fn fl_version() -> u64;
+        pub fn fl_state_bytes() -> usize;
+        pub fn fl_reply_bytes() -> usize;
+
+        pub fn fl_start_parts(
+            counters: &mut [u64; COUNTERS],
+            log: *mut u8,
+            log_bytes: usize,
+            rows: &[u64; ROWS],
+            order: &mut [u8; ORDER],
+            histories: &mut [u64; HISTORIES],
+            count: u64,
+        ) -> u64;
+
+        pub fn fl_restart_parts(
+            counters: &mut [u64; COUNTERS],
+            log: *const u8,
+            log_bytes: usize,
+            rows: &[u64; ROWS],
+            order: &mut [u8; ORDER],
+            histories: &mut [u64; HISTORIES],
+            kept: usize,
+        ) -> u64;
+
+        pub fn fl_line_parts(
+            counters: &mut [u64; COUNTERS],
+            log: *mut u8,
+            log_bytes: usize,
+            rows: &mut [u64; ROWS],
+            order: &mut [u8; ORDER],
+            histories: &mut [u64; HISTORIES],
+            line: *const u8,
+            line_bytes: usize,
+            reply: *mut u8,
+            reply_bytes: usize,
+        ) -> usize;
+
+        pub fn fl_log_used_parts(
+            counters: &[u64; COUNTERS],
+            log: *const u8,
+            log_bytes: usize,
+            rows: &[u64; ROWS],
+            order: &[u8; ORDER],
+            histories: &[u64; HISTORIES],
+        ) -> usize;
+
+        pub fn fl_add_parts(
+            counters: &mut [u64; COUNTERS],
+            log: *const u8,
+            log_bytes: usize,
+            rows: &mut [u64; ROWS],
+            order: &[u8; ORDER],
+            histories: &[u64; HISTORIES],
+            numbers: &mut [u64; NUMBERS],
+            answer: &mut [u64; ANSWER],
+            id: u64,
+            updates: &[u64; UPDATES * 4],
+            count: usize,
+        ) -> u64;
+
+        pub fn fl_finish_parts(
+            counters: &mut [u64; COUNTERS],
+            log: *mut u8,
+            log_bytes: usize,
+            rows: &mut [u64; ROWS],
+            order: &mut [u8; ORDER],
+            histories: &mut [u64; HISTORIES],
+            numbers: &mut [u64; NUMBERS],
+            answer: &mut [u64; ANSWER],
+            id: u64,
+        ) -> u64;
+
+        pub fn fl_persistent_parts(
+            counters: &mut [u64; COUNTERS],
+            log: *const u8,
+            log_bytes: usize,
+            rows: &[u64; ROWS],
+            order: &[u8; ORDER],
+            histories: &mut [u64; HISTORIES],
+            numbers: &mut [u64; NUMBERS],
+            answer: &mut [u64; ANSWER],
+            n: u64,
+        ) -> u64;
+
+        pub fn fl_stable_parts(
+            counters: &mut [u64; COUNTERS],
+            log: *const u8,
+            log_bytes: usize,
+            rows: &[u64; ROWS],
+            order: &mut [u8; ORDER],
+            histories: &mut [u64; HISTORIES],
+            numbers: &mut [u64; NUMBERS],
+            answer: &mut [u64; ANSWER],
+            n: u64,
+        ) -> u64;
+
+        pub fn fl_end_parts(
+            counters: &mut [u64; COUNTERS],
+            log: *const u8,
+            log_bytes: usize,
+            rows: &[u64; ROWS],
+            order: &[u8; ORDER],
+            histories: &[u64; HISTORIES],
+            numbers: &mut [u64; NUMBERS],
+            answer: &mut [u64; ANSWER],
+        ) -> u64;
+    }
+}
+
+/// The number of a refusal.
+#[derive(Clone, Copy, Debug, PartialEq, Eq)]
+pub struct Refusal(pub u64);
+
+/// The rule of an update.
+#[derive(Clone, Copy, Debug, PartialEq, Eq)]
+pub enum Rule {
+    /// the next version
+    Inc = 0,
+    /// any later version
+    Set = 1,
+    /// a read of a version
+    Not = 2,
+    /// whatever version is next
+    Unk = 3,
+}
+
+/// An update of an operation.
+#[derive(Clone, Copy, Debug, PartialEq, Eq)]
+pub struct Update {
+    /// its rule
+    pub rule: Rule,
+    /// the history that it is in
+    pub history: u64,
+    /// the version that it asks for
+    pub version: u64,
+    /// its operand
+    pub operand: u64,
+}
+
+/// The reply to a call on numbers.
+#[derive(Clone, Debug)]
+pub struct Reply {
+    answer: [u64; ANSWER],
+    numbers: [u64; NUMBERS],
+}
+
+impl Reply {
+    /// Its single numbers, in their printed order, and 0 behind them.
+    pub fn single(&self) -> &[u64] {
+        &self.answer[2..]
+    }
+
+    /// Its first list.
+    pub fn first(&self) -> &[u64] {
+        &self.numbers[..self.answer[0] as usize]
+    }
+
+    /// Its second list.
+    pub fn second(&self) -> &[u64] {
+        &self.numbers[self.answer[0] as usize..][..self.answer[1] as usize]
+    }
+}
+
+/// A site over a log buffer that is lent to it.
+pub struct Site<'log> {
+    counters: [u64; COUNTERS],
+    rows: [u64; ROWS],
+    histories: [u64; HISTORIES],
+    order: [u8; ORDER],
+    log: &'log mut [u8],
+}
+
+// Each call lends the library parts of a site, which `start` or `restart` has filled and only the library has changed since. They are
+// borrowed by nobody else until it returns, and it keeps none of them.
+impl<'log> Site<'log> {
+    /// Whether the library that was linked is the one that this type speaks of.
+    pub fn fits() -> bool {
+        // SAFETY: these three are lent nothing.
+        let (version, state, reply) =
+            unsafe { (linked::fl_version(), linked::fl_state_bytes(), linked::fl_reply_bytes()) };
+        let words = 8 * (COUNTERS + ROWS + HISTORIES) + ORDER;
+        version == VERSION && state == words && reply == REPLY_BYTES
+    }
+
+    fn blank(log: &'log mut [u8]) -> Self {
+        Site {
+            counters: [0; COUNTERS],
+            rows: [0; ROWS],
+            histories: [0; HISTORIES],
+            order: [0; ORDER],
+            log,
+        }
+    }
+
+    /// Begins a site of so many histories.
+    pub fn start(log: &'log mut [u8], histories: u64) -> Result<Self, Refusal> {
+        let mut site = Site::blank(log);
+        // SAFETY: see above.
+        let code = unsafe {
+            linked::fl_start_parts(
+                &mut site.counters,
+                site.log.as_mut_ptr(),
+                site.log.len(),
+                &site.rows,
+                &mut site.order,
+                &mut site.histories,
+                histories,
+            )
+        };
+        accepted(code, site)
+    }
+
+    /// Takes a site up again from the first bytes of its log.
+    pub fn restart(log: &'log mut [u8], kept: usize) -> Result<Self, Refusal> {
+        let mut site = Site::blank(log);
+        // SAFETY: see above.
+        let code = unsafe {
+            linked::fl_restart_parts(
+                &mut site.counters,
+                site.log.as_ptr(),
+                site.log.len(),
+                &site.rows,
+                &mut site.order,
+                &mut site.histories,
+                kept,
+            )
+        };
+        accepted(code, site)
+    }
+
+    /// The log: what is to be stored.
+    pub fn log(&self) -> &[u8] {
+        // SAFETY: see above.
+        let used = unsafe {
+            linked::fl_log_used_parts(
+                &self.counters,
+                self.log.as_ptr(),
+                self.log.len(),
+                &self.rows,
+                &self.order,
+                &self.histories,
+            )
+        };
+        &self.log[..used]
+    }
+
+    /// Obeys a line, given without its end. Gives the reply, with its end.
+    pub fn line<'reply>(
+        &mut self,
+        line: &[u8],
+        reply: &'reply mut [u8; REPLY_BYTES],
+    ) -> &'reply [u8] {
+        // SAFETY: see above.
+        let bytes = unsafe {
+            linked::fl_line_parts(
+                &mut self.counters,
+                self.log.as_mut_ptr(),
+                self.log.len(),
+                &mut self.rows,
+                &mut self.order,
+                &mut self.histories,
+                line.as_ptr(),
+                line.len(),
+                reply.as_mut_ptr(),
+                reply.len(),
+            )
+        };
+        &reply[..bytes]
+    }
+
+    /// Adds an operation.
+    pub fn add(&mut self, id: u64, updates: &[Update]) -> Result<Reply, Refusal> {
+        let mut words = [0; UPDATES * 4];
+        for (four, update) in words.chunks_exact_mut(4).zip(updates) {
+            let Update { rule, history, version, operand } = *update;
+            four.copy_from_slice(&[rule as u64, history, version, operand]);
+        }
+        let mut reply = blank_reply();
+        // SAFETY: see above.
+        let code = unsafe {
+            linked::fl_add_parts(
+                &mut self.counters,
+                self.log.as_ptr(),
+                self.log.len(),
+                &mut self.rows,
+                &self.order,
+                &self.histories,
+                &mut reply.numbers,
+                &mut reply.answer,
+                id,
+                &words,
+                updates.len(),
+            )
+        };
+        accepted(code, reply)
+    }
+
+    /// Finishes an operation that is in progress.
+    pub fn finish(&mut self, id: u64) -> Result<Reply, Refusal> {
+        let mut reply = blank_reply();
+        // SAFETY: see above.
+        let code = unsafe {
+            linked::fl_finish_parts(
+                &mut self.counters,
+                self.log.as_mut_ptr(),
+                self.log.len(),
+                &mut self.rows,
+                &mut self.order,
+                &mut self.histories,
+                &mut reply.numbers,
+                &mut reply.answer,
+                id,
+            )
+        };
+        accepted(code, reply)
+    }
+
+    /// Makes log numbers up to n persistent.
+    pub fn persistent(&mut self, n: u64) -> Result<Reply, Refusal> {
+        let mut reply = blank_reply();
+        // SAFETY: see above.
+        let code = unsafe {
+            linked::fl_persistent_parts(
+                &mut self.counters,
+                self.log.as_ptr(),
+                self.log.len(),
+                &self.rows,
+                &self.order,
+                &mut self.histories,
+                &mut reply.numbers,
+                &mut reply.answer,
+                n,
+            )
+        };
+        accepted(code, reply)
+    }
+
+    /// Makes log numbers up to n stable.
+    pub fn stable(&mut self, n: u64) -> Result<Reply, Refusal> {
+        let mut reply = blank_reply();
+        // SAFETY: see above.
+        let code = unsafe {
+            linked::fl_stable_parts(
+                &mut self.counters,
+                self.log.as_ptr(),
+                self.log.len(),
+                &self.rows,
+                &mut self.order,
+                &mut self.histories,
+                &mut reply.numbers,
+                &mut reply.answer,
+                n,
+            )
+        };
+        accepted(code, reply)
+    }
+
+    /// Ends restoring.
+    pub fn end(&mut self) -> Result<Reply, Refusal> {
+        let mut reply = blank_reply();
+        // SAFETY: see above.
+        let code = unsafe {
+            linked::fl_end_parts(
+                &mut self.counters,
+                self.log.as_ptr(),
+                self.log.len(),
+                &self.rows,
+                &self.order,
+                &self.histories,
+                &mut reply.numbers,
+                &mut reply.answer,
+            )
+        };
+        accepted(code, reply)
+    }
+}
+
+fn blank_reply() -> Reply {
+    Reply { answer: [0; ANSWER], numbers: [0; NUMBERS] }
+}
+
+/// 0 accepts, and any other number refuses.
+fn accepted<T>(code: u64, value: T) -> Result<T, Refusal> {
+    if code == 0 {
+        Ok(value)
+    } else {
+        Err(Refusal(code))
+    }
+}

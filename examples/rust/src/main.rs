@@ -1,0 +1,91 @@
+//! The controller of examples/c in Rust, on numbers: it keeps its site's log in a file, can be killed at any moment, and goes on from what
+//! the file holds.
+//!
+//! usage: controller FILE [BYTES]     with BYTES it ends once it has appended that many, in the middle of a write too
+
+use fitting_ledger::{Refusal, Rule, Site, Update, LOG_BYTES, REPLY_BYTES};
+use std::fs::{File, OpenOptions};
+use std::io::{self, Read, Write};
+use std::{env, process};
+
+const HISTORIES: u64 = 4;
+const OPERATIONS: u64 = 24;
+
+/// A file that holds the first bytes of a log.
+struct Store {
+    file: File,
+    stored: usize,
+    left: usize,
+}
+
+impl Store {
+    /// Appends what is new in the log, and ends the program where its bytes run out.
+    fn append(&mut self, log: &[u8]) -> io::Result<()> {
+        let new = &log[self.stored.min(log.len())..];
+        let now = new.len().min(self.left);
+        self.file.write_all(&new[..now])?;
+        self.left -= now;
+        if now < new.len() {
+            process::abort();
+        }
+        self.stored = log.len();
+        Ok(())
+    }
+
+    /// Cuts a last line that was cut off out of the file.
+    fn cut(&mut self, bytes: usize) -> io::Result<()> {
+        self.stored = bytes;
+        self.file.set_len(bytes as u64)
+    }
+}
+
+fn refused(Refusal(number): Refusal) -> io::Error {
+    io::Error::other(format!("refused {number}"))
+}
+
+/// Operation i: a part of a history's profile gets a new value. Once its line is stored it is persistent, and stable.
+fn operate(site: &mut Site, store: &mut Store, i: u64) -> io::Result<()> {
+    let operand = i % 8 * 256 + i * 11 % 256;
+    let update =
+        Update { rule: Rule::Inc, history: i % HISTORIES, version: i / HISTORIES + 1, operand };
+    site.add(i, &[update]).map_err(refused)?;
+    site.finish(i).map_err(refused)?;
+    store.append(site.log())?;
+    site.persistent(i + 1).map_err(refused)?;
+    site.stable(i + 1).map_err(refused)?;
+    Ok(())
+}
+
+fn main() -> io::Result<()> {
+    let arguments: Vec<String> = env::args().collect();
+    if !Site::fits() || arguments.len() < 2 {
+        return Err(io::Error::other("usage: controller FILE [BYTES]"));
+    }
+    let file = OpenOptions::new().read(true).append(true).create(true).open(&arguments[1])?;
+    let left = arguments.get(2).and_then(|n| n.parse().ok()).unwrap_or(usize::MAX);
+    let mut store = Store { file, stored: 0, left };
+    let mut bytes = Vec::new();
+    store.file.read_to_end(&mut bytes)?;
+    let kept = bytes.len();
+    bytes.resize(LOG_BYTES, 0);
+    let mut site = if bytes[..kept].contains(&b'\n') {
+        let mut site = Site::restart(&mut bytes, kept).map_err(refused)?;
+        store.cut(site.log().len())?;
+        site.end().map_err(refused)?;
+        site
+    } else {
+        store.cut(0)?;
+        Site::start(&mut bytes, HISTORIES).map_err(refused)?
+    };
+    store.append(site.log())?;
+    let done = site.log().iter().filter(|&&byte| byte == b'\n').count() as u64 - 1;
+    for i in done..OPERATIONS {
+        operate(&mut site, &mut store, i)?;
+    }
+    let mut reply = [0; REPLY_BYTES];
+    for history in 0..HISTORIES {
+        let line = format!("(show {history})");
+        io::stdout().write_all(site.line(line.as_bytes(), &mut reply))?;
+    }
+    Ok(())
+}
