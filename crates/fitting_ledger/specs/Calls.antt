@@ -19,12 +19,13 @@ use Rattle.fitting_ledger.specs.Model.{stateAt, formNumber, begunAs, Tak
 
 -- ### The answer
 
--- a reply's single numbers, in their printed order, and 0 behind them
+-- a reply's single numbers, in their printed order, and 0 behind them; behind a finish's log number stands how many ids of its second list,
+-- the first ones, were overtaken
 unfoldable pub singleWords : ReplyForm → List ℕ
 singleWords (ReplyForm.Refused q) = 0 ∷ 0 ∷ 0 ∷ 0 ∷ 0 ∷ 0 ∷ []
 singleWords ReplyForm.Opened = 0 ∷ 0 ∷ 0 ∷ 0 ∷ 0 ∷ 0 ∷ []
 singleWords ReplyForm.Added = 0 ∷ 0 ∷ 0 ∷ 0 ∷ 0 ∷ 0 ∷ []
-singleWords (ReplyForm.Finished n) = n .0 ∷ 0 ∷ 0 ∷ 0 ∷ 0 ∷ 0 ∷ []
+singleWords (ReplyForm.Finished n k) = n .0 ∷ k ∷ 0 ∷ 0 ∷ 0 ∷ 0 ∷ []
 singleWords ReplyForm.Withdrawn = 0 ∷ 0 ∷ 0 ∷ 0 ∷ 0 ∷ 0 ∷ []
 singleWords ReplyForm.Persisted = 0 ∷ 0 ∷ 0 ∷ 0 ∷ 0 ∷ 0 ∷ []
 singleWords ReplyForm.Stabilised = 0 ∷ 0 ∷ 0 ∷ 0 ∷ 0 ∷ 0 ∷ []

@@ -102,7 +102,7 @@ unfoldable pub formNumber : ReplyForm → ℕ
 formNumber (ReplyForm.Refused q) = numberOf q
 formNumber ReplyForm.Opened = 0
 formNumber ReplyForm.Added = 0
-formNumber (ReplyForm.Finished n) = 0
+formNumber (ReplyForm.Finished n k) = 0
 formNumber ReplyForm.Withdrawn = 0
 formNumber ReplyForm.Persisted = 0
 formNumber ReplyForm.Stabilised = 0

@@ -84,7 +84,7 @@ pub extern "C" fn fl_add_parts(
     log: &[u8],
     rows: &mut Rows,
     order: &Order,
-    book: &BookWords,
+    book: &mut BookWords,
     numbers: &mut ReplyNumbers,
     answer: &mut Answer,
     id: u64,

@@ -10,7 +10,8 @@ use forms::ReplyLine;
 use session::Session;
 use site::CallResult;
 
-// How many numbers the two lists of a reply have, then its single numbers in their printed order, and 0 behind them.
+// How many numbers the two lists of a reply have, then its single numbers in their printed order, and 0 behind them. Behind the log number
+// of a finish: how many ids of its second list, the first ones, were overtaken; the others are ready.
 pub type Answer = [u64; 8];
 
 // The answer of a reply.
@@ -21,7 +22,7 @@ fn answer_of(r: ReplyLine) -> Answer
     let n = r.first as u64;
     let m = r.second as u64;
     match form {
-        ReplyForm::Finished(k) => [n, m, k.0, 0, 0, 0, 0, 0],
+        ReplyForm::Finished { number, overtaken } => [n, m, number.0, overtaken as u64, 0, 0, 0, 0],
         ReplyForm::Shows(s) => [
             n,
             m,

@@ -48,7 +48,7 @@ pub extern "C" fn fl_withdraw_parts(
     log: &[u8],
     rows: &Rows,
     order: &mut Order,
-    book: &BookWords,
+    book: &mut BookWords,
     numbers: &mut ReplyNumbers,
     answer: &mut Answer,
     id: u64,

@@ -22,7 +22,7 @@ unfolding singleWords
 bare (ReplyForm.Refused q) o = refl
 bare ReplyForm.Opened o = refl
 bare ReplyForm.Added o = refl
-bare (ReplyForm.Finished n) o = absurd (miss (0 ∷ 1 ∷ 2 ∷ 4 ∷ 5 ∷ 6 ∷ 10 ∷ []) 3 tt o)
+bare (ReplyForm.Finished n k) o = absurd (miss (0 ∷ 1 ∷ 2 ∷ 4 ∷ 5 ∷ 6 ∷ 10 ∷ []) 3 tt o)
 bare ReplyForm.Withdrawn o = refl
 bare ReplyForm.Persisted o = refl
 bare ReplyForm.Stabilised o = refl

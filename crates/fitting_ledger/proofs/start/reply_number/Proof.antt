@@ -16,7 +16,7 @@ unfolding formNumber
 accepted (ReplyForm.Refused q) o = absurd (miss (1 ∷ 2 ∷ 3 ∷ 4 ∷ 5 ∷ 6 ∷ 7 ∷ 8 ∷ 9 ∷ 10 ∷ []) 0 tt o)
 accepted ReplyForm.Opened o = refl
 accepted ReplyForm.Added o = refl
-accepted (ReplyForm.Finished n) o = refl
+accepted (ReplyForm.Finished n k) o = refl
 accepted ReplyForm.Withdrawn o = refl
 accepted ReplyForm.Persisted o = refl
 accepted ReplyForm.Stabilised o = refl
