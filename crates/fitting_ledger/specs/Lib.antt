@@ -7,3 +7,4 @@ pub mod Calls
 pub mod CallLaws
 pub mod Adding
 pub mod AddingLaws
+pub mod Polls

@@ -6,5 +6,6 @@ pub mod calls;
 pub mod counters;
 pub mod lines;
 pub mod plain_calls;
+pub mod polls;
 pub mod start;
 pub mod version;
