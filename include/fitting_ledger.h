@@ -33,8 +33,8 @@ extern "C" {
 /* "above 1,024 bytes without its end": a longer line is unreadable. */
 #define FL_LINE_BYTES 1024
 /* The longest reply, its end among them: the room that fl_line asks for. */
-#define FL_REPLY_BYTES 2730
-/* More than any call was seen to need of the stack (less than 4,096). */
+#define FL_REPLY_BYTES 2741
+/* More than any call was seen to need of the stack (some 4,100). */
 #define FL_STACK_BYTES 8192
 
 /* "1 to 4 updates": as many as fl_add can be given. */
@@ -43,13 +43,13 @@ extern "C" {
 /* Words of a state's parts. */
 #define FL_COUNTER_WORDS 10
 #define FL_ROW_WORDS 23
-#define FL_HISTORY_WORDS 5
+#define FL_HISTORY_WORDS 6
 
 /* Words of a reply's parts. */
 #define FL_ANSWER_WORDS 8
 #define FL_NUMBER_WORDS 68
 
-/* What every call but fl_line returns: FL_OK, or the number of the refusal, which is the paper's and that of a reply `(refused N)`. */
+/* What all calls but fl_line and fl_log_used return: FL_OK, or a refusal's number, the paper's and that of a reply `(refused N)`. */
 enum {
     FL_OK = 0,
     FL_UNREADABLE = 1,
@@ -66,8 +66,12 @@ enum {
     FL_NO_ROOM = 12,
     FL_ABOVE_LIMIT = 13,
     FL_OUT_OF_TURN = 14,
-    FL_BAD_LOG = 15
+    FL_BAD_LOG = 15,
+    FL_HIGHEST_VERSION = 17
 };
+
+/* What fl_poll returns in place of FL_OK: the history is not dry, or it is. */
+enum { FL_BUSY = 1000, FL_DRY = 1001 };
 
 /*
  * A site's state. The owner lends it, and the buffer of its log beside it; both must stay where they are and as they are between calls.
@@ -103,7 +107,8 @@ typedef struct fl_reply {
 enum {
     FL_FIRST_COUNT = 0,
     FL_SECOND_COUNT = 1,
-    FL_LOG_NUMBER = 2, /* of a finish */
+    FL_LOG_NUMBER = 2, /* of a finish .. */
+    FL_OVERTAKEN = 3,  /* .. and how many ids of its second list, the first ones, were overtaken */
     FL_LINES = 2,      /* of a cut: the did lines that it kept .. */
     FL_USED = 3,       /* .. and the bytes of the log in use */
     FL_RAN = 2,        /* of a redo: the lines that ran .. */
@@ -132,11 +137,11 @@ size_t fl_log_used_parts(const uint64_t *counters, const uint8_t *log, size_t lo
                          const uint64_t *histories);
 
 uint64_t fl_add_parts(uint64_t *counters, const uint8_t *log, size_t log_bytes, uint64_t *rows, const uint8_t *order,
-                      const uint64_t *histories, uint64_t *numbers, uint64_t *answer, uint64_t id, const uint64_t *updates, size_t count);
+                      uint64_t *histories, uint64_t *numbers, uint64_t *answer, uint64_t id, const uint64_t *updates, size_t count);
 uint64_t fl_finish_parts(uint64_t *counters, uint8_t *log, size_t log_bytes, uint64_t *rows, uint8_t *order, uint64_t *histories,
                          uint64_t *numbers, uint64_t *answer, uint64_t id);
 uint64_t fl_withdraw_parts(uint64_t *counters, const uint8_t *log, size_t log_bytes, const uint64_t *rows, uint8_t *order,
-                           const uint64_t *histories, uint64_t *numbers, uint64_t *answer, uint64_t id);
+                           uint64_t *histories, uint64_t *numbers, uint64_t *answer, uint64_t id);
 uint64_t fl_persistent_parts(uint64_t *counters, const uint8_t *log, size_t log_bytes, const uint64_t *rows, const uint8_t *order,
                              uint64_t *histories, uint64_t *numbers, uint64_t *answer, uint64_t n);
 uint64_t fl_stable_parts(uint64_t *counters, const uint8_t *log, size_t log_bytes, const uint64_t *rows, uint8_t *order,
@@ -149,6 +154,8 @@ uint64_t fl_cut_parts(uint64_t *counters, const uint8_t *log, size_t log_bytes, 
                       uint64_t *histories, uint64_t *answer, uint64_t kept);
 uint64_t fl_redo_parts(uint64_t *counters, uint8_t *log, size_t log_bytes, uint64_t *rows, uint8_t *order, uint64_t *histories,
                        uint64_t *answer, const uint8_t *line, size_t line_bytes);
+uint64_t fl_poll_parts(const uint64_t *counters, const uint8_t *log, size_t log_bytes, const uint64_t *rows, const uint8_t *order,
+                       const uint64_t *histories, uint64_t history);
 
 /* Whether the library that was linked is the one that this header speaks of: 1 or 0. Ask once, first. */
 static inline int fl_fits(void) {
@@ -203,7 +210,10 @@ static inline size_t fl_log_used(const fl_site *site) {
  * nor the reply has changed; FL_OUT_OF_TURN without a site.
  */
 
-/* Adds an operation. FL_UNREADABLE: a rule's number is none. The reply's first list: the ids that became ready. */
+/*
+ * Adds an operation. FL_UNREADABLE: a rule's number is none. FL_HIGHEST_VERSION: an unk in a history at the highest version.
+ * The reply's first list: the ids that became ready.
+ */
 static inline uint64_t fl_add(fl_site *site, uint64_t id, const fl_update *updates, size_t count, fl_reply *reply) {
     uint64_t words[FL_UPDATES * 4] = {0};
     for (size_t i = 0; i < count && i < FL_UPDATES; i++) {
@@ -216,7 +226,10 @@ static inline uint64_t fl_add(fl_site *site, uint64_t id, const fl_update *updat
                         id, words, count);
 }
 
-/* Finishes an operation that is in progress: FL_LOG_NUMBER; first list: the values after it, second: the ids that became ready. */
+/*
+ * Finishes an operation that is in progress: FL_LOG_NUMBER. First list: the values after it. Second list: first the ids of the future
+ * operations that it overtook and dropped, oldest first, as many as answer[FL_OVERTAKEN] says; behind them the ids that became ready.
+ */
 static inline uint64_t fl_finish(fl_site *site, uint64_t id, fl_reply *reply) {
     return fl_finish_parts(site->counters, site->log, site->log_bytes, site->rows, site->order, site->histories, reply->numbers,
                            reply->answer, id);
@@ -260,6 +273,11 @@ static inline uint64_t fl_cut(fl_site *site, uint64_t kept, fl_reply *reply) {
 static inline uint64_t fl_redo(fl_site *site, const uint8_t *line, size_t line_bytes, fl_reply *reply) {
     return fl_redo_parts(site->counters, site->log, site->log_bytes, site->rows, site->order, site->histories, reply->answer, line,
                          line_bytes);
+}
+
+/* Polls a history: FL_DRY or FL_BUSY, FL_NO_SUCH_HISTORY, or FL_OUT_OF_TURN without a site. While restoring too. Nothing changes. */
+static inline uint64_t fl_poll(const fl_site *site, uint64_t history) {
+    return fl_poll_parts(site->counters, site->log, site->log_bytes, site->rows, site->order, site->histories, history);
 }
 
 /* The lists of a reply: fl_first has answer[FL_FIRST_COUNT] numbers, fl_second has answer[FL_SECOND_COUNT]. */

@@ -1,6 +1,6 @@
 /*
  * The session of document 01 on numbers: each call prints what the session prints. The supply is cut in the middle, the lost line comes back,
- * and the histories are as before.
+ * and the histories are as before. Then a finish overtakes an operation. Between the calls histories are polled.
  *
  * usage: numbers
  */
@@ -36,6 +36,28 @@ static void say(uint64_t code, unsigned singles, const char *first, const char *
     printf(")\n");
 }
 
+static void finish(uint64_t id) {
+    uint64_t code = fl_finish(&site, id, &reply);
+    if (code != FL_OK) {
+        say(code, 0, NULL, NULL);
+        return;
+    }
+    uint64_t overtaken = reply.answer[FL_OVERTAKEN];
+    printf("(ok %" PRIu64 " ", reply.answer[FL_LOG_NUMBER]);
+    list("values", fl_first(&reply), reply.answer[FL_FIRST_COUNT]);
+    list("ready", fl_second(&reply) + overtaken, reply.answer[FL_SECOND_COUNT] - overtaken);
+    list("overtaken", fl_second(&reply), overtaken);
+    printf(")\n");
+}
+
+static void poll(uint64_t history) {
+    uint64_t code = fl_poll(&site, history);
+    if (code == FL_DRY || code == FL_BUSY)
+        printf("%" PRIu64 " is %s\n", history, code == FL_DRY ? "dry" : "not dry");
+    else
+        say(code, 0, NULL, NULL);
+}
+
 static void show(uint64_t history) {
     if (fl_show(&site, history, &reply) != FL_OK) return;
     printf("(history");
@@ -46,15 +68,19 @@ static void show(uint64_t history) {
 int main(void) {
     const fl_update five[] = {{FL_INC, 0, 1, 513}, {FL_NOT, 1, 0, 0}};
     const fl_update six[] = {{FL_SET, 1, 4, 1000}};
+    const fl_update nine[] = {{FL_SET, 1, 9, 50}};
+    const fl_update eight[] = {{FL_INC, 1, 5, 1}};
+    const fl_update ten[] = {{FL_INC, 1, 10, 7}};
     const fl_update none[] = {{7, 0, 1, 0}};
     const char *lost = "(did 6 (set 1 4 2 1000))";
     if (!fl_fits()) return 1;
     say(fl_start(&site, log_buffer, sizeof log_buffer, 2), 0, NULL, NULL);
     say(fl_add(&site, 5, five, 2, &reply), 0, "ready", NULL);
     say(fl_add(&site, 6, six, 1, &reply), 0, "ready", NULL);
-    say(fl_finish(&site, 5, &reply), 1, "values", "ready");
-    say(fl_finish(&site, 6, &reply), 1, "values", "ready");
+    finish(5);
+    finish(6);
     say(fl_persistent(&site, 1, &reply), 0, "histories", "dry");
+    for (uint64_t history = 0; history <= 2; history++) poll(history);
     show(0);
     say(fl_cut(&site, 60, &reply), 2, NULL, NULL);
     show(1);
@@ -62,11 +88,19 @@ int main(void) {
     say(fl_redo(&site, (const uint8_t *)lost, strlen(lost), &reply), 2, NULL, NULL);
     say(fl_end(&site, &reply), 0, "waiting", NULL);
     show(1);
+    /* 9 takes the history past the version that 8 waits for, and to the one that 10 waits for */
+    say(fl_add(&site, 9, nine, 1, &reply), 0, "ready", NULL);
+    say(fl_add(&site, 8, eight, 1, &reply), 0, "ready", NULL);
+    say(fl_add(&site, 10, ten, 1, &reply), 0, "ready", NULL);
+    finish(9);
+    finish(10);
+    say(fl_persistent(&site, 4, &reply), 0, "histories", "dry");
+    poll(1);
     /* a rule that is none, an operation without updates, and what is not there */
     say(fl_add(&site, 7, none, 1, &reply), 0, "ready", NULL);
     say(fl_add(&site, 7, none, 0, &reply), 0, "ready", NULL);
     say(fl_withdraw(&site, 7, &reply), 0, "dry", NULL);
-    say(fl_stable(&site, 2, &reply), 0, "histories", NULL);
+    say(fl_stable(&site, 5, &reply), 0, "histories", NULL);
     printf("%zu bytes of log\n", fl_log_used(&site));
     return 0;
 }

@@ -4,15 +4,17 @@
 /// The greatest log buffer.
 pub const LOG_BYTES: usize = 65_536;
 /// The longest reply.
-pub const REPLY_BYTES: usize = 2_730;
+pub const REPLY_BYTES: usize = 2_741;
 const VERSION: u64 = 1;
 const COUNTERS: usize = 10;
 const ROWS: usize = 64 * 23;
-const HISTORIES: usize = 16 * 5;
+const HISTORIES: usize = 16 * 6;
 const ORDER: usize = 64;
 const ANSWER: usize = 8;
 const NUMBERS: usize = 68;
 const UPDATES: usize = 4;
+const BUSY: u64 = 1_000;
+const DRY: u64 = 1_001;
 
 /// The library's functions. A slice passes as its address and its length, an array as its address.
 mod linked {
@@ -71,7 +73,7 @@ mod linked {
             log_bytes: usize,
             rows: &mut [u64; ROWS],
             order: &[u8; ORDER],
-            histories: &[u64; HISTORIES],
+            histories: &mut [u64; HISTORIES],
             numbers: &mut [u64; NUMBERS],
             answer: &mut [u64; ANSWER],
             id: u64,
@@ -125,6 +127,16 @@ mod linked {
             numbers: &mut [u64; NUMBERS],
             answer: &mut [u64; ANSWER],
         ) -> u64;
+
+        pub fn fl_poll_parts(
+            counters: &[u64; COUNTERS],
+            log: *const u8,
+            log_bytes: usize,
+            rows: &[u64; ROWS],
+            order: &[u8; ORDER],
+            histories: &[u64; HISTORIES],
+            history: u64,
+        ) -> u64;
     }
 }
 
@@ -166,7 +178,8 @@ pub struct Reply {
 }
 
 impl Reply {
-    /// Its single numbers, in their printed order, and 0 behind them.
+    /// Its single numbers, in their printed order, and 0 behind them; behind the log number of a finish, how many ids of its second list,
+    /// the first ones, were overtaken: the others are ready.
     pub fn single(&self) -> &[u64] {
         &self.answer[2..]
     }
@@ -305,7 +318,7 @@ impl<'log> Site<'log> {
                 self.log.len(),
                 &mut self.rows,
                 &self.order,
-                &self.histories,
+                &mut self.histories,
                 &mut reply.numbers,
                 &mut reply.answer,
                 id,
@@ -393,6 +406,27 @@ impl<'log> Site<'log> {
             )
         };
         accepted(code, reply)
+    }
+
+    /// Polls a history: whether it is dry.
+    pub fn dry(&self, history: u64) -> Result<bool, Refusal> {
+        // SAFETY: see above.
+        let code = unsafe {
+            linked::fl_poll_parts(
+                &self.counters,
+                self.log.as_ptr(),
+                self.log.len(),
+                &self.rows,
+                &self.order,
+                &self.histories,
+                history,
+            )
+        };
+        match code {
+            DRY => Ok(true),
+            BUSY => Ok(false),
+            refusal => Err(Refusal(refusal)),
+        }
     }
 }
 
