@@ -52,8 +52,8 @@ pub record Same (ws : List ℕ) (old : Lent) (after : List ℕ) (new : Lent) : T
   pub counters : after ≡ ws
   pub kept : new ≡ old
 
--- "An accepted call alters no byte of a lent buffer past those in use": of the table's rows, those of the entries that are live after it; of the
--- histories' numbers, those of the site's histories. (Of the log's buffer, see `log` below.)
+-- "An accepted call alters no byte of a lent buffer past those in use": of the table's rows, those of the entries that are live after it;
+-- of the histories' numbers, those of the site's histories. (Of the log's buffer, see `log` below.)
 pub record UnusedLeft (old : Lent) (s : Session) (new : Lent) : Type 0 where
   pub frame : Frame (liveIf (s .opened) (s .site) (new .order)) (old .rows) (new .rows)
   pub pastHistories : drop (heldIf (s .opened) (s .site)) (new .book) ≡ drop (heldIf (s .opened) (s .site)) (old .book)

@@ -1,5 +1,4 @@
--- The poll of a history, in a number: "reads only this number and says dry exactly when a walk over the entries would; a history that is not
--- there is refused 3".
+-- The poll of a history, in a number: "says dry exactly when a walk over the entries would; a history that is not there is refused 3".
 use Prim.Native.Nat.{ℕ}
 use mathlib.Core.Path.{_≡_, sym, ap, _∙_}
 use mathlib.Core.Bool.{Bool, true, false}

@@ -78,9 +78,9 @@ answers ws old t r new after out page n v h e w =
     fronts x = record { count = omega (arith, x .behind); bytes = x .bytes ∙ ap (λ (k : ℕ). text ++ drop k out) (sym (x .behind)) }
 
 -- A line is answered where there is room for the longest reply.
-pub answers-line : (s : Session) (ws : List ℕ) (old : Lent) (line : List ℕ) (r : LineResult) (new : Lent) (after out page : List ℕ) (n : ℕ) →
-    s ≡ sessionAt ws → replyLimit ≤ length out → ValidState ws (bare old) → TurnsLine s old line r new → after ≡ wordsOf (r .session) →
-    Wrote out 0 (withEnd (outcomeText (outcomeOf (replied (r .reply) (new .lists))))) n page →
+pub answers-line : (s : Session) (ws : List ℕ) (old : Lent) (line : List ℕ) (r : LineResult) (new : Lent) (after out page : List ℕ)
+    (n : ℕ) → s ≡ sessionAt ws → replyLimit ≤ length out → ValidState ws (bare old) → TurnsLine s old line r new →
+    after ≡ wordsOf (r .session) → Wrote out 0 (withEnd (outcomeText (outcomeOf (replied (r .reply) (new .lists))))) n page →
     AnswersIfRoom ws (bare old) (turn (length (old .log)) line (stateAt ws (bare old))) n after (bare new) out page
 answers-line s ws old line r new after out page n is room v h e w =
     subst (λ (b : Bool). AnswersIf b ws (bare old) t n after (bare new) out page) (sym (le-leb replyLimit (length out) room))
@@ -108,7 +108,8 @@ unfolding Sound
 site-used s m v = sym (length-take-le (s .used) (m .log) (v .sound .carries .within)) ∙ ap length (v .sound .carries .text)
 
 -- The bytes in use are those of the specification's log.
-pub used-is : (s : Session) (ws : List ℕ) (m : Lent) → s ≡ sessionAt ws → ValidState ws m → usedIf (s .opened) (s .site) ≡ usedBy (stateAt ws m)
+pub used-is : (s : Session) (ws : List ℕ) (m : Lent) → s ≡ sessionAt ws → ValidState ws m →
+    usedIf (s .opened) (s .site) ≡ usedBy (stateAt ws m)
 unfolding usedBy
 used-is s ws m is v = ap (λ (x : Session). usedIf (x .opened) (x .site)) is ∙ by-opened (sessionAt ws .opened) refl
   where

@@ -1,5 +1,6 @@
 // The library that a controller is built on: a site that lives on from call to call in numbers and bytes that its owner lends.
-// `fl_start` and `fl_restart` establish the invariant, whatever they answer, and require nothing; every other call requires it and keeps it.
+// `fl_start` and `fl_restart` establish the invariant, whatever they answer, and require nothing; every other call requires it and keeps
+// it.
 pub mod adding;
 pub mod answer;
 pub mod calls;
