@@ -100,7 +100,7 @@ typedef struct fl_update {
 /* The reply to a call without text. A refused call leaves it as it was. */
 typedef struct fl_reply {
     uint64_t answer[FL_ANSWER_WORDS];  /* how many numbers its lists have, and its single numbers; 0 where a reply has fewer */
-    uint64_t numbers[FL_NUMBER_WORDS]; /* its lists: fl_first, and behind it fl_second */
+    uint64_t numbers[FL_NUMBER_WORDS]; /* its lists: fl_first, and behind it fl_second; those behind are as they were */
 } fl_reply;
 
 /* Where a reply's answer has what. */

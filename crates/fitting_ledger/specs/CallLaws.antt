@@ -92,6 +92,7 @@ does-says ws old (ok st a) r new n after head said o v d p =
             reply = r .reply;
             says = d .answer;
             words = p .answer ∙ ap (λ (k : ℕ). cond (eqb k 0) (answerWords (r .reply)) head) number;
+            past = d .pastLists;
           };
     }
   where

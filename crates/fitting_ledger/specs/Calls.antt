@@ -1,9 +1,10 @@
 -- Calls without text: what they answer in numbers, by the specification's calls.
-use Prim.Native.Nat.{ℕ}
+use Prim.Native.Nat.{ℕ, _+_}
 use mathlib.Core.Path.{_≡_}
 use mathlib.Core.Bool.{cond}
 use mathlib.Core.List.{List, [], _∷_}
 use lib.Dec.{eqb}
+use lib.ListN.{drop}
 use Rattle.forms.specs.Forms.{Outcome, Refused, Accepted, Answer}
 use Rattle.forms.specs.Held.{replied}
 use Rattle.forms.specs.Refusals.{numberOf}
@@ -46,21 +47,23 @@ pub record SaysNot (q : Refusal) (n : ℕ) (old new : List ℕ) : Type 0 where
   pub number : n ≡ numberOf q
   pub kept : new ≡ old
 
--- The reply a of the specification, in words; its lists stand at the front of `numbers`, the second behind the first.
-pub record SaysIn (a : Answer) (n : ℕ) (numbers new : List ℕ) : Type 0 where
+-- The reply a of the specification, in words; its lists stand at the front of `numbers`, the second behind the first, and what stands behind
+-- them is as it was in `before`.
+pub record SaysIn (a : Answer) (n : ℕ) (before numbers new : List ℕ) : Type 0 where
   pub number : n ≡ 0
   pub reply : ReplyLine
   pub says : Says (replied reply numbers) (Accepted a)
   pub words : new ≡ answerWords reply
+  pub past : drop (reply .first + reply .second) numbers ≡ drop (reply .first + reply .second) before
 
-abbrev pub SaysAs : Outcome → ℕ → List ℕ → List ℕ → List ℕ → Type 0
-SaysAs (Refused q) n numbers old new = SaysNot q n old new
-SaysAs (Accepted a) n numbers old new = SaysIn a n numbers new
+abbrev pub SaysAs : Outcome → ℕ → List ℕ → List ℕ → List ℕ → List ℕ → Type 0
+SaysAs (Refused q) n before numbers old new = SaysNot q n old new
+SaysAs (Accepted a) n before numbers old new = SaysIn a n before numbers new
 
 -- The state takes the turn t, and the answer, which was `head` and is `said`, is its reply.
 pub record Performs (ws : List ℕ) (old : Lent) (t : Turn) (n : ℕ) (after : List ℕ) (new : Lent) (head said : List ℕ) : Type 0 where
   pub takes : Takes ws old t after new
-  pub answer : SaysAs (t .reply) n (new .lists) head said
+  pub answer : SaysAs (t .reply) n (old .lists) (new .lists) head said
 
 -- .. the turn of a call: 14 "before site"
 abbrev pub PerformsCall : List ℕ → Lent → Call → ℕ → List ℕ → Lent → List ℕ → List ℕ → Type 0

@@ -6,6 +6,10 @@ use lib.Dec.{eqb}
 use lib.ListN.{getD}
 use Rattle.session.specs.declared.Session.{Session}
 
+-- how many words they are
+abbrev pub counterWords : ℕ
+counterWords = 10
+
 -- The session whose counters are the words.
 unfoldable pub sessionAt : List ℕ → Session
 sessionAt ws =

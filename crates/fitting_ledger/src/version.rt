@@ -1,6 +1,10 @@
 // What a header must agree with before it lends anything.
 ghost use mathlib.Core.Path.{_≡_};
-ghost use Rattle.forms.specs.Limits.{replyLimit};
+ghost use Prim.Native.Nat.{_+_, _*_};
+ghost use Rattle.forms.specs.Limits.{liveLimit, replyLimit};
+ghost use Rattle.history.specs.Words.{bookLength};
+ghost use Rattle.table.specs.Rows.{rowWidth};
+ghost use Rattle.fitting_ledger.specs.Counters.{counterWords};
 use super::counters::COUNTERS;
 use forms::limits::HISTORIES;
 use forms::limits::LIVE;
@@ -18,7 +22,9 @@ pub extern "C" fn fl_version() -> u64
 
 // The bytes of a state: its counters, its table's rows and the numbers of its histories, of eight bytes each, and the order of its entries.
 #[no_mangle]
-pub extern "C" fn fl_state_bytes() -> usize {
+pub extern "C" fn fl_state_bytes() -> usize
+    ensures { λ n. ⌜ n ≡ 8 * (counterWords + liveLimit * rowWidth + bookLength) + liveLimit ⌝ }
+{
     8 * (COUNTERS + LIVE * ROW + HISTORIES * WIDTH) + LIVE
 }
 
