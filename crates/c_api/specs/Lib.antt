@@ -10,3 +10,5 @@ pub mod RecordCalls
 pub mod RecordCallLaws
 pub mod Polls
 pub mod PollCallLaws
+pub mod Changeovers
+pub mod ChangeoverLaws

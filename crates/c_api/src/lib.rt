@@ -5,3 +5,4 @@ pub mod polls;
 pub mod record_calls;
 pub mod restart;
 pub mod rounds;
+pub mod upgrade;

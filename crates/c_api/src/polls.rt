@@ -10,6 +10,7 @@ use session::Session;
 use site::Site;
 use site::poll::PollAnswer;
 use stream::run_session;
+use table::rows::ROW;
 
 // The number for what a poll says.
 fn poll_number(p: PollAnswer) -> u64
@@ -47,7 +48,7 @@ fn poll_each(session: Session, book: &BookWords, histories: &mut [u64])
     }
 }
 
-// A whole session as above, and each number of `histories` becomes what a poll of that history gives at its end: 1,001 if it is dry, 1,000
+// A whole session, and each number of `histories` becomes what a poll of that history gives at its end: 1,001 if it is dry, 1,000
 // if not, a refusal's number if there is none. They stay as they are where `out` is too short, or nearly.
 #[no_mangle]
 pub extern "C" fn session_polls(
@@ -58,7 +59,7 @@ pub extern "C" fn session_polls(
 ) -> usize
     ensures { λ r. ⌜ PlaysPolls (was input) (was log) r (left log) (was out) (left out) (was histories) (left histories) ⌝ }
 {
-    let mut rows = [0u64; 1472];
+    let mut rows = [0u64; Site::LIVE * ROW];
     let mut order = [0u8; 64];
     let mut book = [0u64; Site::HISTORIES * WIDTH];
     let mut lists = [0u64; 68];

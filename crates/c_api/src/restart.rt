@@ -6,6 +6,7 @@ use forms::writer::Written;
 use forms::writer::write_reply;
 use history::book::WIDTH;
 use site::Site;
+use table::rows::ROW;
 
 // A place in a buffer as a plain number: 2^64 − 1 where there was no room.
 pub fn code(w: Written) -> usize
@@ -22,10 +23,10 @@ pub fn code(w: Written) -> usize
 pub extern "C" fn site_restart(log: &[u8], k: usize, out: &mut [u8]) -> usize
     ensures { λ r. ⌜ PutsText (replyText (restart (now (log .entry)) k)) (now (out .entry)) r (now (out .exit)) ⌝ }
 {
-    let rows = [0u64; 1472];
+    let mut rows = [0u64; Site::LIVE * ROW];
     let mut order = [0u8; 64];
     let mut book = [0u64; Site::HISTORIES * WIDTH];
-    let c = Site::restart(log, &rows, &mut order, &mut book, k);
+    let c = Site::restart(log, &mut rows, &mut order, &mut book, k);
     let reply = c.reply;
     let form = reply.form;
     let w = write_reply(out, 0, form, &[], &[]);

@@ -17,6 +17,7 @@ use history::book::BookWords;
 use history::book::WIDTH;
 use site::Site;
 use table::order::Order;
+use table::rows::ROW;
 use table::rows::Rows;
 
 // One update: part 0 of a history's profile becomes 7.
@@ -59,7 +60,7 @@ fn one_operation(
 // The first n operations become persistent and stable.
 fn mark(
     site: Site,
-    log: &[u8],
+    log: &mut [u8],
     rows: &Rows,
     order: &mut Order,
     book: &mut BookWords,
@@ -103,7 +104,7 @@ fn round(
 pub extern "C" fn site_add_and_finish(log: &mut [u8], n: u64) -> usize
     ensures { λ r. ⌜ Rounds (openSite 4 (length (now (log .entry)))) n (now (log .entry)) r (now (log .exit)) ⌝ }
 {
-    let mut rows = [0u64; 1472];
+    let mut rows = [0u64; Site::LIVE * ROW];
     let mut order = [0u8; 64];
     let mut book = [0u64; Site::HISTORIES * WIDTH];
     let c = Site::open(log, &rows, &mut order, &mut book, 4);

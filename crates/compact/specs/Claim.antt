@@ -1,4 +1,5 @@
--- Request (m): what is claimed of the module beyond the rules. "So a module's neighbours can fill the rest and its profiles still return after a cut as before."
+-- Request (m): what is claimed of the module beyond the rules. "So a module's neighbours can fill the rest and its profiles still return
+-- after a cut as before."
 use mathlib.Core.Path.{_≡_}
 use mathlib.Core.Bool.{Bool, true, not, cond}
 use mathlib.Core.List.{List, [], _∷_, _++_}
@@ -8,9 +9,9 @@ use lib.Dec.{T, eqb}
 use Rattle.forms.specs.Lists.{all}
 use Rattle.forms.specs.Forms.{Did}
 use Rattle.forms.specs.Limits.{logLimit}
-use Rattle.rules.specs.State.{State}
-use Rattle.rules.specs.Calls.{opened, Call}
-use Rattle.recovery.specs.Claim.{Start, lostBy, Recovered}
+use Rattle.rules.specs.State.{State, ok}
+use Rattle.rules.specs.Calls.{opened, Call, Cut}
+use Rattle.recovery.specs.Claim.{Start, Fair, lostBy, Recovered}
 use Rattle.recovery.specs.Arrival.{every, SameWork, AllThree}
 use Rattle.recovery.specs.Host.{Host, runIn, countedIn, cameIn, FairIn, AskedIn}
 use Rattle.compact.specs.Module.{Module, slotAt, Move, At, Open, Restart, replyOf, nextOf}
@@ -38,6 +39,16 @@ goesOn i (At j c) = true
 goesOn i (Open j n room) = true
 goesOn i (Restart j buffer k) = not (eqb j i)
 
+-- ### A fair cut
+
+-- A cut of slot i's site that is fair for the site alone is accepted by the module, and does the same: it is never refused 10.
+abbrev pub FairCutAccepted : Type 0
+FairCutAccepted =
+    (i counts : ℕ) (start : Module) → Fits start → (site : State) → slotAt i start .site ≡ some site → Start counts site →
+    (xs : List Move) → T (all (goesOn i) xs) → (k room : ℕ) (after : State) →
+    (f : Fair (countedIn (inSlot i) counts xs start) k room (siteOr (slotAt i (runIn (inSlot i) xs start) .site)) after) →
+    replyOf (At i (Cut k room)) (runIn (inSlot i) xs start) ≡ ok after (f .answer)
+
 -- ### Recovery, for each slot, with any neighbours
 
 -- A list of the module's calls as the recovery promise asks it of slot i; of the other slots' calls nothing is asked.
@@ -58,7 +69,8 @@ pub record SlotList (i : ℕ) (chosen : Did → Bool) : Type 0 where
   pub after : State
   pub on : T (all (goesOn i) (xs ++ x ∷ ys))
   pub fair : FairIn (inSlot i) (countedIn (inSlot i) counts xs start) k room x (runIn (inSlot i) xs start) after
-  pub asked : AskedIn (inSlot i) counts start (λ a. xs ++ x ∷ a) ys (lostBy (siteOr (slotAt i (runIn (inSlot i) xs start) .site)) after) chosen
+  pub asked : AskedIn (inSlot i) counts start (λ a. xs ++ x ∷ a) ys
+      (lostBy (siteOr (slotAt i (runIn (inSlot i) xs start) .site)) after) chosen
 
 -- slot i's site just before the picked cut, and at the end
 abbrev pub beforeCut : {i : ℕ} {chosen : Did → Bool} → SlotList i chosen → State
@@ -71,7 +83,8 @@ atEnd {i} l = siteOr (slotAt i (runIn (inSlot i) (l .xs ++ l .x ∷ l .ys) (l .s
 abbrev pub SlotClaim : Type 0
 SlotClaim =
     (i : ℕ) (chosen : Did → Bool) (l : SlotList i chosen) →
-    Recovered (beforeCut l) (l .after) (lostBy (beforeCut l) (l .after)) chosen (cameIn (inSlot i) [] (l .xs ++ l .x ∷ l .ys) (l .start)) (atEnd l)
+    Recovered (beforeCut l) (l .after) (lostBy (beforeCut l) (l .after)) chosen (cameIn (inSlot i) [] (l .xs ++ l .x ∷ l .ys) (l .start))
+    (atEnd l)
 
 -- (n): "It is to hold .. for the compact module and with further cuts between."
 abbrev pub SlotArrival : Type 0

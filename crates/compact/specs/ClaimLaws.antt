@@ -22,10 +22,12 @@ use Rattle.recovery.specs.Arrival.{every}
 use Rattle.recovery.specs.ArrivalLaws.{all-three}
 use Rattle.recovery.specs.Host.{Host, Plays, runIn, Playing, Roomy, ListIn}
 use Rattle.recovery.specs.HostLaws.{run-append, never-ten, host-recovery, host-arrival}
-use Rattle.compact.specs.Module.{Slot, Module, slotAt, openedIn, meetsTen, promisedAgain, promiseAfter, Move, At, Open, Restart, slotOf, callAt, replyOf, promiseOf, settleIn, nextOf}
+use Rattle.compact.specs.Module.{Slot, Module, slotAt, openedIn, meetsTen, promisedAgain, promiseAfter, Move, At, Open}
+use Rattle.compact.specs.Module.{Restart, slotOf, callAt, replyOf, promiseOf, settleIn, nextOf}
 use Rattle.compact.specs.Fits.{at-with, at-other, opened-below, Fits}
 use Rattle.compact.specs.FitsLaws.{Again, slot-again, live-is, fits-next, promise-kept}
-use Rattle.compact.specs.Claim.{siteOr, ownOf, inSlot, goesOn, SlotList, beforeCut, atEnd, SlotClaim, SlotArrival, SlotOrders}
+use Rattle.compact.specs.Claim.{siteOr, ownOf, inSlot, goesOn, SlotList, beforeCut, atEnd, SlotClaim, SlotArrival}
+use Rattle.compact.specs.Claim.{SlotOrders}
 
 -- ### Another slot's call
 
@@ -39,7 +41,7 @@ next-other i x m out = settle-other i (slotOf x) (replyOf x m) _ m out
 
 -- ### The module plays by the rules
 
-abbrev Opened : ℕ → Module → Type 0
+abbrev pub Opened : ℕ → Module → Type 0
 Opened i m = (st : State) × (slotAt i m .site ≡ some st)
 
 -- What a move does to slot i's site.
@@ -51,12 +53,14 @@ does-other i x m out (st, at) =
     let e = ap (λ (s : Slot). s .site) (next-other i x m out) in (ap siteOr e, (st, e ∙ at))
 
 -- A slot as a reply leaves it.
-settle-own : (i : ℕ) (r : Reply) (p : ℕ) (m : Module) (st : State) → slotAt i m .site ≡ some st → slotAt i (settleIn i r p m) .site ≡ some (settle r st)
+settle-own : (i : ℕ) (r : Reply) (p : ℕ) (m : Module) (st : State) → slotAt i m .site ≡ some st →
+    slotAt i (settleIn i r p m) .site ≡ some (settle r st)
 unfolding settle
 settle-own i (refused r) p m st at = at
 settle-own i (ok after answer) p m st at = ap (λ (s : Slot). s .site) (at-with i _ m (opened-below i m st at))
 
-next-own : (i : ℕ) (c : Call) (m : Module) (st : State) → slotAt i m .site ≡ some st → slotAt i (nextOf (At i c) m) .site ≡ some (settle (replyOf (At i c) m) st)
+next-own : (i : ℕ) (c : Call) (m : Module) (st : State) → slotAt i m .site ≡ some st →
+    slotAt i (nextOf (At i c) m) .site ≡ some (settle (replyOf (At i c) m) st)
 unfolding nextOf
 next-own i c m st at = settle-own i (replyOf (At i c) m) _ m st at
 
@@ -106,7 +110,8 @@ does i (Open j n room) m o t = go (eqb j i) refl
     go : (b : Bool) → eqb j i ≡ b → Does i none (Open j n room) m
     go true e = subst (λ (k : ℕ). Does i none (Open k n room) m) (sym (eqb→eq j i (true-T (eqb j i) e))) (same (open-refused i n room m o))
     go false e = does-other i (Open j n room) m (not-eq i j e) o
-does i (Restart j buffer k) m o t = does-other i (Restart j buffer k) m (λ p. T-not (eqb j i) t (subst (λ (n : ℕ). T (eqb j n)) p (eqb-refl j))) o
+does i (Restart j buffer k) m o t =
+    does-other i (Restart j buffer k) m (λ p. T-not (eqb j i) t (subst (λ (n : ℕ). T (eqb j n)) p (eqb-refl j))) o
 
 pub plays-all : (i : ℕ) (xs : List Move) (m : Module) → Opened i m → T (all (goesOn i) xs) → Playing (inSlot i) xs m
 plays-all i [] m o t = tt
@@ -114,13 +119,14 @@ plays-all i (x ∷ xs) m o t =
     let d = does i x m o (and-left (goesOn i x) (all (goesOn i) xs) t) in
     (d .0, plays-all i xs (nextOf x m) (d .1) (and-right (goesOn i x) (all (goesOn i) xs) t))
 
-opened-all : (i : ℕ) (xs : List Move) (m : Module) → Opened i m → T (all (goesOn i) xs) → Opened i (runIn (inSlot i) xs m)
+pub opened-all : (i : ℕ) (xs : List Move) (m : Module) → Opened i m → T (all (goesOn i) xs) → Opened i (runIn (inSlot i) xs m)
 unfolding runIn
 opened-all i [] m o t = o
 opened-all i (x ∷ xs) m o t =
-    opened-all i xs (nextOf x m) (does i x m o (and-left (goesOn i x) (all (goesOn i) xs) t) .1) (and-right (goesOn i x) (all (goesOn i) xs) t)
+    opened-all i xs (nextOf x m) (does i x m o (and-left (goesOn i x) (all (goesOn i) xs) t) .1)
+    (and-right (goesOn i x) (all (goesOn i) xs) t)
 
-fits-all : (i : ℕ) (xs : List Move) (m : Module) → Fits m → Fits (runIn (inSlot i) xs m)
+pub fits-all : (i : ℕ) (xs : List Move) (m : Module) → Fits m → Fits (runIn (inSlot i) xs m)
 unfolding runIn
 fits-all i [] m F = F
 fits-all i (x ∷ xs) m F = fits-all i xs (nextOf x m) (fits-next x m F)
@@ -139,7 +145,8 @@ call-promise (Cut k room) s out A = A .more
 call-promise (Redo line) s out A = omega arith
 call-promise End s out A = absurd (out refl)
 
-own-promise : (i : ℕ) (c : Call) (m : Module) → Fits m → Opened i m → ((after : State) (answer : Answer) → c ≡ End → replyOf (At i c) m ≡ ok after answer → ⊥) →
+own-promise : (i : ℕ) (c : Call) (m : Module) → Fits m → Opened i m →
+    ((after : State) (answer : Answer) → c ≡ End → replyOf (At i c) m ≡ ok after answer → ⊥) →
     slotAt i m .promise ≤ slotAt i (nextOf (At i c) m) .promise
 unfolding nextOf promiseOf
 own-promise i c m F (st, at) out = go (replyOf (At i c) m) refl
@@ -157,10 +164,12 @@ same-promise : (i : ℕ) (m w : Module) → slotAt i w ≡ slotAt i m → slotAt
 same-promise i m w e = omega (arith, ap (λ (s : Slot). s .promise) e)
 
 next-promise : (i : ℕ) (x : Move) (m : Module) → Fits m → Opened i m → T (goesOn i x) →
-    ((after : State) (answer : Answer) → ownOf i x ≡ some End → replyOf x m ≡ ok after answer → ⊥) → slotAt i m .promise ≤ slotAt i (nextOf x m) .promise
+    ((after : State) (answer : Answer) → ownOf i x ≡ some End → replyOf x m ≡ ok after answer → ⊥) → slotAt i m .promise ≤ slotAt i
+    (nextOf x m) .promise
 next-promise i (At j c) m F o t out = go (eqb j i) refl (λ after answer p e. out after answer p e)
   where
-    go : (b : Bool) → eqb j i ≡ b → ((after : State) (answer : Answer) → cond b (some c) none ≡ some End → replyOf (At j c) m ≡ ok after answer → ⊥) →
+    go : (b : Bool) → eqb j i ≡ b →
+        ((after : State) (answer : Answer) → cond b (some c) none ≡ some End → replyOf (At j c) m ≡ ok after answer → ⊥) →
         slotAt i m .promise ≤ slotAt i (nextOf (At j c) m) .promise
     go true e h =
         subst (λ (k : ℕ). ((after : State) (answer : Answer) → some c ≡ some End → replyOf (At k c) m ≡ ok after answer → ⊥) → slotAt i m .promise ≤ slotAt i (nextOf (At k c) m) .promise)
@@ -195,7 +204,8 @@ all-promise i (x ∷ xs) m F o t out =
 
 all-first : (f : Move → Bool) (a b : List Move) → T (all f (a ++ b)) → T (all f a)
 all-first f [] b t = tt
-all-first f (x ∷ a) b t = and-intro (f x) (all f a) (and-left (f x) (all f (a ++ b)) t) (all-first f a b (and-right (f x) (all f (a ++ b)) t))
+all-first f (x ∷ a) b t =
+    and-intro (f x) (all f a) (and-left (f x) (all f (a ++ b)) t) (all-first f a b (and-right (f x) (all f (a ++ b)) t))
 
 all-last : (f : Move → Bool) (a b : List Move) → T (all f (a ++ b)) → T (all f b)
 all-last f [] b t = t
@@ -214,7 +224,8 @@ own-at i (Open j n room) c p = absurd (let z : _≡_ {A = ℕ} 0 1 = cc in omega
 own-at i (Restart j buffer k) c p = absurd (let z : _≡_ {A = ℕ} 0 1 = cc in omega arith)
 
 -- An accepted cut raises the promise to what was live.
-cut-promise : (i : ℕ) (x : Move) (k room : ℕ) (m : Module) (after : State) (answer : Answer) → Fits m → (o : Opened i m) → x ≡ At i (Cut k room) →
+cut-promise : (i : ℕ) (x : Move) (k room : ℕ) (m : Module) (after : State) (answer : Answer) → Fits m → (o : Opened i m) →
+    x ≡ At i (Cut k room) →
     replyOf x m ≡ ok after answer → live (o .0) ≤ slotAt i (nextOf x m) .promise
 unfolding nextOf promiseOf
 cut-promise i x k room m after answer F (st, at) p e =
@@ -278,7 +289,8 @@ module _ (i : ℕ) (chosen : Did → Bool) (l : SlotList i chosen) where
   world-is a = run-append (inSlot i) (l .xs) (l .x ∷ a) (l .start)
 
   -- and at every later moment
-  promised-on : (a b : List Move) → l .ys ≡ a ++ b → live (siteOr (slotAt i first .site)) ≤ slotAt i (runIn (inSlot i) a (nextOf (l .x) first)) .promise
+  promised-on : (a b : List Move) → l .ys ≡ a ++ b →
+      live (siteOr (slotAt i first .site)) ≤ slotAt i (runIn (inSlot i) a (nextOf (l .x) first)) .promise
   promised-on a b e =
       omega (
         arith,
@@ -295,7 +307,7 @@ module _ (i : ℕ) (chosen : Did → Bool) (l : SlotList i chosen) where
   roomy a y b line e own lt ten =
       promise-kept i world fits (isOpen .0) (isOpen .1)
       (omega (arith, promised-on a (y ∷ b) e, ap (λ (o : Option State). live (siteOr o)) (isOpen .1), ap (λ (w : Module). live (siteOr (slotAt i w .site))) (world-is a)))
-      (Redo line)
+      (Redo line) refl
       (ap (λ (x : Move). replyOf x world) (sym (own-at i y (Redo line) own)) ∙ ap (λ (w : Module). replyOf y w) (sym (world-is a)) ∙ ten)
     where
       world : Module
@@ -338,10 +350,12 @@ unfolding hosted
 slot-arrival i l = host-arrival (inSlot i) (hosted i every l)
 
 pub slot-orders : SlotOrders
-slot-orders i j l k same = all-three (beforeCut l .log) (beforeCut k .log) (atEnd l .log) (atEnd k .log) same (slot-arrival i l) (slot-arrival j k)
+slot-orders i j l k same =
+    all-three (beforeCut l .log) (beforeCut k .log) (atEnd l .log) (atEnd k .log) same (slot-arrival i l) (slot-arrival j k)
 
 -- After the picked cut a chosen line that neither waits nor has run is never refused 10, whatever the neighbours do.
-pub slot-never-ten : (i : ℕ) (chosen : Did → Bool) (l : SlotList i chosen) (a : List Move) (b : List Move) (d : Did) → l .ys ≡ a ++ At i (Redo (didText d)) ∷ b →
+pub slot-never-ten : (i : ℕ) (chosen : Did → Bool) (l : SlotList i chosen) (a : List Move) (b : List Move) (d : Did) →
+    l .ys ≡ a ++ At i (Redo (didText d)) ∷ b →
     Mem d (lostBy (beforeCut l) (l .after)) → (Mem d (siteOr (slotAt i (runIn (inSlot i) (l .xs ++ l .x ∷ a) (l .start)) .site) .log) → ⊥) →
     (Mem d (siteOr (slotAt i (runIn (inSlot i) (l .xs ++ l .x ∷ a) (l .start)) .site) .waiting) → ⊥) →
     replyOf (At i (Redo (didText d))) (runIn (inSlot i) (l .xs ++ l .x ∷ a) (l .start)) ≡ refused TableFull → ⊥

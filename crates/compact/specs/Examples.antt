@@ -1,11 +1,39 @@
 -- Tables filled to their edges: what the tests of 10 say.
 use mathlib.Core.Path.{_≡_, refl}
 use mathlib.Core.Bool.{Bool, true, false}
-use mathlib.Core.List.{List, [], _∷_}
-use mathlib.Core.Option.{some}
+use mathlib.Core.List.{List, [], _∷_, _++_}
+use mathlib.Core.Option.{Option, none, some}
 use Prim.Native.Nat.{ℕ, zero, suc}
-use Rattle.rules.specs.State.{Operation, State, liveDone, live}
-use Rattle.compact.specs.Module.{Slot, unopened, slotAt, others, liveOf, lacks, free, taken, uncovered, promisedAgain}
+use Rattle.forms.specs.Lists.{below}
+use Rattle.forms.specs.Words.{word}
+use Rattle.forms.specs.Decimal.{digitsWithin, digits, more, number}
+use Rattle.forms.specs.Forms.{Did, Answer, Restarted, fieldText, fieldsText, itemsText, tailText, listText, changeText, oneText}
+use Rattle.forms.specs.Forms.{siteText, didText, stableText, lineText}
+use Rattle.forms.specs.Reading as reading
+use Rattle.forms.specs.Reading.{readDid, readLine, readSite, readWhole}
+use Rattle.forms.specs.declared.DoneRule.the-variants.{DidInc}
+use Rattle.forms.specs.declared.Refusal.the-variants.{TableFull, AboveLimit, BadLog}
+use Rattle.rules.specs.Rules.{profileOf, replacedWith}
+use Rattle.rules.specs.Book.{enteredWith, enterWith, enterAllWith, cellFromWith, cellWith, touches, runsAt, canRunWith}
+use Rattle.rules.specs.Log.{stablesFrom, stablesAt, weaveFrom, markFrom, upToDid, reported, ended, didsText, linesText, logText, linesFrom}
+use Rattle.rules.specs.Log.{restFrom, historiesFit, acceptsWith, rises, follows, liveIn, tableHolds, readLines, readFirst, readLog}
+use Rattle.rules.specs.Checks.{check, andThen, wrongCount, noSuchHistory, historyTwice, updateMisfits, changeMisfitsWith, formRefusal}
+use Rattle.rules.specs.Checks.{updatesRefusal, changesRefusalWith}
+use Rattle.rules.specs.Calls.{neverNow, holdsNever, overtaken, notOvertaken, overtakenIds, atHighest}
+use Rattle.rules.specs.Calls.{Cut, unless, openFull, openRefusal, opened, openSite, blockedBy, blocked, mayRunNow, ready, attempt, tryFrom}
+use Rattle.rules.specs.Calls.{madeReady}
+use Rattle.rules.specs.Calls.{nothingOrders, idPending, idDone, alreadyDone, readOvertaken, tableFull, addRefusal, arrived, add, changeOf}
+use Rattle.rules.specs.Calls.{lineOf, valuesAfter, inProgress}
+use Rattle.rules.specs.Calls.{future, without, logFull, finished, finishFound, finish, withdrawRefusal, withdraw, persistent, aboveMark}
+use Rattle.rules.specs.Calls.{stableFull, stableRefusal, stabled}
+use Rattle.rules.specs.Calls.{stable, show, restarted, restartAs, restart, cutAbove, cut, stale, redoRefusal, behind, pick, drain}
+use Rattle.rules.specs.Calls.{delivered}
+use Rattle.rules.specs.Calls.{redoRead, redo, end, writableUpdate, writable, perform, step}
+use Rattle.rules.specs.When.{addWhen, redoReadWhen, redoWhen, lastly, cutWhen, performWhen, stepWhen}
+use Rattle.rules.specs.State.{Operation, State, Reply, refused, ok, logBytes, versionAt, liveDone, live, asks, dry, becameDry, rose}
+use Rattle.rules.specs.State.{lineBytes, bytesOf, settle}
+use Rattle.compact.specs.Module.{Slot, unopened, Module, slotAt, withSlot, others, liveOf, lacks, free, taken, uncovered, meetsTen}
+use Rattle.compact.specs.Module.{promisedAgain, At, replyOf, promiseOf, nextOf}
 
 operations : ℕ → List Operation
 operations zero = []
@@ -13,7 +41,8 @@ operations (suc n) = record { id = n; updates = []; running = false } ∷ operat
 
 -- a site with n operations live
 having : ℕ → Bool → State
-having n r = record { histories = 1; room = 1000; log = []; pending = operations n; waiting = []; persistentTo = 0; stableTo = 0; restoring = r }
+having n r =
+    record { histories = 1; room = 1000; log = []; stables = []; pending = operations n; waiting = []; persistentTo = 0; leftTo = 0; restoring = r }
 
 abbrev at : ℕ → Slot
 at n = record { site = some (having n false); promise = 16 }
@@ -70,3 +99,52 @@ forty-uncovered = refl
 sixteen-covered : uncovered 0 16 (at 0 ∷ at 64 ∷ at 32 ∷ at 16 ∷ []) ≡ false
 unfolding uncovered free lacks liveOf live liveDone others slotAt operations having
 sixteen-covered = refl
+
+-- ### A cut that would make forty live again
+
+answerTo : Reply → Option Answer
+answerTo (refused r) = none
+answerTo (ok after answer) = some answer
+
+-- (did J (inc 0 J J 7))
+abbrev lined : ℕ → Did
+lined j = record { id = j; changes = record { rule = DidInc; history = 0; version = j; place = j; operand = 7 } ∷ [] }
+
+dones : ℕ → List Did
+dones zero = []
+dones (suc n) = dones n ++ lined (suc n) ∷ []
+
+-- forty operations done, persistent and stable, their stable line covered: nothing is live
+forty : State
+forty =
+    record {
+      histories = 1;
+      room = 65536;
+      log = dones 40;
+      stables = record { behind = 40; upTo = 40 } ∷ [];
+      pending = [];
+      waiting = [];
+      persistentTo = 40;
+      leftTo = 40;
+      restoring = false;
+    }
+
+-- that site, and neighbours with 64, 32 and 16 live
+abbrev crowded : Module
+crowded = record { site = some forty; promise = 16 } ∷ at 64 ∷ at 32 ∷ at 16 ∷ []
+
+-- The log has 994 bytes, the last 12 of them the stable line. Without it all forty are live again, and 16 entries are free: 10.
+record Forty : Type 0 where
+  ten : replyOf (At 0 (Cut 982 65536)) crowded ≡ refused TableFull
+  -- 13 and 15 come before it
+  above : replyOf (At 0 (Cut 995 65536)) crowded ≡ refused AboveLimit
+  torn : replyOf (At 0 (Cut 3 65536)) crowded ≡ refused BadLog
+  -- sixteen kept live lines are covered
+  sixteen : answerTo (replyOf (At 0 (Cut 382 65536)) crowded) ≡ some (Restarted 16 382)
+  seventeen : replyOf (At 0 (Cut 407 65536)) crowded ≡ refused TableFull
+  -- the whole log: the stable line is kept, nothing is live
+  whole : answerTo (replyOf (At 0 (Cut 994 65536)) crowded) ≡ some (Restarted 40 994)
+
+forty-cut : Forty
+unfolding replacedWith profileOf enteredWith enterWith enterAllWith cellFromWith cellWith touches runsAt canRunWith unless openFull openRefusal opened openSite blockedBy blocked mayRunNow ready attempt tryFrom madeReady neverNow holdsNever overtaken notOvertaken overtakenIds nothingOrders idPending idDone alreadyDone readOvertaken atHighest tableFull addRefusal arrived add changeOf lineOf valuesAfter inProgress future without logFull finished finishFound finish withdrawRefusal withdraw persistent aboveMark stableFull stableRefusal stabled stable show restarted restartAs restart cutAbove cut stale redoRefusal behind pick drain delivered redoRead redo end writableUpdate writable perform step check andThen wrongCount noSuchHistory historyTwice updateMisfits changeMisfitsWith formRefusal updatesRefusal changesRefusalWith stablesFrom stablesAt weaveFrom markFrom upToDid reported ended didsText linesText logText linesFrom restFrom historiesFit acceptsWith rises follows liveIn tableHolds readLines readFirst readLog logBytes versionAt liveDone live asks dry becameDry rose lineBytes bytesOf settle below digitsWithin digits more number word fieldText fieldsText itemsText tailText listText changeText oneText siteText didText stableText lineText reading.field reading.doneRule reading.change reading.one reading.did reading.items reading.tail reading.line readWhole readDid readLine readSite addWhen redoReadWhen redoWhen lastly cutWhen performWhen stepWhen slotAt withSlot others liveOf lacks free taken uncovered meetsTen promisedAgain replyOf promiseOf nextOf operations having dones forty answerTo
+forty-cut = record { ten = refl; above = refl; torn = refl; sixteen = refl; seventeen = refl; whole = refl }

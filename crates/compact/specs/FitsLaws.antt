@@ -1,6 +1,6 @@
 -- Every call of the module keeps the invariant; and what it says of refusal 10.
 use mathlib.Core.Path.{_≡_, refl, sym, ap, _∙_, subst}
-use mathlib.Core.Logic.{_⊎_, inl, inr}
+use mathlib.Core.Logic.{_⊎_, inl, inr, _↔_}
 use mathlib.Core.Bool.{Bool, true, false}
 use mathlib.Core.List.{List, [], _∷_}
 use mathlib.Core.Option.{Option, none, some}
@@ -19,13 +19,17 @@ use Rattle.forms.specs.Limits.{liveLimit}
 use Rattle.rules.specs.State.{State, Reply, refused, ok, live, settle}
 use Rattle.rules.specs.Calls.{unless, tableFull, restart, Call, Add, Finish, Withdraw, Persistent, Stable, Show, Cut, Redo, End, step}
 use Rattle.rules.specs.When.{lastly, stepWhen, meets}
-use Rattle.rules.specs.WhenLaws.{when-ok, ten-why, ten-met, lastly-ten, lastly-ok, lastly-why, restart-not-ten, unless-over, unless-not-ten, check-not-ten, none-not-ten, isTenth, differs, refused-same}
+use Rattle.rules.specs.WhenLaws.{when-ok, ten-why, ten-met, ten-exactly, lastly-ten, lastly-ok, lastly-why, restart-not-ten, unless-over}
+use Rattle.rules.specs.WhenLaws.{unless-not-ten, check-not-ten, none-not-ten, isTenth, differs, refused-same}
 use Rattle.rules.specs.Good.{Good}
 use Rattle.rules.specs.GoodLaws.{good-step, good-open, good-restart}
 use Rattle.rules.specs.CheckLaws.{refused-not-ok, unless-ok, unless-check, not-lt, or-false-left}
-use Rattle.rules.specs.LiveLaws.{takes, live-step, live-cut, live-restarted, live-opened, restores, restoring-step, restoring-restarted}
-use Rattle.compact.specs.Module.{slotLimit, entryLimit, least, Slot, Module, slotAt, withSlot, others, liveIn, restoringIn, openedIn, liveOf, taken, uncovered, keptLive, meetsTen, promisedAgain, promiseAfter, Move, At, Open, Restart, slotOf, callAt, replyOf, promiseOf, settleIn, nextOf, runAll}
-use Rattle.compact.specs.Fits.{claims, GoodSlot, Fits, opened-below, parted, taken-is, not-taken, uncovered-is, covered, fits-with, mine}
+use Rattle.rules.specs.LiveLaws.{takes, live-step, live-opened, restores, restoring-step, restoring-restarted}
+use Rattle.compact.specs.Module.{slotLimit, entryLimit, least, Slot, Module, slotAt, withSlot, others, liveIn, restoringIn, openedIn}
+use Rattle.compact.specs.Module.{liveOf, taken, uncovered, keptLive, meetsTen, restartsSite, promisedAgain, promiseAfter, Move, At}
+use Rattle.compact.specs.Module.{Open, Restart, slotOf, callAt, replyOf, promiseOf, settleIn, nextOf, runAll}
+use Rattle.compact.specs.Fits.{claims, GoodSlot, Fits, opened-below, parted, taken-is, not-taken, uncovered-is, covered, fits-with}
+use Rattle.compact.specs.Fits.{mine}
 
 -- ### The promise after a cut or restart
 
@@ -90,7 +94,8 @@ module _ (i : ℕ) (m : Module) (F : Fits m) (st : State) (at : slotAt i m .site
     new : ℕ → Slot
     new p = record { site = some after; promise = p }
 
-    new-fits : (p : ℕ) → least ≤ p → p ≤ liveLimit → (after .restoring ≡ false → p ≡ least) → max (live after) p + sum claims (others i m) ≤ entryLimit →
+    new-fits : (p : ℕ) → least ≤ p → p ≤ liveLimit → (after .restoring ≡ false → p ≡ least) →
+        max (live after) p + sum claims (others i m) ≤ entryLimit →
         Fits (withSlot i (new p) m)
     unfolding new claims liveOf
     new-fits p low high ended le =
@@ -101,19 +106,23 @@ module _ (i : ℕ) (m : Module) (F : Fits m) (st : State) (at : slotAt i m .site
         same a b e = cc
 
     -- the promise stays, and so does restoring
-    stays : (k : ℕ) → live after ≤ live st + k → live st + k + sum claims (others i m) ≤ entryLimit ⊎ (k ≡ 0) → st .restoring ≡ after .restoring →
+    stays : (k : ℕ) → live after ≤ live st + k → live st + k + sum claims (others i m) ≤ entryLimit ⊎ (k ≡ 0) →
+        st .restoring ≡ after .restoring →
         Fits (withSlot i (new (slotAt i m .promise)) m)
     stays k le room e =
-        new-fits (slotAt i m .promise) (slot-good .promised) (slot-good .mayUse) (λ off. slot-good .ended (ap restoringIn at ∙ e ∙ off)) (go room)
+        new-fits (slotAt i m .promise) (slot-good .promised) (slot-good .mayUse) (λ off. slot-good .ended (ap restoringIn at ∙ e ∙ off))
+        (go room)
       where
-        go : live st + k + sum claims (others i m) ≤ entryLimit ⊎ (k ≡ 0) → max (live after) (slotAt i m .promise) + sum claims (others i m) ≤ entryLimit
+        go : live st + k + sum claims (others i m) ≤ entryLimit ⊎ (k ≡ 0) →
+            max (live after) (slotAt i m .promise) + sum claims (others i m) ≤ entryLimit
         go (inl r) = omega (arith, part)
         go (inr z) = omega (arith, part)
 
     room-left : taken i m ≡ false → live st + 1 + sum claims (others i m) ≤ entryLimit
     room-left e = omega (arith, not-taken i m F below e, live-is)
 
-    by-call : (c : Call) → live after ≤ live st + takes c → (T (meets (meetsTen i c st m) c st) → ⊥) → restores c (st .restoring) ≡ after .restoring →
+    by-call : (c : Call) → live after ≤ live st + takes c → (T (meets (meetsTen i c st m) c st) → ⊥) →
+        restores c (st .restoring) ≡ after .restoring →
         live after ≤ keptLive (step c st) → Fits (withSlot i (new (promiseAfter c (slotAt i m))) m)
     unfolding meetsTen
     by-call (Add n us) le free e k = stays 1 le (inl (room-left (T-false (taken i m) (λ t. free (or-left (taken i m) (tableFull st) t))))) e
@@ -124,8 +133,10 @@ module _ (i : ℕ) (m : Module) (F : Fits m) (st : State) (at : slotAt i m .site
     by-call (Show h) le free e k = stays 0 le (inr refl) e
     by-call (Cut n room) le free e k =
         new-fits (promisedAgain (slotAt i m)) (slot-again .low) (slot-again .high) (λ off. absurd (true-false (e ∙ off)))
-        (let c = covered i m F below (keptLive (step (Cut n room) st)) (T-false _ free) in omega (arith, slot-again .within, parted i m F below))
-    by-call (Redo line) le free e k = stays 1 le (inl (room-left (T-false (taken i m) (λ t. free (or-left (taken i m) (tableFull st) t))))) e
+        (let c =
+        covered i m F below (keptLive (step (Cut n room) st)) (T-false _ free) in omega (arith, slot-again .within, parted i m F below))
+    by-call (Redo line) le free e k =
+        stays 1 le (inl (room-left (T-false (taken i m) (λ t. free (or-left (taken i m) (tableFull st) t))))) e
     by-call End le free e k = new-fits least (omega arith) (omega arith) (λ off. refl) (omega (arith, part, slot-good .promised))
 
   pub fits-call : (c : Call) (after : State) (answer : Answer) → stepWhen (meetsTen i c st m) c st ≡ ok after answer →
@@ -144,7 +155,7 @@ module _ (i : ℕ) (m : Module) (F : Fits m) (st : State) (at : slotAt i m .site
 not-opened : (i : ℕ) (c : Call) (m : Module) (after : State) (answer : Answer) → callAt none i c m ≡ ok after answer → ⊥
 not-opened i c m after answer e = refused-not-ok OutOfTurn after answer (unless-ok _ _ after answer e .1)
 
-ok-restart : (full : Bool) (x : Reply) (after : State) (answer : Answer) → lastly full x ≡ ok after answer → x ≡ ok after answer
+pub ok-restart : (full : Bool) (x : Reply) (after : State) (answer : Answer) → lastly full x ≡ ok after answer → x ≡ ok after answer
 ok-restart full x after answer e = go (lastly-ten full x)
   where
     go : (lastly full x ≡ refused TableFull) ⊎ (lastly full x ≡ x) → x ≡ ok after answer
@@ -159,7 +170,8 @@ fits-ok : (x : Move) (m : Module) → Fits m → (after : State) (answer : Answe
 unfolding replyOf promiseOf claims liveOf
 fits-ok (At i c) m F after answer e = go (slotAt i m .site) refl e
   where
-    go : (o : Option State) → slotAt i m .site ≡ o → callAt o i c m ≡ ok after answer → Fits (withSlot i (record { site = some after; promise = promiseAfter c (slotAt i m) }) m)
+    go : (o : Option State) → slotAt i m .site ≡ o → callAt o i c m ≡ ok after answer →
+        Fits (withSlot i (record { site = some after; promise = promiseAfter c (slotAt i m) }) m)
     go none p q = absurd (not-opened i c m after answer q)
     go (some st) p q = fits-call i m F st p c after answer q
 fits-ok (Open i n room) m F after answer e =
@@ -225,67 +237,78 @@ module _ (i : ℕ) (m : Module) (F : Fits m) (st : State) (at : slotAt i m .site
   unfolding tableFull
   not-own lt t = let le = leb→le liveLimit (live st) t in omega (arith, slot-good i m F st at .mayUse)
 
-  none-kept : (k room : ℕ) → keptLive (step (Cut k room) st) ≤ 0
-  none-kept k room = go (step (Cut k room) st) refl
-    where
-      go : (r : Reply) → step (Cut k room) st ≡ r → keptLive r ≤ 0
-      go (refused r) e = omega arith
-      go (ok after answer) e = live-cut k room st after answer e
-
-  not-cut : (k room : ℕ) → T (uncovered i (keptLive (step (Cut k room) st)) m) → ⊥
-  not-cut k room t =
-      omega (arith, uncovered-is i m F (below i m F st at) (keptLive (step (Cut k room) st)) t, none-kept k room, part i m F st at)
+  -- A cut that keeps no more live than the site had or is promised.
+  not-again : (kept : ℕ) → kept ≤ max (live st) (slotAt i m .promise) → T (uncovered i kept m) → ⊥
+  not-again kept le t = omega (arith, uncovered-is i m F (below i m F st at) kept t, part i m F st at)
 
   -- The tests of 10 of a site that has fewer live than it is promised.
-  none-meets : live st < slotAt i m .promise → (c : Call) → T (meets (meetsTen i c st m) c st) → ⊥
+  none-meets : live st < slotAt i m .promise → (c : Call) → restartsSite c ≡ false → T (meets (meetsTen i c st m) c st) → ⊥
   unfolding meetsTen
-  none-meets lt (Add n us) t = go (or-cases (taken i m) (tableFull st) t)
+  none-meets lt (Add n us) on t = go (or-cases (taken i m) (tableFull st) t)
     where
       go : T (taken i m) ⊎ T (tableFull st) → ⊥
       go (inl q) = not-outside lt q
       go (inr q) = not-own lt q
-  none-meets lt (Finish n) t = t
-  none-meets lt (Withdraw n) t = t
-  none-meets lt (Persistent n) t = t
-  none-meets lt (Stable n) t = t
-  none-meets lt (Show h) t = t
-  none-meets lt (Cut k room) t = not-cut k room t
-  none-meets lt (Redo line) t = go (or-cases (taken i m) (tableFull st) t)
+  none-meets lt (Finish n) on t = t
+  none-meets lt (Withdraw n) on t = t
+  none-meets lt (Persistent n) on t = t
+  none-meets lt (Stable n) on t = t
+  none-meets lt (Show h) on t = t
+  none-meets lt (Cut k room) on t = true-false on
+  none-meets lt (Redo line) on t = go (or-cases (taken i m) (tableFull st) t)
     where
       go : T (taken i m) ⊎ T (tableFull st) → ⊥
       go (inl q) = not-outside lt q
       go (inr q) = not-own lt q
-  none-meets lt End t = t
+  none-meets lt End on t = t
 
   pub call-is : (c : Call) → replyOf (At i c) m ≡ stepWhen (meetsTen i c st m) c st
   unfolding replyOf
   call-is c = ap (λ (o : Option State). callAt o i c m) at
 
-  -- A site with fewer live than it is promised is never refused 10.
-  pub promise-kept : live st < slotAt i m .promise → (c : Call) → replyOf (At i c) m ≡ refused TableFull → ⊥
-  promise-kept lt c e = none-meets lt c (ten-why (meetsTen i c st m) c st (sym (call-is c) ∙ e))
+  -- A site with fewer live than it is promised is never refused 10, but where it is restarted.
+  pub promise-kept : live st < slotAt i m .promise → (c : Call) → restartsSite c ≡ false → replyOf (At i c) m ≡ refused TableFull → ⊥
+  promise-kept lt c on e = none-meets lt c on (ten-why (meetsTen i c st m) c st (sym (call-is c) ∙ e))
 
-  -- A cut is never refused 10, since nothing is live after it.
-  pub cut-never : (k room : ℕ) → replyOf (At i (Cut k room)) m ≡ refused TableFull → ⊥
+  -- A cut is never refused 10 that keeps no more live than the site had or is promised.
+  pub cut-never : (k room : ℕ) → keptLive (step (Cut k room) st) ≤ max (live st) (slotAt i m .promise) →
+      replyOf (At i (Cut k room)) m ≡ refused TableFull → ⊥
   unfolding meetsTen
-  cut-never k room e = not-cut k room (ten-why (meetsTen i (Cut k room) st m) (Cut k room) st (sym (call-is (Cut k room)) ∙ e))
+  cut-never k room le e =
+      not-again (keptLive (step (Cut k room) st)) le
+      (ten-why (meetsTen i (Cut k room) st m) (Cut k room) st (sym (call-is (Cut k room)) ∙ e))
+
+  -- "exactly": a cut that the site alone accepts is refused 10 exactly when its kept live lines and the others' claims exceed the table.
+  pub cut-exactly : (k room : ℕ) (after : State) (answer : Answer) → step (Cut k room) st ≡ ok after answer →
+      replyOf (At i (Cut k room)) m ≡ refused TableFull ↔ entryLimit < live after + sum claims (others i m)
+  unfolding meetsTen
+  cut-exactly k room after answer e = (
+    λ ten. let t = uncovered-is i m F (below i m F st at) (keptLive (step (Cut k room) st)) (met .0 (sym (call-is (Cut k room)) ∙ ten)) in omega (arith, kept),
+    λ lt. call-is (Cut k room) ∙ met .1 (more-than lt (uncovered i (keptLive (step (Cut k room) st)) m) refl),
+  )
+    where
+      met : stepWhen (meetsTen i (Cut k room) st m) (Cut k room) st ≡ refused TableFull ↔ T
+          (uncovered i (keptLive (step (Cut k room) st)) m)
+      met = ten-exactly (meetsTen i (Cut k room) st m) (Cut k room) st after answer e
+
+      kept : keptLive (step (Cut k room) st) ≡ live after
+      kept = ap keptLive e
+
+      more-than : entryLimit < live after + sum claims (others i m) → (b : Bool) → uncovered i (keptLive (step (Cut k room) st)) m ≡ b → T b
+      more-than lt true q = tt
+      more-than lt false q = absurd (let c = covered i m F (below i m F st at) (keptLive (step (Cut k room) st)) q in omega (arith, kept))
 
 restart-other : (buffer : List ℕ) (k : ℕ) → restart buffer k ≡ refused TableFull → ⊥
 unfolding restart isTenth numberOf
-restart-other buffer k = unless-not-ten _ _ (check-not-ten _ AboveLimit none refl none-not-ten) (restart-not-ten (length buffer) (readLog (take k buffer)))
+restart-other buffer k =
+    unless-not-ten _ _ (check-not-ten _ AboveLimit none refl none-not-ten) (restart-not-ten (length buffer) (readLog (take k buffer)))
 
--- Nor is a restart.
-pub restart-never : (i : ℕ) (buffer : List ℕ) (k : ℕ) (m : Module) → Fits m → replyOf (Restart i buffer k) m ≡ refused TableFull → ⊥
+-- Nor is a restart that keeps no more live than the slot had or is promised.
+pub restart-never : (i : ℕ) (buffer : List ℕ) (k : ℕ) (m : Module) → Fits m → keptLive (restart buffer k) ≤ claims (slotAt i m) →
+    replyOf (Restart i buffer k) m ≡ refused TableFull → ⊥
 unfolding replyOf isTenth numberOf unless check
-restart-never i buffer k m F e = go (ltb 3 i) refl e
+restart-never i buffer k m F few e = go (ltb 3 i) refl e
   where
-    kept : keptLive (restart buffer k) ≤ 0
-    kept = cases (restart buffer k) refl
-      where
-        cases : (r : Reply) → restart buffer k ≡ r → keptLive r ≤ 0
-        cases (refused r) p = omega arith
-        cases (ok after answer) p = live-restarted buffer k after answer p
-
     mark : T (uncovered i (keptLive (restart buffer k)) m)
     mark =
         lastly-why (uncovered i (keptLive (restart buffer k)) m) (restart buffer k)
@@ -293,9 +316,10 @@ restart-never i buffer k m F e = go (ltb 3 i) refl e
         (unless-over (check (ltb 3 i) OutOfTurn none) (lastly (uncovered i (keptLive (restart buffer k)) m) (restart buffer k))
         (check-not-ten (ltb 3 i) OutOfTurn none refl none-not-ten) e)
 
-    go : (b : Bool) → ltb 3 i ≡ b → unless (check b OutOfTurn none) (lastly (uncovered i (keptLive (restart buffer k)) m) (restart buffer k)) ≡ refused TableFull → ⊥
+    go : (b : Bool) → ltb 3 i ≡ b →
+        unless (check b OutOfTurn none) (lastly (uncovered i (keptLive (restart buffer k)) m) (restart buffer k)) ≡ refused TableFull → ⊥
     go true p q = differs OutOfTurn refl (refused-same OutOfTurn TableFull q)
     go false p q =
         let le = not-lt 3 i p in
         let lt : i < slotLimit = omega arith in
-        omega (arith, uncovered-is i m F lt (keptLive (restart buffer k)) mark, kept, parted i m F lt)
+        omega (arith, uncovered-is i m F lt (keptLive (restart buffer k)) mark, few, parted i m F lt)

@@ -11,21 +11,35 @@ use Rattle.forms.specs.Lists.{below}
 use Rattle.forms.specs.ListLaws.{mem-along}
 use Rattle.forms.specs.Words.{word}
 use Rattle.forms.specs.Decimal.{digitsWithin, digits, more, number}
-use Rattle.forms.specs.Forms.{Update, Did, Opened, Restarted, fieldText, fieldsText, itemsText, tailText, listText, changeText, oneText, siteText, didText}
+use Rattle.forms.specs.Forms.{Update, Did, Opened, Restarted, fieldText, fieldsText, itemsText, tailText, listText, changeText, oneText}
+use Rattle.forms.specs.Forms.{siteText, didText, stableText, lineText, didLine, stableLine}
 use Rattle.forms.specs.Reading as reading
-use Rattle.forms.specs.Reading.{readDid, readSite, readWhole}
+use Rattle.forms.specs.Reading.{readDid, readLine, readSite, readWhole}
 use Rattle.forms.specs.declared.Rule.the-variants.{Inc}
 use Rattle.forms.specs.declared.DoneRule.the-variants.{DidInc}
 use Rattle.rules.specs.Book.{touches, runsAt}
 use Rattle.rules.specs.Checks.{check, andThen, wrongCount, noSuchHistory, historyTwice, updateMisfits, formRefusal, updatesRefusal}
-use Rattle.rules.specs.Log.{ended, didsText, logText, linesFrom, restFrom, historiesFit}
-use Rattle.rules.specs.State.{State, ok, logBytes, versionAt, liveDone, live, asks, dry, becameDry, rose, lineBytes, settle}
-use Rattle.rules.specs.Calls.{Call, Add, Finish, Cut, Redo, End, unless, openFull, openRefusal, opened, openSite, blockedBy, blocked, mayRunNow, ready, attempt, tryFrom, madeReady, neverNow, holdsNever, overtaken, notOvertaken, overtakenIds, nothingOrders, idPending, idDone, alreadyDone, readOvertaken, atHighest, tableFull, addRefusal, arrived, add, changeOf, lineOf, valuesAfter, inProgress, future, without, logFull, finished, finishFound, finish, restarted, restartAs, restart, cutAbove, cut, stale, redoRefusal, behind, pick, drain, delivered, redoRead, redo, writableUpdate, writable, perform, step}
+use Rattle.rules.specs.Log.{stablesFrom, stablesAt, weaveFrom, markFrom, upToDid, reported, ended, didsText, linesText, logText, linesFrom}
+use Rattle.rules.specs.Log.{restFrom, historiesFit, rises, follows, liveIn, tableHolds}
+use Rattle.rules.specs.State.{State, ok, linesIn, bytesOf, logBytes, versionAt, liveDone, live, asks, dry, becameDry, rose, lineBytes}
+use Rattle.rules.specs.State.{settle}
+use Rattle.rules.specs.Calls.{Call, Add, Finish, Persistent, Stable, Cut, Redo, End, unless, openFull, openRefusal, opened, openSite}
+use Rattle.rules.specs.Calls.{blockedBy, blocked, mayRunNow, ready, attempt, tryFrom, madeReady, neverNow, holdsNever, overtaken}
+use Rattle.rules.specs.Calls.{notOvertaken, overtakenIds, nothingOrders, idPending, idDone, alreadyDone, readOvertaken, atHighest}
+use Rattle.rules.specs.Calls.{tableFull}
+use Rattle.rules.specs.Calls.{addRefusal, arrived, add, changeOf, lineOf, valuesAfter, inProgress, future, without, logFull, finished}
+use Rattle.rules.specs.Calls.{finishFound, finish}
+use Rattle.rules.specs.Calls.{withdrawRefusal, withdraw, persistent, aboveMark, stableFull, stableRefusal, stabled, stable, show, restarted}
+use Rattle.rules.specs.Calls.{restartAs, restart, cutAbove}
+use Rattle.rules.specs.Calls.{cut, stale, redoRefusal, behind, pick, drain, delivered, redoRead, redo, end, writableUpdate, writable}
+use Rattle.rules.specs.Calls.{perform}
+use Rattle.rules.specs.Calls.{step}
 use Rattle.rules.specs.When.{addWhen, redoReadWhen, redoWhen, lastly, cutWhen, performWhen, stepWhen}
 use Rattle.recovery.specs.Claim.{justOpened, countedAfter, lostBy, comesAfter}
 use Rattle.recovery.specs.Arrival.{every, SameWork}
 use Rattle.recovery.specs.Host.{runIn, countedIn, cameIn}
-use Rattle.compact.specs.Module.{Module, slotAt, withSlot, others, liveOf, lacks, free, taken, uncovered, meetsTen, promisedAgain, Move, At, Open, replyOf, promiseOf, nextOf, made}
+use Rattle.compact.specs.Module.{Module, slotAt, withSlot, others, liveOf, lacks, free, taken, uncovered, meetsTen, promisedAgain}
+use Rattle.compact.specs.Module.{Move, At, Open, replyOf, promiseOf, nextOf, made}
 use Rattle.compact.specs.Fits.{fits-made}
 use Rattle.compact.specs.FitsLaws.{fits-next}
 use Rattle.compact.specs.Claim.{siteOr, inSlot, SlotList, beforeCut, atEnd}
@@ -33,23 +47,33 @@ use Rattle.compact.specs.ClaimLaws.{slot-arrival}
 use Rattle.rules.specs.Rules.{profileOf, replacedWith}
 use Rattle.rules.specs.Book.{canRunWith, cellFromWith, cellWith, enterAllWith, enterWith, enteredWith}
 use Rattle.rules.specs.Checks.{changeMisfitsWith, changesRefusalWith}
-use Rattle.rules.specs.Log.{acceptsWith, readFirstWith, readLinesWith, readLogWith}
+use Rattle.rules.specs.Log.{acceptsWith, readFirst, readLines, readLog}
 
 abbrev raise : List Update
 raise = record { rule = Inc; history = 0; version = 1; operand = 7 } ∷ []
 
+-- (inc 0 2 9)
+abbrev further : List Update
+further = record { rule = Inc; history = 0; version = 2; operand = 9 } ∷ []
+
 -- (did 1 (inc 0 1 1 7)), at both slots
+abbrev first : Did
+first = record { id = 1; changes = record { rule = DidInc; history = 0; version = 1; place = 1; operand = 7 } ∷ [] }
+
+-- (did 1 (inc 0 2 2 9)): the second operation of slot 0, with the id of the first, which is stable and has left the table
 abbrev one : Did
-one = record { id = 1; changes = record { rule = DidInc; history = 0; version = 1; place = 1; operand = 7 } ∷ [] }
+one = record { id = 1; changes = record { rule = DidInc; history = 0; version = 2; place = 2; operand = 9 } ∷ [] }
 
 abbrev start : Module
 start = nextOf (Open 0 1 100) made
 
 abbrev xs : List Move
-xs = At 0 (Add 1 raise) ∷ Open 1 1 100 ∷ At 0 (Finish 1) ∷ At 1 (Add 1 raise) ∷ []
+xs =
+    At 0 (Add 1 raise) ∷ Open 1 1 100 ∷ At 0 (Finish 1) ∷ At 1 (Add 1 raise) ∷ At 0 (Persistent 1) ∷ At 0 (Stable 1) ∷ At 0 (Persistent 1)
+    ∷ At 0 (Add 1 further) ∷ At 0 (Finish 1) ∷ []
 
 abbrev x : Move
-x = At 0 (Cut 9 100)
+x = At 0 (Cut 50 100)
 
 abbrev p : Move
 p = At 1 (Finish 1)
@@ -61,21 +85,21 @@ abbrev ys : List Move
 ys = p ∷ q ∷ []
 
 abbrev after : State
-after = restarted 100 1 []
+after = restarted 100 1 (didLine first ∷ stableLine 1 ∷ [])
 
 -- What the rules compute.
 record Computed : Type 0 where
   opens : openSite 1 100 ≡ ok (opened 1 100) Opened
   isOpen : slotAt 0 start .site ≡ some (opened 1 100)
-  counts : countedIn (inSlot 0) 0 xs start ≡ 0
-  cuts : replyOf x (runIn (inSlot 0) xs start) ≡ ok after (Restarted 0 9)
+  counts : take (countedIn (inSlot 0) 0 xs start) (linesIn (siteOr (slotAt 0 (runIn (inSlot 0) xs start) .site))) ≡ linesIn after
+  cuts : replyOf x (runIn (inSlot 0) xs start) ≡ ok after (Restarted 1 42)
   room : siteOr (slotAt 0 (runIn (inSlot 0) xs start) .site) .room ≡ 100
   lost : lostBy (siteOr (slotAt 0 (runIn (inSlot 0) xs start) .site)) after ≡ one ∷ []
   came : cameIn (inSlot 0) [] (xs ++ x ∷ ys) start ≡ didText one ∷ []
-  final : siteOr (slotAt 0 (runIn (inSlot 0) (xs ++ x ∷ ys) start) .site) .log ≡ one ∷ []
+  final : siteOr (slotAt 0 (runIn (inSlot 0) (xs ++ x ∷ ys) start) .site) .log ≡ first ∷ one ∷ []
 
 computed : Computed
-unfolding replacedWith profileOf enteredWith enterWith enterAllWith cellFromWith cellWith touches runsAt canRunWith unless openFull openRefusal opened openSite blockedBy blocked mayRunNow ready attempt tryFrom madeReady neverNow holdsNever overtaken notOvertaken overtakenIds nothingOrders idPending idDone alreadyDone readOvertaken atHighest tableFull addRefusal arrived add changeOf lineOf valuesAfter inProgress future without logFull finished finishFound finish restarted restartAs restart cutAbove cut stale redoRefusal behind pick drain delivered redoRead redo writableUpdate writable perform step check andThen wrongCount noSuchHistory historyTwice updateMisfits changeMisfitsWith formRefusal updatesRefusal changesRefusalWith ended didsText logText linesFrom restFrom historiesFit acceptsWith readLinesWith readFirstWith readLogWith logBytes versionAt liveDone live asks dry becameDry rose lineBytes settle below digitsWithin digits more number word fieldText fieldsText itemsText tailText listText changeText oneText siteText didText reading.field reading.doneRule reading.change reading.one reading.did reading.items reading.tail readWhole readDid readSite countedAfter comesAfter lostBy addWhen redoReadWhen redoWhen lastly cutWhen performWhen stepWhen runIn countedIn cameIn slotAt withSlot others liveOf lacks free taken uncovered meetsTen promisedAgain replyOf promiseOf nextOf
+unfolding replacedWith profileOf enteredWith enterWith enterAllWith cellFromWith cellWith touches runsAt canRunWith unless openFull openRefusal opened openSite blockedBy blocked mayRunNow ready attempt tryFrom madeReady neverNow holdsNever overtaken notOvertaken overtakenIds nothingOrders idPending idDone alreadyDone readOvertaken atHighest tableFull addRefusal arrived add changeOf lineOf valuesAfter inProgress future without logFull finished finishFound finish withdrawRefusal withdraw persistent aboveMark stableFull stableRefusal stabled stable show restarted restartAs restart cutAbove cut stale redoRefusal behind pick drain delivered redoRead redo end writableUpdate writable perform step check andThen wrongCount noSuchHistory historyTwice updateMisfits changeMisfitsWith formRefusal updatesRefusal changesRefusalWith stablesFrom stablesAt weaveFrom markFrom upToDid reported ended didsText linesText logText linesFrom restFrom historiesFit acceptsWith rises follows liveIn tableHolds readLines readFirst readLog logBytes versionAt liveDone live asks dry becameDry rose lineBytes bytesOf settle below digitsWithin digits more number word fieldText fieldsText itemsText tailText listText changeText oneText siteText didText stableText lineText reading.field reading.doneRule reading.change reading.one reading.did reading.items reading.tail reading.line readWhole readDid readLine readSite countedAfter comesAfter lostBy addWhen redoReadWhen redoWhen lastly cutWhen performWhen stepWhen runIn countedIn cameIn slotAt withSlot others liveOf lacks free taken uncovered meetsTen promisedAgain replyOf promiseOf nextOf
 computed = record { opens = refl; isOpen = refl; counts = refl; cuts = refl; room = refl; lost = refl; came = refl; final = refl }
 
 two : (a : List Move) (y : Move) (b : List Move) → ys ≡ a ++ y ∷ b → (y ≡ p) ⊎ (y ≡ q)
@@ -109,7 +133,7 @@ list =
       begins = justOpened 1 100 (opened 1 100) Opened (computed .opens);
       xs = xs;
       x = x;
-      k = 9;
+      k = 50;
       room = 100;
       ys = ys;
       after = after;
@@ -117,23 +141,22 @@ list =
       fair =
           record {
             isCut = refl;
-            answer = Restarted 0 9;
+            answer = Restarted 1 42;
             accepted = computed .cuts;
-            keeps = λ d m. absurd (List·Memᴰ·not-nil (none-counted d m));
+            keeps = λ l m. mem-along (computed .counts) m;
             noShorter = omega (arith, computed .room);
           };
       asked =
           record {
-            cuts = λ a y b k room st answer e o r. absurd (let s = own-is a y b (Cut k room) e o in let z : _≡_ {A = ℕ} 0 1 = cc in omega arith);
-            redos = λ a y b line st answer e o r. (one, mem-along (sym (computed .lost)) (here refl), tt, line-is line (own-is a y b (Redo line) e o));
+            cuts =
+                λ a y b k room st answer e o r. absurd (let s = own-is a y b (Cut k room) e o in let z : _≡_ {A = ℕ} 0 1 = cc in omega arith);
+            redos =
+                λ a y b line st answer e o r. (one, mem-along (sym (computed .lost)) (here refl), tt, line-is line (own-is a y b (Redo line) e o));
             ends = λ a y b st answer e o r. let s = own-is a y b End e o in let z : _≡_ {A = ℕ} 0 1 = cc in omega arith;
             all = λ d m t. mem-along (sym (computed .came)) (only d (List·Memᴰ·cases-cons (mem-along (computed .lost) m)));
           };
     }
   where
-    none-counted : (d : Did) → Mem d (take (countedIn (inSlot 0) 0 xs start) (siteOr (slotAt 0 (runIn (inSlot 0) xs start) .site) .log)) → Mem d []
-    none-counted d m = mem-along (ap (λ (n : ℕ). take n (siteOr (slotAt 0 (runIn (inSlot 0) xs start) .site) .log)) (computed .counts)) m
-
     only : (d : Did) → (d ≡ one) ⊎ Mem d [] → Mem (didText d) (didText one ∷ [])
     only d (inl e) = here (ap didText e)
     only d (inr m) = absurd (List·Memᴰ·not-nil m)

@@ -105,6 +105,18 @@ meetsTen i (Cut k room) st m = uncovered i (keptLive (step (Cut k room) st)) m
 meetsTen i (Redo line) st m = taken i m
 meetsTen i End st m = false
 
+-- the calls that restart the site of a slot
+abbrev pub restartsSite : Call → Bool
+restartsSite (Add n us) = false
+restartsSite (Finish n) = false
+restartsSite (Withdraw n) = false
+restartsSite (Persistent n) = false
+restartsSite (Stable n) = false
+restartsSite (Show h) = false
+restartsSite (Cut k room) = true
+restartsSite (Redo line) = false
+restartsSite End = false
+
 -- ### The promise
 
 -- "Until its restoring ends, a cut or restarted site is promised as many as it had live, if more than 16; over further cuts the largest number holds."

@@ -12,6 +12,8 @@ pub mod Stations
 pub mod Code
 pub mod SiteCalls
 pub mod SiteCallsLaws
+pub mod Changeover
+pub mod SiteSample
 pub mod RefusedReply
 pub mod OlderExamples
 pub mod BesideLines

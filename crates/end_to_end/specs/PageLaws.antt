@@ -13,14 +13,15 @@ use Rattle.forms.specs.Decimal.Step.{got, bad}
 use Rattle.forms.specs.DecimalLaws.{digits-at-most}
 use Rattle.forms.specs.Words.{bytes}
 use Rattle.forms.specs.ListLaws.{true-T, T-true}
-use Rattle.forms.specs.Forms.{Command, Did, Answer, Outcome, Opened, Shown, Ended, oneText, siteText, didText, commandText, answerText, outcomeText}
+use Rattle.forms.specs.Forms.{Command, Did, Answer, Outcome, Opened, Shown, Ended, oneText, siteText, didText, commandText, answerText}
+use Rattle.forms.specs.Forms.{outcomeText}
 use Rattle.forms.specs.Reading.{readCommand}
 use Rattle.forms.specs.declared.Refusal.the-variants.{Unreadable, WrongCount, NoSuchHistory, NoRoom, AboveLimit}
 use Rattle.forms.specs.CommandLaws.{command-written}
 use Rattle.rules.specs.Book.{Cell, cell}
 use Rattle.rules.specs.Log.{ended, historiesFit}
 use Rattle.forms.specs.Limits.{logLimit}
-use Rattle.rules.specs.State.{State, Reply, refused, ok, settle, versionAt}
+use Rattle.rules.specs.State.{State, Reply, refused, ok, settle, stableTo, versionAt}
 use Rattle.rules.specs.Calls.{openFull, openRefusal, openSite, opened, Call, show, writable, perform, step}
 use Rattle.rules.specs.CheckLaws.{check-none, none-check, unless-none, le-not-lt, unless-ok, unless-check, not-false}
 use Rattle.rules.specs.LogLaws.{histories-most}
@@ -29,11 +30,12 @@ use Rattle.forms.specs.LengthLaws.{site-length}
 use Rattle.rules.specs.Good.{didIds}
 use Rattle.rules.specs.GoodLaws.{good-open, good-run}
 use Rattle.rules.specs.Run.{run}
-use Rattle.rules.specs.Session.{Session, Turn, turnOf, opening, calling, obey, onCommand, turn, replies, afterLines, restReply, sessionIn, session}
+use Rattle.rules.specs.Session.{Session, Turn, turnOf, opening, calling, obey, onCommand, turn, replies, afterLines, restReply, sessionIn}
+use Rattle.rules.specs.Session.{session}
 use Rattle.recovery.specs.Claim.{justOpened, counted, Fair, lostBy, came, Shows, Recovered}
 use Rattle.recovery.specs.Ending.{closed-every, just-all, just-one}
 use Rattle.recovery.specs.Recovery.{run-append, show-is, recovery}
-use Rattle.recovery.specs.Steps.{ok-state}
+use Rattle.recovery.specs.Cuts.{ok-state}
 use Rattle.end_to_end.specs.FrameLaws.{Frame, frame-lines}
 use Rattle.end_to_end.specs.Page.{callOf, callRead, callsOf, Text, fitting, cutFitting, asking}
 use Rattle.end_to_end.specs.Page.{sheet, Prints, PrintsWaiting, PageClaim, ProgramClaim}
@@ -143,7 +145,8 @@ opens room n s answer e =
     record { fits = true-T (historiesFit n) (not-false (historiesFit n) (q2 .0)); site = sym (ok-state (opened n room) s _ answer (q .1)) }
 
 -- After `(site N)` the site is open.
-turn-site : (room n : ℕ) (s : State) (answer : Answer) → openSite n room ≡ ok s answer → turn room (commandText (Command.SiteOf n)) none .after ≡ some s
+turn-site : (room n : ℕ) (s : State) (answer : Answer) → openSite n room ≡ ok s answer →
+    turn room (commandText (Command.SiteOf n)) none .after ≡ some s
 unfolding turn onCommand obey opening turnOf
 turn-site room n s answer e =
     ap (λ (x : Step Command). onCommand room x none .after) (site-form n (omega (arith, histories-most n (opens room n s answer e .fits))))
@@ -155,7 +158,8 @@ same-marks st h v p s place profile v′ p′ s′ place′ profile′ e = (cc, 
 
 -- `show` of a history that the site has: its persistent and stable version are by the site's marks.
 shown : (h : ℕ) (st : State) (c : Cell) → Shows st h c →
-    step (Call.Show h) st ≡ ok st (Shown h (c .version) (versionAt (st .persistentTo) h st) (versionAt (st .stableTo) h st) (c .place) (c .profile))
+    step (Call.Show h) st
+    ≡ ok st (Shown h (c .version) (versionAt (st .persistentTo) h st) (versionAt (stableTo st) h st) (c .place) (c .profile))
 unfolding step perform show
 shown h st c (p, q, e) =
     let found = unless-check _ NoSuchHistory _ st _ (unless-check _ Unreadable _ st _ e .1) .1 in
@@ -175,7 +179,8 @@ shows-first before after lost chosen lines final R every h lt =
 last-accepted : (room : ℕ) (lines : List (List ℕ)) (f : Command) (c : Call) (st after : State) (answer : Answer) →
     readCommand (commandText f) ≡ got f [] → ((x : Session) → obey room f x ≡ calling c x) →
     afterLines room lines none ≡ some st → step c st ≡ ok after answer →
-    (input : List ℕ) → Text input (lines ++ commandText f ∷ []) → sessionIn room input ≡ replies room lines none ++ ended (answerText answer)
+    (input : List ℕ) → Text input (lines ++ commandText f ∷ []) →
+    sessionIn room input ≡ replies room lines none ++ ended (answerText answer)
 unfolding turn onCommand calling turnOf outcomeText
 last-accepted room lines f c st after answer reads is at e input text =
     session-last room lines (commandText f) input text
@@ -184,7 +189,8 @@ last-accepted room lines f c st after answer reads is at e input text =
     ∙ ap (λ (x : Turn). x .reply) (is (some st))
     ∙ ap (λ (x : Reply). turnOf x (some st) .reply) e)
 
-prints-at : (room : ℕ) (lines : List (List ℕ)) (h : ℕ) (c : Cell) (st : State) → h ≤ top → afterLines room lines none ≡ some st → Shows st h c →
+prints-at : (room : ℕ) (lines : List (List ℕ)) (h : ℕ) (c : Cell) (st : State) → h ≤ top → afterLines room lines none ≡ some st →
+    Shows st h c →
     Prints room lines h c st
 unfolding obey sheet
 prints-at room lines h c st low at shows input text =
@@ -197,7 +203,8 @@ waits-at room lines ids st at after e input text =
     last-accepted room lines Command.End Call.End st after (Ended ids) end-form (λ x. refl) at e input text
 
 module _
-    (room n : ℕ) (s : State) (answer : Answer) (opening-ok : openSite n room ≡ ok s answer) (first : List (List ℕ)) (k : ℕ) (later : List (List ℕ))
+    (room n : ℕ) (s : State) (answer : Answer) (opening-ok : openSite n room ≡ ok s answer) (first : List (List ℕ)) (k : ℕ)
+    (later : List (List ℕ))
     (after : State) (chosen : Did → Bool) (fair : Fair (counted 0 (callsOf room first) s) k room (run (callsOf room first) s) after) where
   -- Where the lines before the picked cut bring the session, and where all lines bring it.
   to-cut : afterLines room (fitting n first) none ≡ some (run (callsOf room first) s)
@@ -207,7 +214,8 @@ module _
   cut-low : k ≤ top
   unfolding step writable
   cut-low =
-      leb→le k top (true-T (leb k top) (not-false (leb k top) (unless-check (not (leb k top)) Unreadable _ after (fair .answer) (fair .accepted) .0)))
+      leb→le k top (true-T (leb k top) (not-false (leb k top)
+      (unless-check (not (leb k top)) Unreadable _ after (fair .answer) (fair .accepted) .0)))
 
   calls-are : callsOf room (first ++ commandText (Command.Cut k) ∷ later) ≡ callsOf room first ++ Call.Cut k room ∷ callsOf room later
   unfolding callsOf callRead callOf
@@ -244,7 +252,8 @@ pub page : PageClaim
 page room n s answer e first k later after chosen fair asked =
     record {
       recovered = R;
-      prints = λ h known. prints-at room lines h (cell h (after .log ++ R .fed)) final (low′ h known) end-at (R .shows h (at-first′ h known));
+      prints = λ h known. prints-at room lines h (cell h (after .log ++ R .fed)) final (low′ h known) end-at
+          (R .shows h (at-first′ h known));
       printsFirst = λ every h known. (
         prints-first room n s answer e first k later after chosen fair h known,
         prints-at room lines h (cell h (before .log)) final (low′ h known) end-at
@@ -281,14 +290,16 @@ pub site-opens : (n : ℕ) → T (historiesFit n) → openSite n logLimit ≡ ok
 unfolding openSite openRefusal openFull
 site-opens n h =
     unless-none _ _ (none-check _ WrongCount _ some-histories
-    (none-check _ NoRoom _ (le-not-lt logLimit (length (ended (siteText n))) (omega (arith, length-ended (siteText n), site-length n (histories-most n h))))
+    (none-check _ NoRoom _ (le-not-lt logLimit (length (ended (siteText n)))
+    (omega (arith, length-ended (siteText n), site-length n (histories-most n h))))
     (none-check (ltb logLimit logLimit) AboveLimit none refl refl)))
   where
     some-histories : not (historiesFit n) ≡ false
     some-histories = rw (T-true (historiesFit n) h)
 
 pub program : ProgramClaim
-program n h first k later after chosen fair asked = page logLimit n (opened n logLimit) Opened (site-opens n h) first k later after chosen fair asked
+program n h first k later after chosen fair asked =
+    page logLimit n (opened n logLimit) Opened (site-opens n h) first k later after chosen fair asked
 
 -- What is said of a session over a buffer of 65,536 bytes is said of the program's session.
 pub prints-session : (lines : List (List ℕ)) (h : ℕ) (c : Cell) (st : State) → Prints logLimit lines h c st →

@@ -1,5 +1,5 @@
--- "a 65th record 10; a record forgotten on the owner's word frees its entry" (02, (e)), computed: 64 records are accepted, the 65th is refused
--- with 10 (before 18), and after one is forgotten another is accepted.
+-- "a 65th record 10; a record forgotten on the owner's word frees its entry" (02, (e)), computed: 64 records are accepted, the 65th is
+-- refused with 10 (before 18), and after one is forgotten another is accepted.
 use mathlib.Core.List.{List, [], _∷_, _++_, map}
 use Prim.Native.Nat.{ℕ}
 use lib.Dec.{T}

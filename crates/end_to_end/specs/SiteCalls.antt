@@ -8,10 +8,10 @@ use Prim.Native.Nat.{ℕ, _≤_, _<_}
 use lib.Dec.{T}
 use lib.ListN.{length, take, getD}
 use Rattle.forms.specs.Limits.{liveLimit}
-use Rattle.forms.specs.Forms.{Did, Answer, Ended, Shown}
+use Rattle.forms.specs.Forms.{Did, Line, Answer, Ended, Shown}
 use Rattle.rules.specs.Book.{Cell, cell}
-use Rattle.rules.specs.Log.{didsText, logText}
-use Rattle.rules.specs.State.{State, Reply, refused, ok}
+use Rattle.rules.specs.Log.{dids, didsText, logText}
+use Rattle.rules.specs.State.{State, Reply, refused, ok, linesIn}
 use Rattle.rules.specs.Calls.{openSite, restart, Call, Show, Cut, End}
 use Rattle.rules.specs.Poll.{busy, poll}
 use Rattle.rules.specs.Run.{run}
@@ -69,19 +69,21 @@ pub data Execution : Memory → List Call → Memory → Type 0 where
   next : {x y z : Memory} {c : Call} {cs : List Call} → Transition x c y → Execution y cs z → Execution x (c ∷ cs) z
 
 -- "The list starts at a site just opened, or restarted from any log that restart accepts": by the contracts of `Site::open` and
--- `Site::restart`, with the number of did lines counted persistent there.
+-- `Site::restart`, with the number of lines behind the site line that count as persistent there, stable lines too.
 pub data StartsSite : ℕ → Memory → Type 0 where
   opens : (n : ℕ) (old : Lent) (r : CallResult) (new : Lent) (st : State) (a : Answer) →
-      Opens blankSite old (openSite n (length (old .log))) r new → openSite n (length (old .log)) ≡ ok st a → StartsSite 0 (memory (r .site) new)
+      Opens blankSite old (openSite n (length (old .log))) r new → openSite n (length (old .log)) ≡ ok st a →
+      StartsSite 0 (memory (r .site) new)
   restarted : (k : ℕ) (old : Lent) (r : CallResult) (new : Lent) (st : State) (a : Answer) →
       Opens blankSite old (restart (old .log) k) r new → restart (old .log) k ≡ ok st a →
-      StartsSite (length (stateIn (memory (r .site) new) .log)) (memory (r .site) new)
+      StartsSite (length (linesIn (stateIn (memory (r .site) new)))) (memory (r .site) new)
 
 -- ### What the site shows
 
 -- The reply to a call c of the site, by its contract, whatever is handed back: this answer.
 abbrev pub AnswersCall : Memory → Call → Answer → Type 0
-AnswersCall x c a = (r : CallResult) (new : Lent) → Steps (x .site) (x .lent) c r new → (st : State) × AcceptedAs (x .lent .order) (x .lent) st a r new
+AnswersCall x c a =
+    (r : CallResult) (new : Lent) → Steps (x .site) (x .lent) c r new → (st : State) × AcceptedAs (x .lent .order) (x .lent) st a r new
 
 -- `show` replies version, place and profile of the cell.
 abbrev pub ShowsIn : Memory → ℕ → Cell → Type 0
@@ -93,10 +95,14 @@ pub record RecoveredIn (before after : Memory) (lost : List Did) (chosen : Did �
   pub claim : Recovered (stateIn before) (stateIn after) lost chosen lines (stateIn final)
   -- the invariant, which every further call requires
   pub valid : ValidIn final
-  -- the first log: the bytes in use just before the picked cut are the lines that it kept, and then the lost ones
-  pub firstBytes : logIn before ≡ logText (before .site .count) (stateIn after .log ++ lost)
-  -- (2) the bytes in use at the end are "the lines the picked cut kept, then each line that has run, once, byte for byte, and no more"
-  pub bytes : logIn final ≡ logText (before .site .count) (stateIn after .log) ++ didsText (claim .ran)
+  -- the first log: the bytes in use just before the picked cut are the lines that it kept, and then others: the lost lines are the did
+  -- lines among these, and stable lines that are gone stand between them
+  pub gone : List Line
+  pub goneAre : dids gone ≡ lost
+  pub firstBytes : logIn before ≡ logText (before .site .count) (linesIn (stateIn after) ++ gone)
+  -- (2) the bytes in use at the end are "the lines the picked cut kept, then each line that has run, once, byte for byte, and no more":
+  -- stable lines are among those kept
+  pub bytes : logIn final ≡ logText (before .site .count) (linesIn (stateIn after)) ++ didsText (claim .ran)
   -- (3) "`end` would name the other chosen lines"
   pub names : AnswersCall final End (Ended (didIds (claim .others)))
   -- (4) "`show` of each history gives the book's profile, version and place"
@@ -124,8 +130,8 @@ SiteCallsClaim =
 abbrev pub entryIn : Memory → ℕ → Lookup
 entryIn x id = entryOf (x .lent .rows) id (liveNumbers (x .site .table) (x .lent .order))
 
--- In every state that calls reach from a site just opened or restarted, `entry_of` gives the one entry of a live id, and none exactly if the id
--- is not live; live it is by the state that `run` of the calls gives.
+-- In every state that calls reach from a site just opened or restarted, `entry_of` gives the one entry of a live id, and none exactly if
+-- the id is not live; live it is by the state that `run` of the calls gives.
 abbrev pub EntryClaim : Type 0
 EntryClaim =
     (m : ℕ) (start : Memory) → StartsSite m start →

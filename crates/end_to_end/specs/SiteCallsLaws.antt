@@ -5,16 +5,19 @@ use mathlib.Core.List.{List, _∷_, _++_}
 use Prim.Native.Nat.{ℕ, _≤_}
 use native.Mathlib.Omega.{arith}
 use lib.ListN.{length}
+use lib.Seq.{length-take-le}
 use Rattle.forms.specs.Decimal.{top}
-use Rattle.forms.specs.Forms.{Did, Answer}
+use Rattle.forms.specs.Forms.{Did, Line, Answer}
 use Rattle.forms.specs.Lists.{below}
 use Rattle.rules.specs.Book.{Cell}
-use Rattle.rules.specs.Log.{logText}
-use Rattle.rules.specs.State.{State, Reply, refused, ok, settle, logBytes}
+use Rattle.rules.specs.Log.{dids, logText}
+use Rattle.rules.specs.State.{State, Reply, refused, ok, settle, linesIn, logBytes}
 use Rattle.rules.specs.Calls.{restart, Call, Cut, step}
 use Rattle.rules.specs.PollLaws.{busy-few}
+use Rattle.rules.specs.Good.{Good}
 use Rattle.rules.specs.Run.{run}
 use Rattle.recovery.specs.Claim.{Start, justOpened, justRestarted, counted, Fair, lostBy, came, Asked, Shows, Recovered}
+use Rattle.recovery.specs.Cuts.{Cutting, cutting, lost-dids}
 use Rattle.recovery.specs.Recovery.{run-append, recovery}
 use Rattle.site.specs.declared.CallResult.{CallResult}
 use Rattle.site.specs.Representation.{Sound}
@@ -22,7 +25,8 @@ use Rattle.site.specs.OpenLaws.{blankSite}
 use Rattle.site.specs.EntryOf.{entry-is}
 use Rattle.site.specs.Model.{Lent, represented, AcceptedAs, Does, Opens}
 use Rattle.site.specs.RestartLaws.{cut-restarts, log-limit, used-limit}
-use Rattle.end_to_end.specs.SiteCalls.{EntryClaim, PollsAs, PollClaim, Memory, memory, stateIn, ValidIn, logIn, goesOnFrom, Transition, calls, restarts}
+use Rattle.end_to_end.specs.SiteCalls.{EntryClaim, PollsAs, PollClaim, Memory, memory, stateIn, ValidIn, logIn, goesOnFrom}
+use Rattle.end_to_end.specs.SiteCalls.{Transition, calls, restarts}
 use Rattle.end_to_end.specs.SiteCalls.{Execution, none, next}
 use Rattle.end_to_end.specs.SiteCalls.{StartsSite, opens, restarted, AnswersCall, ShowsIn, RecoveredIn, SiteCallsClaim}
 
@@ -42,13 +46,15 @@ call-runs x v (refused q) r new d =
 call-runs x v (ok st a) r new d = record { valid = d .valid; state = d .state }
 
 -- .. and so does a restart into another buffer
-restart-runs : (x : Memory) → ValidIn x → (reply : Reply) (buffer : Lent) (r : CallResult) (new : Lent) → Opens blankSite buffer reply r new →
+restart-runs : (x : Memory) → ValidIn x → (reply : Reply) (buffer : Lent) (r : CallResult) (new : Lent) →
+    Opens blankSite buffer reply r new →
     RunsAs (goesOnFrom reply x (memory (r .site) new)) (settle reply (stateIn x))
 unfolding settle
 restart-runs x v (refused q) buffer r new d = record { valid = v; state = refl }
 restart-runs x v (ok st a) buffer r new d = record { valid = d .valid; state = d .state }
 
-makes-runs : {x y : Memory} {c : Call} → ValidIn x → Transition x c y → RunsAs y (settle (step c (stateIn x)) (stateIn x))
+-- One call of the list gives the next state.
+pub makes-runs : {x y : Memory} {c : Call} → ValidIn x → Transition x c y → RunsAs y (settle (step c (stateIn x)) (stateIn x))
 makes-runs {x} v (calls c r new d) = call-runs x v (step c (stateIn x)) r new d
 makes-runs {x} v (restarts k buffer r new le same d) =
     subst (λ (reply : Reply). RunsAs (goesOnFrom (restart (buffer .log) k) x (memory (r .site) new)) (settle reply (stateIn x)))
@@ -79,14 +85,24 @@ starts-at (opens n old r new st a d e) =
     (q .valid, subst (Start 0) (sym (q .state)) (justOpened n (length (old .log)) st a e))
 starts-at (restarted k old r new st a d e) =
     let q : AcceptedAs (below 64) old st a r new = subst (λ (reply : Reply). Opens blankSite old reply r new) e d in
-    (q .valid, subst (λ (s : State). Start (length (s .log)) s) (sym (q .state)) (justRestarted (old .log) k st a e))
+    (q .valid, subst (λ (s : State). Start (length (linesIn s)) s) (sym (q .state)) (justRestarted (old .log) k st a e))
 
 -- ### What the site shows
 
 -- The bytes in use are the log's text.
-log-bytes : (x : Memory) → ValidIn x → logIn x ≡ logBytes (stateIn x)
+pub log-bytes : (x : Memory) → ValidIn x → logIn x ≡ logBytes (stateIn x)
 unfolding Sound
 log-bytes x v = v .sound .carries .text
+
+-- .. as many as the site says
+pub used-in : (x : Memory) → ValidIn x → x .site .used ≡ length (logIn x)
+unfolding Sound
+used-in x v = sym (length-take-le (x .site .used) (x .lent .log) (v .sound .carries .within))
+
+-- It is a state that calls reach.
+good-in : (x : Memory) → ValidIn x → Good (stateIn x)
+unfolding Sound
+good-in x v = v .sound .good
 
 answers : (x : Memory) (c : Call) (st : State) (a : Answer) → step c (stateIn x) ≡ ok st a → AnswersCall x c a
 answers x c st a e = λ r new d. (st, subst (λ (reply : Reply). Does (x .site) (x .lent) reply r new) e d)
@@ -97,13 +113,16 @@ shows-in x h c (persistent, stable, e) = (persistent, stable, answers x _ (state
 -- From the claim about the states to what the site shows.
 recovered-in : (before after : Memory) (lost : List Did) (chosen : Did → Bool) (lines : List (List ℕ)) (final : Memory) →
     ValidIn before → ValidIn final →
+    (gone : List Line) → linesIn (stateIn before) ≡ linesIn (stateIn after) ++ gone → dids gone ≡ lost →
     Recovered (stateIn before) (stateIn after) lost chosen lines (stateIn final) → RecoveredIn before after lost chosen lines final
 unfolding logBytes
-recovered-in before after lost chosen lines final v w R =
+recovered-in before after lost chosen lines final v w gone parts are R =
     record {
       claim = R;
       valid = w;
-      firstBytes = log-bytes before v ∙ ap (logText (before .site .count)) (R .first);
+      gone = gone;
+      goneAre = are;
+      firstBytes = log-bytes before v ∙ ap (logText (before .site .count)) parts;
       bytes = log-bytes final w ∙ R .bytes;
       names = answers final _ (R .named .0) _ (R .named .1);
       shows = λ h lt. shows-in final h _ (R .shows h lt);
@@ -134,7 +153,7 @@ pub site-calls : SiteCallsClaim
 unfolding run
 site-calls m start begins xs before first k room after cut ys final later chosen fair asked =
     recovered-in before after (lostBy (stateIn before) (stateIn after)) chosen (came (xs ++ Cut k room ∷ ys) (stateIn start)) final
-    (a .valid) (c .valid)
+    (a .valid) (c .valid) (C .lines .0) (C .lines .1) (sym (lost-dids room (stateIn before) (stateIn after) C))
     (claim-at m (stateIn start) (at-start .1) xs k room ys (stateIn before) (stateIn after) (stateIn final) chosen (sym (a .state))
     (sym (c .state ∙ ap (run ys) (b .state ∙ ap (λ (st : State). settle (step (Cut k room) st) st) (a .state))
     ∙ sym (run-append xs (Cut k room ∷ ys) (stateIn start)))) fair asked)
@@ -147,6 +166,9 @@ site-calls m start begins xs before first k room after cut ys final later chosen
 
     b : RunsAs after (settle (step (Cut k room) (stateIn before)) (stateIn before))
     b = makes-runs (a .valid) cut
+
+    C : Cutting room (stateIn before) (stateIn after)
+    C = cutting k room (stateIn before) (stateIn after) (fair .answer) (good-in before (a .valid)) (fair .accepted)
 
     c : RunsAs final (run ys (stateIn after))
     c = calls-run (b .valid) later

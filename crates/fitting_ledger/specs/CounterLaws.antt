@@ -27,6 +27,7 @@ session-words s = λ i.
             done = s .site .done;
             persistent = s .site .persistent;
             stable = s .site .stable;
+            left = s .site .left;
             restoring = bit-read (s .site .restoring) i;
             reserved = s .site .reserved;
             table = s .site .table;

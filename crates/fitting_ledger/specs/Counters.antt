@@ -1,4 +1,4 @@
--- A session's counters as ten words.
+-- A session's counters as eleven words.
 use Prim.Native.Nat.{ℕ}
 use mathlib.Core.Bool.{cond}
 use mathlib.Core.List.{List, [], _∷_}
@@ -8,7 +8,7 @@ use Rattle.session.specs.declared.Session.{Session}
 
 -- how many words they are
 abbrev pub counterWords : ℕ
-counterWords = 10
+counterWords = 11
 
 -- The session whose counters are the words.
 unfoldable pub sessionAt : List ℕ → Session
@@ -22,9 +22,10 @@ sessionAt ws =
             done = record { 0 = getD ws 3 0 };
             persistent = record { 0 = getD ws 4 0 };
             stable = record { 0 = getD ws 5 0 };
-            restoring = eqb (getD ws 6 0) 1;
-            reserved = getD ws 7 0;
-            table = record { finished = getD ws 8 0; queue = getD ws 9 0 };
+            left = record { 0 = getD ws 6 0 };
+            restoring = eqb (getD ws 7 0) 1;
+            reserved = getD ws 8 0;
+            table = record { finished = getD ws 9 0; queue = getD ws 10 0 };
           };
     }
 
@@ -37,6 +38,7 @@ wordsOf s =
     ∷ s .site .done .0
     ∷ s .site .persistent .0
     ∷ s .site .stable .0
+    ∷ s .site .left .0
     ∷ cond (s .site .restoring) 1 0
     ∷ s .site .reserved
     ∷ s .site .table .finished

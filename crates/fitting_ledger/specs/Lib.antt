@@ -8,3 +8,5 @@ pub mod CallLaws
 pub mod Adding
 pub mod AddingLaws
 pub mod Polls
+pub mod Changeovers
+pub mod ChangeoverLaws

@@ -72,7 +72,7 @@ pub extern "C" fn fl_persistent_parts(
     counters: &mut Counters,
     log: &[u8],
     rows: &Rows,
-    order: &Order,
+    order: &mut Order,
     book: &mut BookWords,
     numbers: &mut ReplyNumbers,
     answer: &mut Answer,
@@ -95,9 +95,9 @@ pub extern "C" fn fl_persistent_parts(
 #[no_mangle]
 pub extern "C" fn fl_stable_parts(
     counters: &mut Counters,
-    log: &[u8],
+    log: &mut [u8],
     rows: &Rows,
-    order: &mut Order,
+    order: &Order,
     book: &mut BookWords,
     numbers: &mut ReplyNumbers,
     answer: &mut Answer,

@@ -8,9 +8,9 @@ use session::Session;
 use site::Site;
 use table::Table;
 
-// How many words there are: whether a site is open; its histories, bytes of the log in use, operations done, persistent and stable; whether
-// it is restoring; the bytes that its waiting lines will take; operations done and not yet stable, and not done (or waiting).
-pub const COUNTERS: usize = 10;
+// How many words there are: whether a site is open; its histories, bytes of the log in use, operations done, persistent, stable and left;
+// whether it is restoring; the bytes that its waiting lines will take; operations done and still in the table, and not done (or waiting).
+pub const COUNTERS: usize = 11;
 
 pub type Counters = [u64; COUNTERS];
 
@@ -26,8 +26,8 @@ pub(crate) fn session_at(words: &Counters) -> Session
     ensures { λ r. ⌜ r ≡ sessionAt (was words) ⌝ }
 {
     let table = Table {
-        finished: words[8] as usize,
-        queue: words[9] as usize,
+        finished: words[9] as usize,
+        queue: words[10] as usize,
     };
     let site = Site {
         count: words[1] as usize,
@@ -35,8 +35,9 @@ pub(crate) fn session_at(words: &Counters) -> Session
         done: LogNumber(words[3]),
         persistent: LogNumber(words[4]),
         stable: LogNumber(words[5]),
-        restoring: words[6] == 1,
-        reserved: words[7] as usize,
+        left: LogNumber(words[6]),
+        restoring: words[7] == 1,
+        reserved: words[8] as usize,
         table,
     };
     Session {
@@ -54,6 +55,7 @@ fn words_of(s: Session) -> Counters
     let done = site.done;
     let persistent = site.persistent;
     let stable = site.stable;
+    let left = site.left;
     [
         bit(s.opened),
         site.count as u64,
@@ -61,6 +63,7 @@ fn words_of(s: Session) -> Counters
         done.0,
         persistent.0,
         stable.0,
+        left.0,
         bit(site.restoring),
         site.reserved as u64,
         table.finished as u64,

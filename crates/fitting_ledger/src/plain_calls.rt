@@ -44,7 +44,7 @@ pub extern "C" fn fl_show_parts(
 pub extern "C" fn fl_cut_parts(
     counters: &mut Counters,
     log: &[u8],
-    rows: &Rows,
+    rows: &mut Rows,
     order: &Order,
     book: &mut BookWords,
     answer: &mut Answer,

@@ -74,7 +74,7 @@ pub extern "C" fn fl_start_parts(
 pub extern "C" fn fl_restart_parts(
     counters: &mut Counters,
     log: &[u8],
-    rows: &Rows,
+    rows: &mut Rows,
     order: &mut Order,
     book: &mut BookWords,
     kept: usize,

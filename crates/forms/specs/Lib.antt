@@ -17,6 +17,7 @@ pub mod DidLaws
 pub mod CommandLaws
 pub mod LengthLaws
 pub mod HeldLaws
+pub mod LineLaws
 pub mod Read
 pub mod SeenLaws
 pub mod AtLaws
@@ -25,6 +26,7 @@ pub mod ItemLaws
 pub mod FromLaws
 pub mod LoopLaws
 pub mod WholeLaws
+pub mod LineReadLaws
 pub mod AnswerLaws
 pub mod Write
 pub mod WriteLaws

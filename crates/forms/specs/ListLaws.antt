@@ -306,14 +306,21 @@ module _ {A : Type 0} (f : A → Bool) where
       go false k = k
 
 module _ {A : Type 0} where
+  pub mem-of-drop : {x : A} (s : ℕ) (l : List A) → Mem x (drop s l) → Mem x l
+  mem-of-drop zero l m = m
+  mem-of-drop (suc s) [] m = m
+  mem-of-drop (suc s) (y ∷ l) m = there (mem-of-drop s l m)
+
+  -- What is left past more is left past less.
+  pub mem-drop-less : {x : A} (s t : ℕ) → s ≤ t → (l : List A) → Mem x (drop t l) → Mem x (drop s l)
+  mem-drop-less zero t le l m = mem-of-drop t l m
+  mem-drop-less (suc s) zero le l m = absurd (not-suc-le-zero le)
+  mem-drop-less (suc s) (suc t) le [] m = m
+  mem-drop-less (suc s) (suc t) le (y ∷ l) m = mem-drop-less s t (le-of-suc-le-suc le) l m
+
   -- Past the whole first list, what is left is of the second.
   pub mem-drop : {x : A} (s : ℕ) (a b : List A) → length a ≤ s → Mem x (drop s (a ++ b)) → Mem x b
   mem-drop s [] b le m = mem-of-drop s b m
-    where
-      mem-of-drop : {x : A} (s : ℕ) (l : List A) → Mem x (drop s l) → Mem x l
-      mem-of-drop zero l m = m
-      mem-of-drop (suc s) [] m = m
-      mem-of-drop (suc s) (y ∷ l) m = there (mem-of-drop s l m)
   mem-drop zero (y ∷ a) b le m = absurd (not-suc-le-zero le)
   mem-drop (suc s) (y ∷ a) b le m = mem-drop s a b (le-of-suc-le-suc le) m
 

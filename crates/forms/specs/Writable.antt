@@ -3,7 +3,8 @@ use mathlib.Core.List.{List}
 use mathlib.Core.List.{List·Memᴰ as Mem}
 use Prim.Native.Nat.{_≤_}
 use Rattle.forms.specs.Decimal.{top}
-use Rattle.forms.specs.Forms.{Update, Change, Did, Command, SiteOf, Add, Finish, Withdraw, Persistent, Stable, Show, Cut, Redo, End}
+use Rattle.forms.specs.Forms.{Update, Change, Did, Line, didLine, stableLine}
+use Rattle.forms.specs.Forms.{Command, SiteOf, Add, Finish, Withdraw, Persistent, Stable, Show, Cut, Redo, End}
 
 pub record WritableUpdate (u : Update) : Type 0 where
   pub history : u .history ≤ top
@@ -23,6 +24,11 @@ Each {A} P xs = (x : A) → Mem x xs → P x
 pub record WritableDid (d : Did) : Type 0 where
   pub id : d .id ≤ top
   pub changes : Each WritableChange (d .changes)
+
+-- the numbers of a line of a log
+abbrev pub WritableLine : Line → Type 0
+WritableLine (didLine d) = WritableDid d
+WritableLine (stableLine n) = n ≤ top
 
 abbrev pub WritableCommand : Command → Type 0
 WritableCommand (SiteOf n) = n ≤ top

@@ -138,6 +138,7 @@ pub(crate) fn line_length(line: LineForm, xs: &[u64], ys: &[u64], held: DoneHeld
     match line {
         LineForm::Site(n) => number_length(n) + 8,
         LineForm::Did(id) => did_length(DidLine { id, held }),
+        LineForm::Stable(n) => number_length(n) + 10,
         LineForm::Reply(form) => {
             let a = fields_length(xs);
             let b = fields_length(ys);

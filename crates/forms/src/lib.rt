@@ -2,6 +2,7 @@
 // writes them. How each is printed and what each line means is said in specs/.
 mod lengths;
 pub mod limits;
+pub mod line;
 pub mod reader;
 mod text;
 mod tokens;

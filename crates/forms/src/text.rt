@@ -264,6 +264,7 @@ pub(crate) fn write_text(
     match line {
         LineForm::Site(n) => write_one(buf, at, b"(site", n),
         LineForm::Did(id) => write_did_text(buf, at, DidLine { id, held }),
+        LineForm::Stable(n) => write_one(buf, at, b"(stable", n),
         LineForm::Reply(form) => write_form(buf, at, form, xs, ys),
     }
 }

@@ -15,6 +15,7 @@ use libc::STDOUT_FILENO;
 use site::Site;
 use stream::Stream;
 use table::order::Order;
+use table::rows::ROW;
 use table::rows::Rows;
 
 // The stream after some input, and whether to go on.
@@ -116,7 +117,7 @@ fn serve(
 
 fn main() {
     let mut log = io::large_buffer();
-    let mut rows = [0u64; 1472];
+    let mut rows = [0u64; Site::LIVE * ROW];
     let mut order = [0u8; 64];
     let mut book = [0u64; Site::HISTORIES * WIDTH];
     let mut lists = [0u64; 68];

@@ -20,8 +20,8 @@ abbrev pub Rearranged : List Did → List Did → Type 0
 Rearranged a b = Perm a b
 
 -- the lines of a log in history h, in their order
-abbrev pub linesIn : ℕ → List Did → List Did
-linesIn h log = keep (touches h) log
+abbrev pub historyLines : ℕ → List Did → List Did
+historyLines h log = keep (touches h) log
 
 -- d stands before e in a log
 abbrev pub StandsBefore : List Did → Did → Did → Type 0
@@ -32,7 +32,7 @@ pub record SameWork (a b : List Did) : Type 0 where
   pub rearranged : Rearranged a b
   pub sameOrder : (d e : Did) → T (shares d e) → StandsBefore a d e ↔ StandsBefore b d e
   -- the same said of whole histories: each has the same list of lines
-  pub sameIn : (h : ℕ) → linesIn h a ≡ linesIn h b
+  pub sameIn : (h : ℕ) → historyLines h a ≡ historyLines h b
 
 -- ### A delivery of all lost lines
 

@@ -2,8 +2,11 @@
 use mathlib.Core.Path.{_≡_, refl, sym, ap, _∙_, subst}
 use mathlib.Core.Logic.{_⊎_, inl, inr}
 use mathlib.Core.Bool.{Bool, true, false, cond}
-use mathlib.Core.List.{List, [], _∷_, _++_, List·Permᴰ as Perm, List·Permᴰ·nil as perm-nil, List·Permᴰ·cons as perm-cons, List·Permᴰ·trans as perm-trans, Permᴰ·middle, Permᴰ·symm, Permᴰ·append-left, nil≢cons, head-eq-of-cons-eq, tail-eq-of-cons-eq}
-use mathlib.Core.List.{List·Memᴰ as Mem, List·Memᴰ·head as here, List·Memᴰ·tail as there, List·Memᴰ·not-nil, List·Memᴰ·cases-cons, Memᴰ·cast}
+use mathlib.Core.List.{List, [], _∷_, _++_, List·Permᴰ as Perm, List·Permᴰ·nil as perm-nil, List·Permᴰ·cons as perm-cons}
+use mathlib.Core.List.{List·Permᴰ·trans as perm-trans, Permᴰ·middle, Permᴰ·symm, Permᴰ·append-left, nil≢cons, head-eq-of-cons-eq}
+use mathlib.Core.List.{tail-eq-of-cons-eq}
+use mathlib.Core.List.{List·Memᴰ as Mem, List·Memᴰ·head as here, List·Memᴰ·tail as there, List·Memᴰ·not-nil, List·Memᴰ·cases-cons}
+use mathlib.Core.List.{Memᴰ·cast}
 use Prim.Native.Nat.{ℕ}
 use lib.Dec.{T}
 use Rattle.forms.specs.Lists.{keep}
@@ -11,14 +14,15 @@ use Rattle.forms.specs.ListLaws.{Nodup, nodup-mid, nodup-right, mem-split, mem-
 use Rattle.forms.specs.Forms.{Did, didText}
 use Rattle.rules.specs.Book.{touches}
 use Rattle.rules.specs.BookLaws.{proj, proj-mid}
-use Rattle.rules.specs.State.{State}
+use Rattle.rules.specs.State.{State, linesIn}
 use Rattle.rules.specs.Calls.{Cut}
 use Rattle.rules.specs.Run.{run}
 use Rattle.recovery.specs.Claim.{lostBy, shares, Closed, Comes, came}
 use Rattle.recovery.specs.Invariant.{Setting, Inv, nodup-first}
 use Rattle.recovery.specs.Ending.{shares-at, closed-every, closed-ran, just-all, book-proj}
-use Rattle.recovery.specs.Steps.{Picked, setting, Site, site-nodup}
-use Rattle.recovery.specs.Recovery.{Cutting, upTo, K, L, C, P, at-end}
+use Rattle.recovery.specs.Cuts.{Cutting}
+use Rattle.recovery.specs.Steps.{setting-of, Site, site-nodup}
+use Rattle.recovery.specs.Recovery.{upTo, KL, K, L, C, at-end}
 use Rattle.recovery.specs.Arrival.{StandsBefore, SameWork, every, logBefore, logAtEnd, ArrivalClaim, AllThree, OrdersClaim}
 
 -- ### Lists
@@ -110,11 +114,10 @@ work-on a b c S R = same-work a c (perm-trans (S .rearranged) (R .rearranged)) (
 -- ### One delivery
 
 -- The end of a list, as Recovery's `ending` has it, where every line was chosen.
-pub work-done : (room : ℕ) (before after : State) (C : Cutting room before after)
-    (P : Picked (before .histories) (after .log) (lostBy before after)) (lines : List (List ℕ)) (final : State) →
-    Site (before .histories) (after .log) (lostBy before after) every P lines final →
+pub work-done : (room : ℕ) (before after : State) (C : Cutting room before after) (lines : List (List ℕ)) (final : State) →
+    Site (before .histories) (linesIn after) (after .log) (lostBy before after) every lines final →
     ((d : Did) → Mem d (lostBy before after) → T (every d) → Comes lines d) → SameWork (before .log) (final .log)
-work-done room before after C P lines final G all =
+work-done room before after C lines final G all =
     same-work (before .log) (final .log)
     (subst (λ (l : List Did). Perm l (final .log)) (sym (C .first))
     (subst (λ (l : List Did). Perm (kept ++ lost) l) (sym (I .split)) (Permᴰ·append-left kept both)))
@@ -128,7 +131,7 @@ work-done room before after C P lines final G all =
     lost = lostBy before after
 
     S : Setting didText kept lost every
-    S = setting (before .histories) kept lost every P
+    S = setting-of (before .histories) (linesIn after) kept lost every (G .picked)
 
     I : Inv didText kept lost every lines (final .log) (final .waiting)
     I = G .inv
@@ -138,16 +141,16 @@ work-done room before after C P lines final G all =
 
     both : Perm lost (I .ran)
     both =
-        perm-same lost (I .ran) (nodup-right kept lost (nodup-first didText kept lost every S)) (site-nodup (before .histories) kept lost every P lines final G)
+        perm-same lost (I .ran) (nodup-right kept lost (nodup-first didText kept lost every S))
+        (site-nodup (before .histories) (linesIn after) kept lost every lines final G)
         (λ d m. closed-ran didText kept lost every S lines (final .log) (final .waiting) I (G .good .quiet) all d m (whole d m))
         (λ d m. I .ran-chosen d m .0)
 
 pub arrival : ArrivalClaim
-unfolding upTo K L
+unfolding upTo KL K L
 arrival D =
     work-done (D .room) (run (D .calls) (D .site)) (D .after)
     (C (D .counts) (D .site) (D .start) (D .calls) (D .kept) (D .room) (D .further) (D .after) every (D .fair))
-    (P (D .counts) (D .site) (D .start) (D .calls) (D .kept) (D .room) (D .further) (D .after) every (D .fair))
     (came (D .calls ++ Cut (D .kept) (D .room) ∷ D .further) (D .site))
     (run (D .calls ++ Cut (D .kept) (D .room) ∷ D .further) (D .site))
     (at-end (D .counts) (D .site) (D .start) (D .calls) (D .kept) (D .room) (D .further) (D .after) every (D .fair) (D .asked))

@@ -10,48 +10,50 @@ use lib.ListN.{length, take, drop, take-append-drop}
 use lib.Seq.{take-append-le}
 use Rattle.forms.specs.Lists.{all, any}
 use Rattle.forms.specs.ListLaws.{mem-along, and-left, and-right, or-cases, all-at, any-at}
-use Rattle.forms.specs.Forms.{Did, didText, Answer}
-use Rattle.rules.specs.State.{State, Reply, refused, ok, settle}
+use Rattle.forms.specs.Forms.{Did, Line, didText, Answer}
+use Rattle.rules.specs.State.{State, Reply, refused, ok, settle, linesIn}
 use Rattle.rules.specs.Calls.{Call, Add, Finish, Withdraw, Persistent, Stable, Show, Cut, Redo, End, step}
 use Rattle.rules.specs.Keeper.{sameBytes}
 use Rattle.rules.specs.Examples.{same-bytes}
 use Rattle.rules.specs.Good.{Good}
 use Rattle.rules.specs.Run.{run}
 use Rattle.rules.specs.GoodLaws.{good-run}
-use Rattle.recovery.specs.Claim.{countedAfter, counted, Fair, lostBy, Comes, came, Asked}
-use Rattle.recovery.specs.Recovery.{run-append, cutting}
+use Rattle.recovery.specs.Claim.{countedAfter, counted, Fair, Comes, came, Asked}
+use Rattle.recovery.specs.Cuts.{cutting}
+use Rattle.recovery.specs.Recovery.{run-append}
 
 counted-append : (xs ys : List Call) (m : ℕ) (st : State) → counted m (xs ++ ys) st ≡ counted (counted m xs st) ys (run xs st)
 unfolding counted run
 counted-append [] ys m st = refl
 counted-append (c ∷ xs) ys m st = counted-append xs ys (countedAfter c (step c st) m) (settle (step c st) st)
 
--- An accepted cut is fair if it keeps as many did lines as are counted persistent, in a buffer that is no shorter.
+-- An accepted cut is fair if it keeps as many lines as are counted persistent, in a buffer that is no shorter.
 pub fair-of : (m k room : ℕ) (before after : State) (answer : Answer) → Good before → step (Cut k room) before ≡ ok after answer →
-    T (leb m (length (after .log)) && leb (before .room) room) → Fair m k room before after
+    T (leb m (length (linesIn after)) && leb (before .room) room) → Fair m k room before after
 fair-of m k room before after answer G e t =
     record {
       answer = answer;
       accepted = e;
-      keeps = λ d q. front (after .log) (mem-along first q);
-      noShorter = leb→le (before .room) room (and-right (leb m (length (after .log))) (leb (before .room) room) t);
+      keeps = λ l q. front (linesIn after) (mem-along first q);
+      noShorter = leb→le (before .room) room (and-right (leb m (length (linesIn after))) (leb (before .room) room) t);
     }
   where
-    first : take m (before .log) ≡ take m (after .log)
+    first : take m (linesIn before) ≡ take m (linesIn after)
     first =
-        ap (take m) (cutting k room before after answer G e .first)
-        ∙ take-append-le m (after .log) (lostBy before after)
-        (leb→le m (length (after .log)) (and-left (leb m (length (after .log))) (leb (before .room) room) t))
+        let C = cutting k room before after answer G e in
+        ap (take m) (C .lines .1)
+        ∙ take-append-le m (linesIn after) (C .lines .0)
+        (leb→le m (length (linesIn after)) (and-left (leb m (length (linesIn after))) (leb (before .room) room) t))
 
-    front : {d : Did} (l : List Did) → Mem d (take m l) → Mem d l
-    front l q = mem-along (take-append-drop m l) (Memᴰ·append-left (drop m l) q)
+    front : {l : Line} (ls : List Line) → Mem l (take m ls) → Mem l ls
+    front ls q = mem-along (take-append-drop m ls) (Memᴰ·append-left (drop m ls) q)
 
 module _ (lost : List Did) (chosen : Did → Bool) where
   -- the line's bytes are those of a chosen lost line
   unfoldable pub bringsChosen : List ℕ → Bool
   bringsChosen line = any (λ d. chosen d && sameBytes line (didText d)) lost
 
-  -- What is asked of an accepted call that takes the site from st to after, m did lines counted persistent before it.
+  -- What is asked of an accepted call that takes the site from st to after, m lines counted persistent before it.
   abbrev pub mayBeAccepted : ℕ → State → Call → State → Bool
   mayBeAccepted m st (Add i us) after = true
   mayBeAccepted m st (Finish i) after = true
@@ -59,7 +61,7 @@ module _ (lost : List Did) (chosen : Did → Bool) where
   mayBeAccepted m st (Persistent n) after = true
   mayBeAccepted m st (Stable n) after = true
   mayBeAccepted m st (Show h) after = true
-  mayBeAccepted m st (Cut k room) after = leb m (length (after .log)) && leb (st .room) room
+  mayBeAccepted m st (Cut k room) after = leb m (length (linesIn after)) && leb (st .room) room
   mayBeAccepted m st (Redo line) after = bringsChosen line
   mayBeAccepted m st End after = false
 
@@ -80,7 +82,8 @@ module _ (lost : List Did) (chosen : Did → Bool) where
       T (fine (counted m a st) (run a st) c (step c (run a st)))
   unfolding allFine counted run
   fine-at [] c b m st t = and-left (fine m st c (step c st)) _ t
-  fine-at (x ∷ a) c b m st t = fine-at a c b (countedAfter x (step x st) m) (settle (step x st) st) (and-right (fine m st x (step x st)) _ t)
+  fine-at (x ∷ a) c b m st t =
+      fine-at a c b (countedAfter x (step x st) m) (settle (step x st) st) (and-right (fine m st x (step x st)) _ t)
 
   brings-is : (line : List ℕ) → T (bringsChosen line) → (d : Did) × Mem d lost × T (chosen d) × (line ≡ didText d)
   unfolding bringsChosen
@@ -121,7 +124,8 @@ module _ (lost : List Did) (chosen : Did → Bool) where
         T (allCome (came (xs ++ Cut k room ∷ ys) s)) → Asked m s (λ a. xs ++ Cut k room ∷ a) ys lost chosen
     asked-of t u =
         record {
-          cuts = λ a j r b after answer e q. fair-of _ j r _ after answer (good-run (xs ++ Cut k room ∷ a) s start) q (may-be t a (Cut j r) b e after answer q);
+          cuts =
+              λ a j r b after answer e q. fair-of _ j r _ after answer (good-run (xs ++ Cut k room ∷ a) s start) q (may-be t a (Cut j r) b e after answer q);
           redos = λ a line b after answer e q. brings-is line (may-be t a (Redo line) b e after answer q);
           ends = λ a b after answer e q. may-be t a End b e after answer q;
           all = come-is (came (xs ++ Cut k room ∷ ys) s) u;

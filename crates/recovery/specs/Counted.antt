@@ -1,75 +1,208 @@
--- The did lines counted persistent are those that the site's persistent mark covers.
-use mathlib.Core.Path.{_≡_, refl, sym, ap, _∙_}
+-- The lines counted persistent reach up to the stable line whose operations have left the table, and no call takes a line off that is
+-- counted.
+use mathlib.Core.Path.{_≡_, refl, sym, ap, _∙_, subst}
 use mathlib.Core.Option.{Option, none, some}
-use mathlib.Core.List.{List, [], _∷_}
-use Prim.Native.Nat.{ℕ}
-use lib.ListN.{length, take}
+use mathlib.Core.Bool.{Bool, true, false}
+use mathlib.Core.List.{List, [], _∷_, _++_, map, append-assoc, append-nil}
+use Prim.Native.Nat.{ℕ, zero, suc, _≤_, max}
+use native.Mathlib.Nat.{not-suc-le-zero, le-of-suc-le-suc}
+use native.Mathlib.Omega.{arith}
+use lib.ListN.{length, length-append, take, drop, take-append-drop}
+use lib.Seq.{take-append-le, take-length}
 use Rattle.forms.specs.Decimal.{Step}
 use Rattle.forms.specs.Decimal.Step.{got, bad}
 use Rattle.forms.specs.Lists.{find}
-use Rattle.forms.specs.Forms.{Did, Answer}
+use Rattle.forms.specs.ListLaws.{Prefix}
+use Rattle.forms.specs.Forms.{Did, Line, didLine, stableLine, Answer}
 use Rattle.forms.specs.Reading.{readDid}
 use Rattle.forms.specs.declared.Refusal.the-variants.{Unreadable, AboveLimit, OutOfTurn, NoRoom, NoSuchHistory}
-use Rattle.rules.specs.Log.{Journal, journal, noJournal, readLog}
-use Rattle.rules.specs.State.{Operation, State, Reply, refused, ok, settle, logBytes}
-use Rattle.rules.specs.Calls.{opened, openSite, inProgress, finished, finishFound, finish, add, withdraw, persistent, stable, show, restarted, restartAs, restart, cut, delivered, redoRead, redo, end, Call, Add, Finish, Withdraw, Persistent, Stable, Show, Cut, Redo, End, perform, step}
+use Rattle.rules.specs.Log.{weave, mark, reported, Journal, journal, noJournal, readLog}
+use Rattle.rules.specs.State.{Operation, State, Reply, refused, ok, settle, linesIn, logBytes, withMarks, withStables}
+use Rattle.rules.specs.Calls.{opened, openSite, inProgress, lineOf, finished, finishFound, finish, add, withdraw, persistent, aboveMark}
+use Rattle.rules.specs.Calls.{stabled, stable, show, restarted, restartAs, restart, cut, drain, delivered, redoRead, redo, end, Call, Add}
+use Rattle.rules.specs.Calls.{Finish, Withdraw, Persistent, Stable, Show, Cut, Redo, End, perform, step}
 use Rattle.rules.specs.CheckLaws.{refused-not-ok, unless-ok, unless-check}
+use Rattle.rules.specs.Good.{Good, Rises}
+use Rattle.rules.specs.GoodLaws.{good-step}
+use Rattle.rules.specs.DrainLaws.{drain-keeps}
+use Rattle.rules.specs.WeaveLaws.{weave-append, weave-stable, unweave, mark-front, rises-front, reported-front}
 use Rattle.rules.specs.Run.{run}
 use Rattle.recovery.specs.Claim.{Start, justOpened, justRestarted, countedAfter, counted}
-use Rattle.recovery.specs.Steps.{ok-state}
 
--- The persistent mark of a site that a reply gives.
-mark : (a b : State) (x y : Answer) → ok a x ≡ ok b y → a .persistentTo ≡ b .persistentTo
-mark a b x y e = ap (λ (s : State). s .persistentTo) (ok-state a b x y e)
+ok-state : (a b : State) (x y : Answer) → ok a x ≡ ok b y → a ≡ b
+ok-state a b x y e = cc
 
--- After a restart the mark is the number of did lines kept.
-mark-restart : (room : ℕ) (j : Journal) (after : State) (answer : Answer) → restartAs room j ≡ ok after answer → length (after .log) ≡ after .persistentTo
-unfolding restartAs restarted
-mark-restart room (journal n log) after answer e = ap (λ (s : State). length (s .log)) (sym same) ∙ ap (λ (s : State). s .persistentTo) same
-  where
-    same : restarted room n log ≡ after
-    same = ok-state (restarted room n log) after _ answer e
-mark-restart room noJournal after answer e = absurd (refused-not-ok _ after answer e)
+-- ### What is counted
 
-mark-finish : (x : Option Operation) (st after : State) (answer : Answer) → finishFound x st ≡ ok after answer → st .persistentTo ≡ after .persistentTo
+-- m lines are counted persistent: they are lines of the log, and the operations that have left the table did so by a stable line among
+-- them.
+pub record Counts (m : ℕ) (st : State) : Type 0 where
+  pub within : m ≤ length (linesIn st)
+  pub left : st .leftTo ≤ mark (take m (linesIn st))
+
+take-front : (m : ℕ) (a b : List Line) → Prefix a b → m ≤ length a → take m b ≡ take m a
+take-front m a b (r, e) le = ap (take m) e ∙ take-append-le m a r le
+
+-- A call that only adds lines, and lets no operation leave the table.
+pub record Grows (st after : State) : Type 0 where
+  pub lines : Prefix (linesIn st) (linesIn after)
+  pub left : after .leftTo ≡ st .leftTo
+
+grows-as : (st s after : State) (x answer : Answer) → ok s x ≡ ok after answer → Grows st s → Grows st after
+grows-as st s after x answer e g = subst (Grows st) (ok-state s after x answer e) g
+
+grows-same : (st after : State) → linesIn after ≡ linesIn st → after .leftTo ≡ st .leftTo → Grows st after
+grows-same st after e l = record { lines = ([], e ∙ sym (append-nil (linesIn st))); left = l }
+
+counts-grown : (m : ℕ) (st after : State) → Grows st after → Counts m st → Counts m after
+counts-grown m st after g c =
+    record {
+      within = omega (arith, c .within, ap length (g .lines .1), length-append (linesIn st) (g .lines .0));
+      left = omega (arith, c .left, g .left, ap mark (take-front m (linesIn st) (linesIn after) (g .lines) (c .within)));
+    }
+
+-- ### Calls that add lines
+
+grows-dids : (st after : State) (more : List Did) → Good st → after .log ≡ st .log ++ more → after .stables ≡ st .stables →
+    after .leftTo ≡ st .leftTo →
+    Grows st after
+grows-dids st after more G e s l =
+    record {
+      lines = (
+        map didLine more,
+        ap (λ (ss : List _). weave (after .log) ss) s ∙ ap (λ (ds : List Did). weave ds (st .stables)) e ∙ weave-append (st .log) more (st .stables) (G .below),
+      );
+      left = l;
+    }
+
+drain-front : (k : ℕ) (log waiting : List Did) → Prefix log (drain k log waiting .log)
+drain-front k log waiting =
+    drain-keeps (λ l w. Prefix log l)
+    (λ l a d b t p. (p .0 ++ d ∷ [], ap {B = List Did} (λ x. x ++ d ∷ []) (p .1) ∙ append-assoc log (p .0) (d ∷ [])))
+    k log waiting ([], sym (append-nil log))
+
+grows-finish : (x : Option Operation) (st after : State) (answer : Answer) → Good st → finishFound x st ≡ ok after answer → Grows st after
 unfolding finishFound finished
-mark-finish none st after answer e = absurd (refused-not-ok _ after answer e)
-mark-finish (some x) st after answer e = mark _ after _ answer (unless-check _ NoRoom _ after answer e .1)
+grows-finish none st after answer G e = absurd (refused-not-ok _ after answer e)
+grows-finish (some x) st after answer G e =
+    grows-as st _ after _ answer (unless-check _ NoRoom _ after answer e .1) (grows-dids st _ (lineOf (st .log) x ∷ []) G refl refl refl)
 
-mark-redo : (x : Step Did) (st after : State) (answer : Answer) → redoRead x st ≡ ok after answer → st .persistentTo ≡ after .persistentTo
+grows-redo : (x : Step Did) (st after : State) (answer : Answer) → Good st → redoRead x st ≡ ok after answer → Grows st after
 unfolding redoRead delivered
-mark-redo bad st after answer e = absurd (refused-not-ok _ after answer e)
-mark-redo (got d rest) st after answer e = mark _ after _ answer (unless-ok _ _ after answer e .1)
+grows-redo bad st after answer G e = absurd (refused-not-ok _ after answer e)
+grows-redo (got d rest) st after answer G e =
+    let p = drain-front (suc (length (st .waiting))) (st .log) (st .waiting ++ (d ∷ [])) in
+    grows-as st _ after _ answer (unless-ok _ _ after answer e .1) (grows-dids st _ (p .0) G (p .1) refl refl)
 
-counted-ok : (c : Call) (st after : State) (answer : Answer) → perform c st ≡ ok after answer →
-    countedAfter c (ok after answer) (st .persistentTo) ≡ after .persistentTo
-unfolding countedAfter perform add finish withdraw persistent stable show cut redo end
-counted-ok (Add i us) st after answer e = mark _ after _ answer (unless-ok _ _ after answer e .1)
-counted-ok (Finish i) st after answer e = mark-finish (find (inProgress i) (st .pending)) st after answer (unless-check _ OutOfTurn _ after answer e .1)
-counted-ok (Withdraw i) st after answer e = mark _ after _ answer (unless-ok _ _ after answer e .1)
-counted-ok (Persistent n) st after answer e = mark _ after _ answer (unless-check _ AboveLimit _ after answer e .1)
-counted-ok (Stable n) st after answer e = mark _ after _ answer (unless-check _ AboveLimit _ after answer e .1)
-counted-ok (Show h) st after answer e = mark _ after _ answer (unless-check _ NoSuchHistory _ after answer e .1)
-counted-ok (Cut k room) st after answer e = mark-restart room (readLog (take k (logBytes st))) after answer (unless-check _ AboveLimit _ after answer e .1)
-counted-ok (Redo line) st after answer e = mark-redo (readDid line) st after answer e
-counted-ok End st after answer e = mark _ after _ answer (unless-check _ OutOfTurn _ after answer e .1)
-
-pub counted-step : (c : Call) (st : State) → countedAfter c (step c st) (st .persistentTo) ≡ settle (step c st) st .persistentTo
-unfolding step settle countedAfter
-counted-step c st = go (step c st) refl
+grows-stable : (n : ℕ) (st : State) → Grows st (stabled n st)
+unfolding stabled
+grows-stable n st = go (aboveMark n st)
   where
-    go : (x : Reply) → step c st ≡ x → countedAfter c x (st .persistentTo) ≡ settle x st .persistentTo
-    go (refused r) e = refl
-    go (ok after answer) e = counted-ok c st after answer (unless-check _ Unreadable _ after answer e .1)
+    go : (b : Bool) →
+        Grows st (elim b [ true ↦ withStables (st .stables ++ (record { behind = length (st .log); upTo = n } ∷ [])) st | false ↦ st ])
+    go true = record { lines = (stableLine n ∷ [], weave-stable (st .log) (st .stables) n); left = refl }
+    go false = grows-same st st refl refl
 
-pub counted-is : (cs : List Call) (m : ℕ) (st : State) → m ≡ st .persistentTo → counted m cs st ≡ run cs st .persistentTo
+-- ### Every call
+
+counts-restart : (room : ℕ) (j : Journal) (after : State) (answer : Answer) → restartAs room j ≡ ok after answer →
+    Counts (length (linesIn after)) after
+unfolding restartAs restarted
+counts-restart room (journal n lines) after answer e = subst (λ (s : State). Counts (length (linesIn s)) s) same kept
+  where
+    same : restarted room n lines ≡ after
+    same = ok-state (restarted room n lines) after _ answer e
+
+    kept : Counts (length (linesIn (restarted room n lines))) (restarted room n lines)
+    kept =
+        record {
+          within = omega arith;
+          left = omega (arith, ap mark (take-length (linesIn (restarted room n lines))), ap mark (unweave lines));
+        }
+counts-restart room noJournal after answer e = absurd (refused-not-ok _ after answer e)
+
+take-less : (j k : ℕ) (l : List Line) → j ≤ k → Prefix (take j l) (take k l)
+take-less zero k l le = (take k l, refl)
+take-less (suc j) zero l le = absurd (not-suc-le-zero le)
+take-less (suc j) (suc k) [] le = ([], refl)
+take-less (suc j) (suc k) (x ∷ l) le = let q = take-less j k l (le-of-suc-le-suc le) in (q .0, ap (λ (z : List Line). x ∷ z) (q .1))
+
+pub take-begins : (m : ℕ) (l : List Line) → Prefix (take m l) l
+take-begins m l = (drop m l, sym (take-append-drop m l))
+
+-- A report counts the lines up to the did line that it names.
+counts-persistent : (m n : ℕ) (st : State) (p : ℕ) → Good st → Counts m st →
+    Counts (max m (length (reported n (linesIn st)))) (withMarks p (max (st .leftTo) (mark (reported n (linesIn st)))) st)
+counts-persistent m n st p G c =
+    record {
+      within = omega (arith, c .within, ap length (front .1), length-append R (front .0));
+      left = omega (arith, c .left, mark-front (take m L) (take M L) (take-less m M L (omega arith)) up, mark-front R (take M L) rest up);
+    }
+  where
+    L : List Line
+    L = linesIn st
+
+    R : List Line
+    R = reported n L
+
+    M : ℕ
+    M = max m (length R)
+
+    front : Prefix R L
+    front = reported-front n L
+
+    up : Rises (take M L)
+    up = rises-front (take M L) L (take-begins M L) (G .rises)
+
+    rest : Prefix R (take M L)
+    rest =
+        subst (λ (x : List Line). Prefix x (take M L)) (take-front (length R) R L front (omega arith) ∙ take-length R) (take-less (length R) M L (omega arith))
+
+counts-ok : (c : Call) (m : ℕ) (st after : State) (answer : Answer) → Good st → Counts m st → perform c st ≡ ok after answer →
+    Counts (countedAfter c (ok after answer) m) after
+unfolding countedAfter perform add finish withdraw persistent stable show cut redo end
+counts-ok (Add i us) m st after answer G C e =
+    counts-grown m st after (grows-as st _ after _ answer (unless-ok _ _ after answer e .1) (grows-same st _ refl refl)) C
+counts-ok (Finish i) m st after answer G C e =
+    counts-grown m st after
+    (grows-finish (find (inProgress i) (st .pending)) st after answer G (unless-check _ OutOfTurn _ after answer e .1)) C
+counts-ok (Withdraw i) m st after answer G C e =
+    counts-grown m st after (grows-as st _ after _ answer (unless-ok _ _ after answer e .1) (grows-same st _ refl refl)) C
+counts-ok (Persistent n) m st after answer G C e =
+    subst (λ (s : State). Counts (max m (length (reported n (linesIn s)))) s) (ok-state _ after _ answer (unless-check _ AboveLimit _ after answer e .1))
+    (counts-persistent m n st _ G C)
+counts-ok (Stable n) m st after answer G C e =
+    counts-grown m st after (grows-as st _ after _ answer (unless-ok _ _ after answer e .1) (grows-stable n st)) C
+counts-ok (Show h) m st after answer G C e =
+    counts-grown m st after
+    (grows-as st st after _ answer (unless-check _ NoSuchHistory _ after answer e .1) (grows-same st st refl refl)) C
+counts-ok (Cut k room) m st after answer G C e =
+    counts-restart room (readLog (take k (logBytes st))) after answer (unless-check _ AboveLimit _ after answer e .1)
+counts-ok (Redo line) m st after answer G C e = counts-grown m st after (grows-redo (readDid line) st after answer G e) C
+counts-ok End m st after answer G C e =
+    counts-grown m st after (grows-as st _ after _ answer (unless-check _ OutOfTurn _ after answer e .1) (grows-same st _ refl refl)) C
+
+pub counts-step : (c : Call) (m : ℕ) (st : State) → Good st → Counts m st → Counts (countedAfter c (step c st) m) (settle (step c st) st)
+unfolding step settle countedAfter
+counts-step c m st G C = go (step c st) refl
+  where
+    go : (x : Reply) → step c st ≡ x → Counts (countedAfter c x m) (settle x st)
+    go (refused r) e = C
+    go (ok after answer) e = counts-ok c m st after answer G C (unless-check _ Unreadable _ after answer e .1)
+
+pub counted-is : (cs : List Call) (m : ℕ) (st : State) → Good st → Counts m st → Counts (counted m cs st) (run cs st)
 unfolding counted run
-counted-is [] m st e = e
-counted-is (c ∷ cs) m st e =
-    counted-is cs (countedAfter c (step c st) m) (settle (step c st) st) (ap (λ (i : ℕ). countedAfter c (step c st) i) e ∙ counted-step c st)
+counted-is [] m st G C = C
+counted-is (c ∷ cs) m st G C =
+    counted-is cs (countedAfter c (step c st) m) (settle (step c st) st) (good-step c st G) (counts-step c m st G C)
 
-pub counted-start : (m : ℕ) (s : State) → Start m s → m ≡ s .persistentTo
-unfolding openSite opened restart
-counted-start m s (justOpened n room t answer e) = mark (opened n room) t _ answer (unless-ok _ _ t answer e .1)
+counts-none : (n room : ℕ) → Counts 0 (opened n room)
+unfolding opened
+counts-none n room = record { within = omega arith; left = omega arith }
+
+pub counted-start : (m : ℕ) (s : State) → Start m s → Counts m s
+unfolding openSite restart
+counted-start m s (justOpened n room t answer e) =
+    subst (Counts 0) (ok-state (opened n room) t _ answer (unless-ok _ _ t answer e .1)) (counts-none n room)
 counted-start m s (justRestarted buffer k t answer e) =
-    mark-restart (length buffer) (readLog (take k buffer)) t answer (unless-check _ AboveLimit _ t answer e .1)
+    counts-restart (length buffer) (readLog (take k buffer)) t answer (unless-check _ AboveLimit _ t answer e .1)

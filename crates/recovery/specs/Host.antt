@@ -9,9 +9,9 @@ use mathlib.Core.Option.{Option, none, some}
 use Prim.Native.Nat.{ℕ, _≤_, _<_}
 use lib.Dec.{T}
 use lib.ListN.{take}
-use Rattle.forms.specs.Forms.{Did, didText, Answer}
+use Rattle.forms.specs.Forms.{Did, Line, didText, Answer}
 use Rattle.forms.specs.declared.Refusal.the-variants.{TableFull}
-use Rattle.rules.specs.State.{State, Reply, refused, ok, settle, live}
+use Rattle.rules.specs.State.{State, Reply, refused, ok, settle, linesIn, live}
 use Rattle.rules.specs.Calls.{Call, Cut, Redo, End, step}
 use Rattle.recovery.specs.Claim.{Start, countedAfter, lostBy, Comes, comesAfter, Recovered}
 use Rattle.recovery.specs.Arrival.{every, SameWork}
@@ -65,7 +65,7 @@ module _ (H : Host) where
     pub isCut : H .own x ≡ some (Cut k room)
     pub answer : Answer
     pub accepted : H .reply x w ≡ ok after answer
-    pub keeps : (d : Did) → Mem d (take m (H .site w .log)) → Mem d (after .log)
+    pub keeps : (l : Line) → Mem l (take m (linesIn (H .site w))) → Mem l (linesIn after)
     pub noShorter : H .site w .room ≤ room
 
   -- Claim's `Asked`

@@ -5,30 +5,27 @@ use mathlib.Core.Bool.{Bool}
 use mathlib.Core.List.{List, [], _∷_, _++_, append-assoc, append-nil}
 use mathlib.Core.List.{List·Memᴰ as Mem, Memᴰ·append-right}
 use mathlib.Core.Option.{Option, none, some}
-use Prim.Native.Nat.{ℕ, _≤_, _<_}
+use Prim.Native.Nat.{ℕ, _+_, _≤_, _<_}
 use native.Mathlib.Omega.{arith}
-use lib.ListN.{length, length-drop}
+use lib.ListN.{length, take, drop}
 use Rattle.forms.specs.ListLaws.{mem-along}
-use Rattle.forms.specs.Forms.{Did, didText}
+use Rattle.forms.specs.Forms.{Did, Line, didText, Answer}
 use Rattle.forms.specs.declared.Refusal.the-variants.{TableFull}
-use Rattle.rules.specs.State.{State, Reply, refused, ok, settle, live, liveDone}
+use Rattle.rules.specs.State.{State, Reply, refused, ok, settle, linesIn, live}
 use Rattle.rules.specs.Calls.{Call, Add, Finish, Withdraw, Persistent, Stable, Show, Cut, Redo, End, step}
+use Rattle.rules.specs.Log.{mark}
 use Rattle.rules.specs.CheckLaws.{refused-not-ok}
 use Rattle.rules.specs.Good.{Good}
 use Rattle.rules.specs.GoodLaws.{good-step}
 use Rattle.recovery.specs.Claim.{countedAfter, lostBy, comesAfter, Recovered}
-use Rattle.recovery.specs.Steps.{Picked, Site, Obeys, step-keeps, fresh-below, redo-full}
-use Rattle.recovery.specs.Counted.{counted-start, counted-step}
-use Rattle.recovery.specs.Recovery.{start-good, picked, marked-kept, Cutting, cutting, cut-site, ending}
+use Rattle.recovery.specs.Cuts.{Picked, Cutting, cutting, left-kept, picked-at, were-live, cut-live}
+use Rattle.recovery.specs.Steps.{Site, Obeys, step-keeps, fresh-below, redo-full}
+use Rattle.recovery.specs.Recovery.{start-good, cut-site, stays-counted, still-kept, site-enough, ending}
+use Rattle.recovery.specs.Counted.{Counts, counted-start, counts-step}
 use Rattle.recovery.specs.Arrival.{every, SameWork}
 use Rattle.recovery.specs.ArrivalLaws.{work-done}
-use Rattle.recovery.specs.Host.{Host, Plays, runIn, Playing, countedOn, countedIn, cameOn, cameIn, ListIn, beforeCut, atEnd, HostClaim, HostArrival}
-
--- The lines that a cut loses were live, where it keeps the persistent ones.
-lost-live : (before after : State) → Good before → before .persistentTo ≤ length (after .log) → length (lostBy before after) ≤ live before
-unfolding lostBy live liveDone
-lost-live before after G le =
-    omega (arith, length-drop (length (after .log)) (before .log), length-drop (before .stableTo) (before .log), G .stableBelow)
+use Rattle.recovery.specs.Host.{Host, Plays, runIn, Playing, countedOn, countedIn, cameOn, cameIn, ListIn, beforeCut, atEnd}
+use Rattle.recovery.specs.Host.{HostClaim, HostArrival}
 
 module _ (H : Host) where
   -- ### Lists of moves
@@ -52,7 +49,8 @@ module _ (H : Host) where
   playing-first [] b w p = tt
   playing-first (x ∷ a) b w p = (p .0, playing-first a b (H .next x w) (p .1))
 
-  pub playing-at : (a : List (H .Move)) (x : H .Move) (b : List (H .Move)) (w : H .World) → Playing H (a ++ x ∷ b) w → Plays H (H .own x) x (runIn H a w)
+  pub playing-at : (a : List (H .Move)) (x : H .Move) (b : List (H .Move)) (w : H .World) → Playing H (a ++ x ∷ b) w →
+      Plays H (H .own x) x (runIn H a w)
   unfolding runIn
   playing-at [] x b w p = p .0
   playing-at (y ∷ a) x b w p = playing-at a x b (H .next y w) (p .1)
@@ -70,24 +68,42 @@ module _ (H : Host) where
   good-in [] w p G = G
   good-in (x ∷ xs) w p G = good-in xs (H .next x w) (p .1) (good-move (H .own x) x w (p .0) G)
 
-  counted-move : (o : Option Call) (x : H .Move) (w : H .World) → Plays H o x w →
-      countedOn H o (H .reply x w) (H .site w .persistentTo) ≡ H .site (H .next x w) .persistentTo
+  counted-move : (o : Option Call) (x : H .Move) (w : H .World) (m : ℕ) → Plays H o x w → Good (H .site w) → Counts m (H .site w) →
+      Counts (countedOn H o (H .reply x w) m) (H .site (H .next x w))
   unfolding countedAfter settle
-  counted-move none x w p = ap (λ (s : State). s .persistentTo) (sym p)
-  counted-move (some c) x w (p, inl e) =
-      ap (λ (r : Reply). countedAfter c r (H .site w .persistentTo)) e
-      ∙ ap (λ (s : State). s .persistentTo) (sym (p ∙ ap (λ (r : Reply). settle r (H .site w)) e))
-  counted-move (some c) x w (p, inr e) =
-      ap (λ (r : Reply). countedAfter c r (H .site w .persistentTo)) e ∙ counted-step c (H .site w)
-      ∙ ap (λ (s : State). s .persistentTo) (sym (p ∙ ap (λ (r : Reply). settle r (H .site w)) e))
+  counted-move none x w m p G c = subst (Counts m) (sym p) c
+  counted-move (some c) x w m (p, inl e) G k =
+      subst (Counts (countedAfter c (H .reply x w) m)) (sym (p ∙ ap (λ (r : Reply). settle r (H .site w)) e))
+      (subst (λ (r : Reply). Counts (countedAfter c r m) (H .site w)) (sym e) k)
+  counted-move (some c) x w m (p, inr e) G k =
+      subst (Counts (countedAfter c (H .reply x w) m)) (sym (p ∙ ap (λ (r : Reply). settle r (H .site w)) e))
+      (subst (λ (r : Reply). Counts (countedAfter c r m) (settle (step c (H .site w)) (H .site w))) (sym e) (counts-step c m (H .site w) G k))
 
-  pub counted-in : (xs : List (H .Move)) (m : ℕ) (w : H .World) → Playing H xs w → m ≡ H .site w .persistentTo →
-      countedIn H m xs w ≡ H .site (runIn H xs w) .persistentTo
+  pub counted-in : (xs : List (H .Move)) (m : ℕ) (w : H .World) → Playing H xs w → Good (H .site w) → Counts m (H .site w) →
+      Counts (countedIn H m xs w) (H .site (runIn H xs w))
   unfolding countedIn runIn
-  counted-in [] m w p e = e
-  counted-in (x ∷ xs) m w p e =
-      counted-in xs (countedOn H (H .own x) (H .reply x w) m) (H .next x w) (p .1)
-      (ap (λ (i : ℕ). countedOn H (H .own x) (H .reply x w) i) e ∙ counted-move (H .own x) x w (p .0))
+  counted-in [] m w p G c = c
+  counted-in (x ∷ xs) m w p G c =
+      counted-in xs (countedOn H (H .own x) (H .reply x w) m) (H .next x w) (p .1) (good-move (H .own x) x w (p .0) G)
+      (counted-move (H .own x) x w m (p .0) G c)
+
+  counted-snoc : (m : ℕ) (xs : List (H .Move)) (x : H .Move) (w : H .World) →
+      countedIn H m (xs ++ x ∷ []) w ≡ countedOn H (H .own x) (H .reply x (runIn H xs w)) (countedIn H m xs w)
+  unfolding runIn countedIn
+  counted-snoc m [] x w = refl
+  counted-snoc m (y ∷ xs) x w = counted-snoc (countedOn H (H .own y) (H .reply y w) m) xs x (H .next y w)
+
+  -- ### A fair cut
+
+  -- A fair cut leaves no more live than were before it.
+  pub fair-live : (m k room : ℕ) (before after : State) (answer : Answer) → Good before → Counts m before →
+      step (Cut k room) before ≡ ok after answer →
+      ((l : Line) → Mem l (take m (linesIn before)) → Mem l (linesIn after)) → live after ≤ live before
+  unfolding settle
+  fair-live m k room before after answer G c e keeps =
+      let C = cutting k room before after answer G e in
+      cut-live room before after G (subst (λ (r : Reply). Good (settle r before)) e (good-step (Cut k room) before G)) C
+      (left-kept m room before after G c C keeps)
 
   -- ### The list
 
@@ -113,7 +129,7 @@ module _ (H : Host) where
     start-is : Good (H .site (l .start))
     start-is = start-good (l .m) (H .site (l .start)) (l .begins)
 
-    marks : l .m ≡ H .site (l .start) .persistentTo
+    marks : Counts (l .m) (H .site (l .start))
     marks = counted-start (l .m) (H .site (l .start)) (l .begins)
 
     before-plays : Playing H (l .xs) (l .start)
@@ -141,20 +157,28 @@ module _ (H : Host) where
     C : Cutting (l .room) before (l .after)
     C = cutting (l .k) (l .room) before (l .after) (l .fair .answer) before-good accepted
 
-    kept : before .persistentTo ≤ length (l .after .log)
+    kept : before .leftTo ≤ mark (linesIn (l .after))
     unfolding before
     kept =
-        marked-kept (countedIn H (l .m) (l .xs) (l .start)) before (l .after .log) before-good
-        (counted-in (l .xs) (l .m) (l .start) before-plays marks) (l .fair .keeps)
+        left-kept (countedIn H (l .m) (l .xs) (l .start)) (l .room) before (l .after) before-good
+        (counted-in (l .xs) (l .m) (l .start) before-plays start-is marks) C (l .fair .keeps)
 
-    P : Picked (before .histories) (l .after .log) (lostBy before (l .after))
-    P = picked before (l .after .log) (lostBy before (l .after)) before-good (C .first) kept
+    KL : List Line
+    KL = linesIn (l .after)
 
-    were-live : (n : ℕ) → n < length (lostBy before (l .after)) → n < live before
-    were-live n lt = omega (arith, lost-live before (l .after) before-good kept)
+    lost : List Did
+    lost = lostBy before (l .after)
+
+    P : Picked (before .histories) KL (l .after .log) lost
+    unfolding KL lost
+    P = picked-at (l .room) before (l .after) before-good C kept
+
+    all-live : (i : ℕ) → i < length (drop (mark KL) (l .after .log)) + length lost → i < live before
+    unfolding KL lost
+    all-live i lt = omega (arith, were-live (l .room) before (l .after) before-good C kept)
 
     abbrev At : List (List ℕ) → State → Type 0
-    At lines st = Site (before .histories) (l .after .log) (lostBy before (l .after)) chosen P lines st
+    At lines st = Site (before .histories) KL (l .after .log) lost chosen lines st
 
     taken : H .site (at-world []) ≡ l .after
     unfolding at-world upTo settle
@@ -174,28 +198,31 @@ module _ (H : Host) where
     good-at a b e = good-in (upTo a) (l .start) (playing-to a b e) start-is
 
     at-cut : At [] (l .after)
-    unfolding before
+    unfolding before KL lost
     at-cut = cut-site (l .room) before (l .after) chosen before-good C P (subst Good taken (good-at [] (l .ys) refl)) (l .fair .noShorter)
+
+    -- the call is one that the claim allows there
+    abbrev Obeying : State → Call → Type 0
+    Obeying st c = Obeys (before .histories) KL (l .after .log) lost chosen st c
 
     -- What is asked of a call, said of its step in 01.
     obeys : (a : List (H .Move)) (x : H .Move) (b : List (H .Move)) → l .ys ≡ a ++ x ∷ b → (c : Call) → H .own x ≡ some c →
-        H .reply x (at-world a) ≡ step c (H .site (at-world a)) →
-        Obeys (before .histories) (l .after .log) (lostBy before (l .after)) chosen P (H .site (at-world a)) c
-    unfolding at-world upTo before
-    obeys a x b e (Add i us) o p = tt
-    obeys a x b e (Finish i) o p = tt
-    obeys a x b e (Withdraw i) o p = tt
-    obeys a x b e (Persistent n) o p = tt
-    obeys a x b e (Stable n) o p = tt
-    obeys a x b e (Show h) o p = tt
-    obeys a x b e (Cut j r) o p = λ st answer q.
+        length KL ≤ countedIn H (l .m) (upTo a) (l .start) → length KL ≤ length (linesIn (H .site (at-world a))) →
+        H .reply x (at-world a) ≡ step c (H .site (at-world a)) → Obeying (H .site (at-world a)) c
+    unfolding at-world upTo before lost
+    obeys a x b e (Add i us) o le enough p = tt
+    obeys a x b e (Finish i) o le enough p = tt
+    obeys a x b e (Withdraw i) o le enough p = tt
+    obeys a x b e (Persistent n) o le enough p = tt
+    obeys a x b e (Stable n) o le enough p = tt
+    obeys a x b e (Show h) o le enough p = tt
+    obeys a x b e (Cut j r) o le enough p = λ st answer q.
         let f = l .asked .cuts a x b j r st answer e o (p ∙ q) in (
-          marked-kept (countedIn H (l .m) (upTo a) (l .start)) (H .site (at-world a)) (st .log) (good-at a (x ∷ b) e)
-              (counted-in (upTo a) (l .m) (l .start) (playing-to a (x ∷ b) e) marks) (f .keeps),
+          still-kept KL (countedIn H (l .m) (upTo a) (l .start)) (H .site (at-world a)) st (good-at a (x ∷ b) e) le enough (f .keeps),
           f .noShorter,
         )
-    obeys a x b e (Redo line) o p = λ st answer q. l .asked .redos a x b line st answer e o (p ∙ q)
-    obeys a x b e End o p = λ st answer q. l .asked .ends a x b st answer e o (p ∙ q)
+    obeys a x b e (Redo line) o le enough p = λ st answer q. l .asked .redos a x b line st answer e o (p ∙ q)
+    obeys a x b e End o le enough p = λ st answer q. l .asked .ends a x b st answer e o (p ∙ q)
 
     -- A call that is refused 10.
     refused-ten : (a : List (H .Move)) (x : H .Move) (b : List (H .Move)) → l .ys ≡ a ++ x ∷ b → (c : Call) → H .own x ≡ some c →
@@ -210,30 +237,45 @@ module _ (H : Host) where
     refused-ten a x b e (Show h) o p lines G = G
     refused-ten a x b e (Cut j r) o p lines G = G
     refused-ten a x b e (Redo line) o p lines G =
-        redo-full (before .histories) (l .after .log) (lostBy before (l .after)) chosen P lines (H .site (at-world a)) G line
-        (λ lt. l .roomy a x b line e o (were-live _ lt) p)
+        redo-full (before .histories) KL (l .after .log) lost chosen lines (H .site (at-world a)) G line
+        (λ lt. l .roomy a x b line e o (all-live _ lt) p)
     refused-ten a x b e End o p lines G = G
 
+    -- What holds after the first calls a of ys: KL is counted, and the site is as Steps says.
+    record Holds (a : List (H .Move)) : Type 0 where
+      counted : length KL ≤ countedIn H (l .m) (upTo a) (l .start)
+      at : At (lines-of a) (H .site (at-world a))
+
+    enough : (a : List (H .Move)) → Holds a → length KL ≤ length (linesIn (H .site (at-world a)))
+    enough a G = site-enough (before .histories) KL (l .after .log) lost chosen (lines-of a) (H .site (at-world a)) (G .at)
+
     move-keeps : (a : List (H .Move)) (x : H .Move) (b : List (H .Move)) → l .ys ≡ a ++ x ∷ b → (o : Option Call) → H .own x ≡ o →
-        Plays H o x (at-world a) → (lines : List (List ℕ)) → At lines (H .site (at-world a)) →
-        At (cameOn H o (H .reply x (at-world a)) lines) (H .site (H .next x (at-world a)))
-    unfolding settle
-    move-keeps a x b e none o p lines G = subst (λ (s : State). At lines s) (sym p) G
-    move-keeps a x b e (some c) o (p, inl q) lines G =
-        subst (λ (s : State). At (comesAfter c (H .reply x (at-world a)) lines) s) (sym (p ∙ ap (λ (r : Reply). settle r (H .site (at-world a))) q))
-        (subst (λ (r : Reply). At (comesAfter c r lines) (H .site (at-world a))) (sym q) (refused-ten a x b e c o q lines G))
-    move-keeps a x b e (some c) o (p, inr q) lines G =
-        subst (λ (s : State). At (comesAfter c (H .reply x (at-world a)) lines) s) (sym p)
-        (subst (λ (r : Reply). At (comesAfter c r lines) (settle r (H .site (at-world a)))) (sym q)
-        (step-keeps (before .histories) (l .after .log) (lostBy before (l .after)) chosen P lines (H .site (at-world a)) G c (obeys a x b e c o q)
-        (good-step c (H .site (at-world a)) (good-at a (x ∷ b) e))))
+        Plays H o x (at-world a) → Holds a →
+        (length KL ≤ countedOn H o (H .reply x (at-world a)) (countedIn H (l .m) (upTo a) (l .start))) ×
+        At (cameOn H o (H .reply x (at-world a)) (lines-of a)) (H .site (H .next x (at-world a)))
+    unfolding settle countedAfter
+    move-keeps a x b e none o p G = (G .counted, subst (λ (s : State). At (lines-of a) s) (sym p) (G .at))
+    move-keeps a x b e (some c) o (p, inl q) G = (
+      subst (λ (r : Reply). length KL ≤ countedAfter c r (countedIn H (l .m) (upTo a) (l .start))) (sym q) (G .counted),
+      subst (λ (s : State). At (comesAfter c (H .reply x (at-world a)) (lines-of a)) s) (sym (p ∙ ap (λ (r : Reply). settle r (H .site (at-world a))) q))
+          (subst (λ (r : Reply). At (comesAfter c r (lines-of a)) (H .site (at-world a))) (sym q) (refused-ten a x b e c o q (lines-of a) (G .at))),
+    )
+    move-keeps a x b e (some c) o (p, inr q) G =
+        let O : Obeying (H .site (at-world a)) c = obeys a x b e c o (G .counted) (enough a G) q in (
+          subst (λ (r : Reply). length KL ≤ countedAfter c r (countedIn H (l .m) (upTo a) (l .start))) (sym q)
+              (stays-counted (before .histories) KL (l .after .log) lost chosen c (H .site (at-world a)) (countedIn H (l .m) (upTo a) (l .start)) (G .counted) O),
+          subst (λ (s : State). At (comesAfter c (H .reply x (at-world a)) (lines-of a)) s) (sym p)
+              (subst (λ (r : Reply). At (comesAfter c r (lines-of a)) (settle r (H .site (at-world a)))) (sym q)
+              (step-keeps (before .histories) KL (l .after .log) lost chosen (lines-of a) (H .site (at-world a)) (G .at) c O
+              (good-step c (H .site (at-world a)) (good-at a (x ∷ b) e)))),
+        )
 
     -- What holds after the first calls a of ys holds after the next b.
-    keeps : (a b c : List (H .Move)) → l .ys ≡ a ++ (b ++ c) → At (lines-of a) (H .site (at-world a)) → At (lines-of (a ++ b)) (H .site (at-world (a ++ b)))
+    keeps : (a b c : List (H .Move)) → l .ys ≡ a ++ (b ++ c) → Holds a → Holds (a ++ b)
     unfolding upTo at-world lines-of
-    keeps a [] c e G = subst (λ (z : List (H .Move)). At (lines-of z) (H .site (at-world z))) (sym (append-nil a)) G
+    keeps a [] c e G = subst Holds (sym (append-nil a)) G
     keeps a (x ∷ b) c e G =
-        subst (λ (z : List (H .Move)). At (lines-of z) (H .site (at-world z))) (append-assoc a (x ∷ []) b)
+        subst Holds (append-assoc a (x ∷ []) b)
         (keeps (a ++ x ∷ []) b c (e ∙ sym (append-assoc a (x ∷ []) (b ++ c))) next)
       where
         plays : Plays H (H .own x) x (at-world a)
@@ -242,46 +284,74 @@ module _ (H : Host) where
             (subst (λ (z : List (H .Move)). Playing H z (l .start))
             (ap {B = List (H .Move)} (λ z. l .xs ++ l .x ∷ z) e ∙ sym (append-assoc (l .xs) (l .x ∷ a) (x ∷ (b ++ c)))) (l .plays))
 
-        made : At (cameOn H (H .own x) (H .reply x (at-world a)) (lines-of a)) (H .site (H .next x (at-world a)))
-        made = move-keeps a x (b ++ c) e (H .own x) refl plays (lines-of a) G
+        made : (length KL ≤ countedOn H (H .own x) (H .reply x (at-world a)) (countedIn H (l .m) (upTo a) (l .start))) ×
+            At (cameOn H (H .own x) (H .reply x (at-world a)) (lines-of a)) (H .site (H .next x (at-world a)))
+        made = move-keeps a x (b ++ c) e (H .own x) refl plays G
 
         longer : upTo (a ++ x ∷ []) ≡ upTo a ++ x ∷ []
         longer = sym (append-assoc (l .xs) (l .x ∷ a) (x ∷ []))
 
-        next : At (lines-of (a ++ x ∷ [])) (H .site (at-world (a ++ x ∷ [])))
+        next : Holds (a ++ x ∷ [])
         next =
-            subst (λ (z : List (H .Move)). At (cameIn H [] z (l .start)) (H .site (runIn H z (l .start)))) (sym longer)
-            (subst (λ (z : List (List ℕ)). At z (H .site (runIn H (upTo a ++ x ∷ []) (l .start)))) (sym (came-snoc [] (upTo a) x (l .start)))
-            (subst (λ (w : H .World). At (cameOn H (H .own x) (H .reply x (at-world a)) (lines-of a)) (H .site w)) (sym (run-snoc (upTo a) x (l .start))) made))
+            record {
+              counted =
+                  omega (arith, made .0, counted-snoc (l .m) (upTo a) x (l .start), ap (λ (z : List (H .Move)). countedIn H (l .m) z (l .start)) longer);
+              at =
+                  subst (λ (z : List (H .Move)). At (cameIn H [] z (l .start)) (H .site (runIn H z (l .start)))) (sym longer)
+                  (subst (λ (z : List (List ℕ)). At z (H .site (runIn H (upTo a ++ x ∷ []) (l .start)))) (sym (came-snoc [] (upTo a) x (l .start)))
+                  (subst (λ (w : H .World). At (cameOn H (H .own x) (H .reply x (at-world a)) (lines-of a)) (H .site w)) (sym (run-snoc (upTo a) x (l .start))) (made .1)));
+            }
 
-    at-first : At (lines-of []) (H .site (at-world []))
-    at-first = subst (λ (t : State). At (lines-of []) t) (sym taken) (subst (λ (z : List (List ℕ)). At z (l .after)) (sym none-came) at-cut)
+    first-counted : length KL ≤ countedIn H (l .m) (upTo []) (l .start)
+    unfolding KL upTo countedAfter
+    first-counted =
+        omega (
+          arith,
+          counted-snoc (l .m) (l .xs) (l .x) (l .start),
+          ap (λ (o : Option Call). countedOn H o (H .reply (l .x) (runIn H (l .xs) (l .start))) (countedIn H (l .m) (l .xs) (l .start))) (l .fair .isCut),
+          ap (λ (r : Reply). countedAfter (Cut (l .k) (l .room)) r (countedIn H (l .m) (l .xs) (l .start))) (l .fair .accepted),
+        )
+
+    at-first : Holds []
+    at-first =
+        record {
+          counted = first-counted;
+          at =
+              subst (λ (t : State). At (lines-of []) t) (sym taken) (subst (λ (z : List (List ℕ)). At z (l .after)) (sym none-came) at-cut);
+        }
 
     at-all : (a b : List (H .Move)) → l .ys ≡ a ++ b → At (lines-of a) (H .site (at-world a))
-    at-all a b e = keeps [] a b e at-first
+    at-all a b e = keeps [] a b e at-first .at
 
     at-end : At (lines-of (l .ys)) (H .site (at-world (l .ys)))
     at-end = at-all (l .ys) [] (sym (append-nil (l .ys)))
 
     -- At no moment is a lost line refused 10 that has not run and does not wait.
-    pub never-ten : (a : List (H .Move)) (x : H .Move) (b : List (H .Move)) (d : Did) → l .ys ≡ a ++ x ∷ b → H .own x ≡ some (Redo (didText d)) →
+    pub never-ten : (a : List (H .Move)) (x : H .Move) (b : List (H .Move)) (d : Did) → l .ys ≡ a ++ x ∷ b →
+        H .own x ≡ some (Redo (didText d)) →
         Mem d (lostBy (beforeCut H l) (l .after)) → (Mem d (H .site (runIn H (l .xs ++ l .x ∷ a) (l .start)) .log) → ⊥) →
-        (Mem d (H .site (runIn H (l .xs ++ l .x ∷ a) (l .start)) .waiting) → ⊥) → H .reply x (runIn H (l .xs ++ l .x ∷ a) (l .start)) ≡ refused TableFull → ⊥
-    unfolding before upTo at-world lines-of
-    never-ten a x b d e own lost out-log out-wait ten =
+        (Mem d (H .site (runIn H (l .xs ++ l .x ∷ a) (l .start)) .waiting) → ⊥) → H .reply x
+        (runIn H (l .xs ++ l .x ∷ a) (l .start)) ≡ refused TableFull → ⊥
+    unfolding before upTo at-world lines-of lost
+    never-ten a x b d e own gone out-log out-wait ten =
         let G = at-all a (x ∷ b) e in
         l .roomy a x b (didText d) e own
-        (were-live _ (fresh-below (before .histories) (l .after .log) (lostBy before (l .after)) chosen P (lines-of a) (H .site (at-world a)) G d lost
+        (all-live _
+        (fresh-below (before .histories) KL (l .after .log) lost chosen (lines-of a) (H .site (at-world a)) G d gone
         (λ r. out-log (mem-along (sym (G .inv .split)) (Memᴰ·append-right (l .after .log) r))) out-wait)) ten
 
-    pub recovered : Recovered (beforeCut H l) (l .after) (lostBy (beforeCut H l) (l .after)) chosen (cameIn H [] (l .xs ++ l .x ∷ l .ys) (l .start)) (atEnd H l)
-    unfolding before upTo at-world lines-of
-    recovered = ending (l .room) before (l .after) chosen before-good C P (lines-of (l .ys)) (H .site (at-world (l .ys))) at-end (l .asked .all)
+    pub recovered : Recovered (beforeCut H l) (l .after) (lostBy (beforeCut H l) (l .after)) chosen
+        (cameIn H [] (l .xs ++ l .x ∷ l .ys) (l .start)) (atEnd H l)
+    unfolding before upTo at-world lines-of KL lost
+    recovered =
+        ending (l .room) before (l .after) chosen before-good C (lines-of (l .ys)) (H .site (at-world (l .ys))) at-end (l .asked .all)
 
   module _ (l : ListIn H every) where
     pub arrived : SameWork (beforeCut H l .log) (atEnd H l .log)
-    unfolding before upTo at-world lines-of
-    arrived = work-done (l .room) (before every l) (l .after) (C every l) (P every l) (lines-of every l (l .ys)) (H .site (at-world every l (l .ys))) (at-end every l) (l .asked .all)
+    unfolding before upTo at-world lines-of KL lost
+    arrived =
+        work-done (l .room) (before every l) (l .after) (C every l) (lines-of every l (l .ys)) (H .site (at-world every l (l .ys)))
+        (at-end every l) (l .asked .all)
 
 -- Demand 3 for a site in whatever carries it.
 pub host-recovery : (H : Host) → HostClaim H

@@ -1,12 +1,15 @@
 pub mod Claim
 pub mod Invariant
 pub mod Ending
+pub mod Cuts
 pub mod Steps
 pub mod Counted
 pub mod Recovery
+pub mod Fairness
 pub mod Older
 pub mod Checking
 pub mod Instance
+pub mod Weakened
 pub mod Arrival
 pub mod ArrivalLaws
 pub mod Host

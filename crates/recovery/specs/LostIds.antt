@@ -3,19 +3,22 @@ use mathlib.Core.Path.{_≡_, refl, sym, _∙_, subst}
 use mathlib.Core.Logic.{_↔_}
 use mathlib.Core.Bool.{Bool}
 use mathlib.Core.List.{List, [], _∷_, _++_, Memᴰ·map, Memᴰ·of-map}
-use mathlib.Core.List.{List·Memᴰ as Mem, List·Memᴰ·head as here, List·Memᴰ·tail as there, Memᴰ·cast}
+use mathlib.Core.List.{List·Memᴰ as Mem, List·Memᴰ·head as here, List·Memᴰ·tail as there, Memᴰ·cast, Memᴰ·append-right}
 use Prim.Native.Nat.{ℕ}
 use lib.Dec.{T}
+use lib.ListN.{drop}
 use Rattle.forms.specs.ListLaws.{Nodup, nodup-right}
 use Rattle.forms.specs.Forms.{Did, Ended}
-use Rattle.rules.specs.State.{State, ok}
+use Rattle.rules.specs.Log.{mark}
+use Rattle.rules.specs.State.{State, ok, linesIn}
 use Rattle.rules.specs.Calls.{Call, Cut, End, step}
 use Rattle.rules.specs.Good.{Good, didIds}
 use Rattle.rules.specs.GoodLaws.{good-run}
 use Rattle.rules.specs.Run.{run}
 use Rattle.recovery.specs.Claim.{Start, counted, Fair, lostBy, HasRun, came, Asked, Recovered}
 use Rattle.recovery.specs.Counted.{counted-start, counted-is}
-use Rattle.recovery.specs.Recovery.{start-good, log-once, marked-kept, picked, Cutting, cutting, recovery}
+use Rattle.recovery.specs.Cuts.{log-once, left-kept, picked-at, Cutting, cutting}
+use Rattle.recovery.specs.Recovery.{start-good, recovery}
 
 -- Lines of a list with the same id are the same line.
 abbrev pub OneEach : List Did → Type 0
@@ -64,8 +67,12 @@ module _
 
   one-each : OneEach lost
   one-each =
-      picked (run xs s) (after .log) lost good (cuts .first)
-      (marked-kept (counted m xs s) (run xs s) (after .log) good (counted-is xs m s (counted-start m s start)) (fair .keeps)) .ids
+      λ d e a b p.
+      picked-at room (run xs s) after good cuts
+      (left-kept (counted m xs s) room (run xs s) after good (counted-is xs m s (start-good m s start) (counted-start m s start)) cuts
+      (fair .keeps))
+      .ids d e (Memᴰ·append-right (drop (mark (linesIn after)) (after .log)) a)
+      (Memᴰ·append-right (drop (mark (linesIn after)) (after .log)) b) p
 
   distinct : Nodup (didIds lost)
   distinct = nodup-ids lost (nodup-right (after .log) lost (subst Nodup (cuts .first) (log-once (run xs s) good))) one-each

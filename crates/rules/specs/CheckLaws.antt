@@ -110,7 +110,7 @@ pub record Formed {A : Type 0} (history : A → ℕ) (misfits : A → Bool) (n :
   pub once : Nodup (map history xs)
   pub fit : (x : A) → Mem x xs → misfits x ≡ false
 
-twice-once : (hs : List ℕ) → historyTwice hs ≡ false → Nodup hs
+pub twice-once : (hs : List ℕ) → historyTwice hs ≡ false → Nodup hs
 unfolding historyTwice
 twice-once [] e = tt
 twice-once (h ∷ hs) e = (
@@ -118,7 +118,7 @@ twice-once (h ∷ hs) e = (
   twice-once hs (or-false-right (any (eqb h) hs) (historyTwice hs) e),
 )
 
-once-twice : (hs : List ℕ) → Nodup hs → historyTwice hs ≡ false
+pub once-twice : (hs : List ℕ) → Nodup hs → historyTwice hs ≡ false
 unfolding historyTwice
 once-twice [] k = refl
 once-twice (h ∷ hs) k =

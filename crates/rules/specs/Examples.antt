@@ -12,30 +12,34 @@ use Rattle.forms.specs.ListLaws.{and-left, and-right, all-at}
 use Rattle.forms.specs.Words.{bytes, word}
 use Rattle.forms.specs.Decimal.{top, digitsWithin, digits, more, number}
 use Rattle.forms.specs.Refusals.{numberOf}
-use Rattle.forms.specs.Forms.{Update, Did}
-use Rattle.forms.specs.Forms.{fieldText, fieldsText, itemsText, tailText, listText, updateText, changeText, oneText, siteText, didText, redoText}
+use Rattle.forms.specs.Forms.{Update, Did, fieldText, fieldsText, itemsText, tailText, listText, updateText, changeText, oneText, siteText}
+use Rattle.forms.specs.Forms.{didText, redoText, stableText, lineText}
 use Rattle.forms.specs.Forms.{numbersText, answerText, outcomeText}
 use Rattle.forms.specs.Reading as reading
-use Rattle.forms.specs.Reading.{readDid, readSite, readCommand, readWhole}
+use Rattle.forms.specs.Reading.{readDid, readSite, readCommand, readWhole, readLine}
 use Rattle.forms.specs.Limits.{logLimit}
 use Rattle.forms.specs.declared.Rule.the-variants.{Inc, Set, Unk}
 use Rattle.forms.specs.declared.DoneRule.the-variants.{DidSet}
 use Rattle.forms.specs.declared.Refusal.the-variants.{HighestVersion, TableFull}
 use Rattle.rules.specs.Book.{touches, runsAt}
 use Rattle.rules.specs.Checks.{check, andThen, wrongCount, noSuchHistory, historyTwice, updateMisfits, formRefusal, updatesRefusal}
-use Rattle.rules.specs.Log.{ended, didsText, logText, linesFrom, restFrom, historiesFit}
-use Rattle.rules.specs.State.{Operation, State, logBytes, versionAt, liveDone, live, asks, dry, becameDry, rose, lineBytes}
-use Rattle.rules.specs.Calls.{unless, openFull, openRefusal, opened, openSite, blockedBy, blocked, mayRunNow, ready, attempt, tryFrom, madeReady, neverNow, holdsNever, overtaken, notOvertaken, overtakenIds}
-use Rattle.rules.specs.Calls.{nothingOrders, idPending, idDone, alreadyDone, readOvertaken, atHighest, tableFull, addRefusal, arrived, add, changeOf, lineOf}
-use Rattle.rules.specs.Calls.{valuesAfter, inProgress, future, without, logFull, finished, finishFound, finish, withdrawRefusal, withdraw, persistent}
-use Rattle.rules.specs.Calls.{stable, show, restarted, restartAs, restart, cutAbove, cut, stale, redoRefusal, behind, pick, drain, delivered}
+use Rattle.rules.specs.Log.{ended, logText, linesFrom, restFrom, historiesFit, stablesFrom, stablesAt, weaveFrom, markFrom, upToDid}
+use Rattle.rules.specs.Log.{reported, linesText, rises, follows, liveIn, tableHolds}
+use Rattle.rules.specs.State.{Operation, State, logBytes, versionAt, liveDone, live, asks, dry, becameDry, rose, lineBytes, bytesOf}
+use Rattle.rules.specs.Calls.{unless, openFull, openRefusal, opened, openSite, blockedBy, blocked, mayRunNow, ready, attempt, tryFrom}
+use Rattle.rules.specs.Calls.{madeReady, neverNow, holdsNever, overtaken, notOvertaken, overtakenIds, nothingOrders, idPending}
+use Rattle.rules.specs.Calls.{idDone, alreadyDone, readOvertaken, atHighest, tableFull, addRefusal, arrived, add, changeOf, lineOf}
+use Rattle.rules.specs.Calls.{valuesAfter, inProgress, future, without, logFull, finished, finishFound, finish, withdrawRefusal}
+use Rattle.rules.specs.Calls.{withdraw, persistent}
+use Rattle.rules.specs.Calls.{aboveMark, stableFull, stableRefusal, stabled, stable, show, restarted, restartAs, restart, cutAbove}
+use Rattle.rules.specs.Calls.{cut, stale, redoRefusal, behind, pick, drain, delivered}
 use Rattle.rules.specs.Calls.{redoRead, redo, end, writableUpdate, writable, perform, step}
 use Rattle.rules.specs.Keeper.{sameBytes}
 use Rattle.rules.specs.Session.{turnOf, opening, calling, obey, onCommand, turn, replies, restReply, sessionIn, session}
 use Rattle.rules.specs.Rules.{profileOf, replacedWith}
 use Rattle.rules.specs.Book.{canRunWith, cellFromWith, cellWith, enterAllWith, enterWith, enteredWith}
 use Rattle.rules.specs.Checks.{changeMisfitsWith, changesRefusalWith}
-use Rattle.rules.specs.Log.{acceptsWith, readFirstWith, readLinesWith, readLogWith}
+use Rattle.rules.specs.Log.{acceptsWith, readLines, readFirst, readLog}
 
 -- A session: the text of its input, and the text of all its replies.
 pub record Row : Type 0 where
@@ -233,19 +237,21 @@ rows = whole ∷ edges ++ (looks ++ overtakes)
 computed : T (all holds rows && sameBytes (sessionIn 30 (fullLog .input)) (fullLog .replies))
 computed =
     unfold holds sameBytes below word digitsWithin digits more number numberOf in
-    unfold fieldText fieldsText itemsText tailText listText updateText changeText oneText siteText didText redoText numbersText answerText outcomeText in
+    unfold fieldText fieldsText itemsText tailText listText updateText changeText oneText siteText didText stableText lineText redoText numbersText answerText outcomeText in
     unfold reading.field reading.rule reading.doneRule reading.update reading.change reading.one reading.items reading.tail reading.did reading.addForm in
-    unfold reading.redoForm reading.numbered reading.command readDid readSite readCommand readWhole in
+    unfold reading.redoForm reading.numbered reading.command reading.line readDid readLine readSite readCommand readWhole in
     unfold replacedWith profileOf enteredWith enterWith enterAllWith cellFromWith cellWith touches runsAt canRunWith in
     unfold check andThen wrongCount noSuchHistory historyTwice updateMisfits changeMisfitsWith in
     unfold formRefusal updatesRefusal changesRefusalWith in
-    unfold ended didsText logText linesFrom restFrom historiesFit acceptsWith readLinesWith readFirstWith readLogWith in
-    unfold logBytes versionAt liveDone live asks dry becameDry rose lineBytes in
+    unfold stablesFrom stablesAt weaveFrom markFrom upToDid reported ended linesText logText linesFrom restFrom historiesFit acceptsWith in
+    unfold rises follows liveIn tableHolds readLines readFirst readLog in
+    unfold logBytes versionAt liveDone live asks dry becameDry rose lineBytes bytesOf in
     unfold unless openFull openRefusal opened openSite blockedBy blocked mayRunNow ready attempt tryFrom madeReady in
     unfold neverNow holdsNever overtaken notOvertaken overtakenIds nothingOrders idPending idDone in
     unfold alreadyDone readOvertaken atHighest tableFull addRefusal arrived add changeOf lineOf valuesAfter inProgress future in
     unfold without logFull finished in
-    unfold finishFound finish withdrawRefusal withdraw persistent stable show restarted restartAs restart cutAbove cut stale redoRefusal behind pick in
+    unfold finishFound finish withdrawRefusal withdraw persistent aboveMark stableFull stableRefusal stabled stable show in
+    unfold restarted restartAs restart cutAbove cut stale redoRefusal behind pick in
     unfold drain delivered redoRead redo end writableUpdate writable perform step in
     unfold turnOf opening calling obey onCommand turn replies restReply sessionIn session in
     tt
@@ -292,10 +298,11 @@ having n =
       histories = 2;
       room = logLimit;
       log = topLine ∷ [];
+      stables = [];
       pending = futures n;
       waiting = [];
       persistentTo = 0;
-      stableTo = 0;
+      leftTo = 0;
       restoring = false;
     }
 

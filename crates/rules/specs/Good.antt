@@ -4,19 +4,19 @@ use mathlib.Core.Bool.{true, false}
 use mathlib.Core.List.{List, [], _∷_, _++_, map}
 use mathlib.Core.List.{List·Memᴰ as Mem}
 use mathlib.Core.Option.{none}
-use Prim.Native.Nat.{ℕ, _+_, _≤_}
+use Prim.Native.Nat.{ℕ, _+_, _≤_, _<_}
 use lib.Dec.{T}
 use lib.ListN.{length}
 use Rattle.forms.specs.Decimal.{top}
 use Rattle.forms.specs.Lists.{all, sum}
 use Rattle.forms.specs.ListLaws.{Nodup}
-use Rattle.forms.specs.Forms.{Update, Did}
+use Rattle.forms.specs.Forms.{Update, Did, Line, stableLine}
 use Rattle.forms.specs.Writable.{WritableDid}
 use Rattle.rules.specs.Book.{canRun}
 use Rattle.rules.specs.Checks.{updatesRefusal, changesRefusal}
-use Rattle.rules.specs.Log.{historiesFit}
+use Rattle.rules.specs.Log.{StableAt, dids, mark, historiesFit}
 use Rattle.forms.specs.Limits.{liveLimit, logLimit}
-use Rattle.rules.specs.State.{Operation, State, logBytes, liveDone, live, lineBytes}
+use Rattle.rules.specs.State.{Operation, State, logBytes, liveDone, live, lineBytes, linesIn, stableTo}
 use Rattle.rules.specs.Calls.{mayRunNow, blocked, holdsNever, nothingOrders, writableUpdate}
 
 -- A line that can stand in a log of n histories: it passes 2 to 5, and can be written.
@@ -27,6 +27,20 @@ pub record FormedDid (n : ℕ) (d : Did) : Type 0 where
 -- Every line of a log ran where it stands: its places were next and its updates could run.
 abbrev pub Ran : List Did → Type 0
 Ran log = (a : List Did) (d : Did) (b : List Did) → log ≡ a ++ d ∷ b → T (canRun a d)
+
+-- What a stable line says where it stands, behind the lines a: it rises, is not above the did lines before it, and can be written.
+pub record Risen (a : List Line) (k : ℕ) : Type 0 where
+  pub above : mark a < k
+  pub within : k ≤ length (dids a)
+  pub writable : k ≤ top
+
+-- Every stable line of a log stands where it may.
+abbrev pub Rises : List Line → Type 0
+Rises lines = (a : List Line) (k : ℕ) (b : List Line) → lines ≡ a ++ stableLine k ∷ b → Risen a k
+
+-- Stable lines that stand behind no more than d did lines.
+abbrev pub Below : ℕ → List StableAt → Type 0
+Below d ss = (s : StableAt) → Mem s ss → s .behind ≤ d
 
 -- An operation that passed 2 to 6, and can be written.
 pub record FormedOperation (n : ℕ) (x : Operation) : Type 0 where
@@ -56,7 +70,11 @@ pub record Good (st : State) : Type 0 where
   -- the printed log and the waiting lines fit the buffer
   pub fits : length (logBytes st) + sum lineBytes (st .waiting) ≤ st .room
   pub roomLimit : st .room ≤ logLimit
-  pub stableBelow : st .stableTo ≤ st .persistentTo
+  -- the stable lines rise, and stand behind did lines of the log
+  pub rises : Rises (linesIn st)
+  pub below : Below (length (st .log)) (st .stables)
+  pub leftBelow : st .leftTo ≤ stableTo st
+  pub stableBelow : stableTo st ≤ st .persistentTo
   pub persistentBelow : st .persistentTo ≤ length (st .log)
   -- "At most 64 operations are live"
   pub few : live st ≤ liveLimit

@@ -1,24 +1,30 @@
 -- Every call keeps the invariant, and so does every list of calls.
-use mathlib.Core.Path.{_≡_, refl}
-use mathlib.Core.Bool.{not}
+use mathlib.Core.Path.{_≡_, refl, sym, ap, _∙_, subst}
+use mathlib.Core.Bool.{Bool, true, false, not, _&&_}
+use mathlib.Core.Logic.{_⊎_, inl, inr}
 use mathlib.Core.List.{List, [], _∷_, _++_}
-use Prim.Native.Nat.{ℕ, _≤_, max}
-use native.Mathlib.Nat.{le-refl}
+use mathlib.Core.List.{List·Memᴰ as Mem}
+use Prim.Native.Nat.{ℕ, _+_, _≤_, _<_, max}
 use native.Mathlib.Omega.{arith}
-use lib.Dec.{T, leb, leb→le}
+use lib.Dec.{T, leb, leb→le, ltb→lt}
 use lib.ListN.{length, length-drop}
 use Rattle.forms.specs.Decimal.{top}
-use Rattle.forms.specs.Lists.{all}
-use Rattle.forms.specs.ListLaws.{true-T, and-left, and-right}
-use Rattle.forms.specs.Forms.{Did, Answer}
-use Rattle.forms.specs.declared.Refusal.the-variants.{Unreadable, NoSuchHistory, AboveLimit}
-use Rattle.rules.specs.State.{State, Reply, refused, ok, logBytes, liveDone, live, withMarks, settle}
-use Rattle.rules.specs.Calls.{openSite, restart, persistent, stable, show, Call, Add, Finish, Withdraw, Persistent, Stable, Show, Cut, Redo, End, writableUpdate}
+use Rattle.forms.specs.Lists.{all, sum}
+use Rattle.forms.specs.ListLaws.{true-T, and-left, and-right, mem-snoc}
+use Rattle.forms.specs.Forms.{Did, Answer, Line, stableLine}
+use Rattle.forms.specs.declared.Refusal.the-variants.{Unreadable, NoSuchHistory, AboveLimit, OutOfTurn, NoRoom}
+use Rattle.rules.specs.State.{State, Reply, refused, ok, logBytes, liveDone, live, withMarks, settle, linesIn, stableTo, lineBytes}
+use Rattle.rules.specs.State.{bytesOf, withStables}
+use Rattle.rules.specs.Calls.{openSite, restart, persistent, stable, show, Call, Add, Finish, Withdraw, Persistent, Stable, Show, Cut}
+use Rattle.rules.specs.Calls.{Redo, End, writableUpdate, aboveMark, stableFull, stableRefusal, stabled}
+use Rattle.rules.specs.Log.{StableAt, weave, mark, reported, logText}
+use Rattle.rules.specs.WeaveLaws.{dids-weave, weave-stable, mark-stable, mark-front, rises-stable, reported-front}
+use Rattle.rules.specs.FitLaws.{length-log-snoc, few-did-lines}
 use Rattle.rules.specs.Calls.{writable, perform, step}
-use Rattle.rules.specs.Good.{Good, NoNever, didIds, operationIds}
-use Rattle.rules.specs.CheckLaws.{unless-check, not-lt, not-false}
+use Rattle.rules.specs.Good.{Good, NoNever, didIds, operationIds, Risen, Rises}
+use Rattle.rules.specs.CheckLaws.{unless-check, not-lt, not-false, check-none, unless-ok}
 use Rattle.rules.specs.IdLaws.{ids-later}
-use Rattle.rules.specs.WorkLaws.{good-ok, good-add, good-finish, good-withdraw}
+use Rattle.rules.specs.WorkLaws.{good-ok, true-not-false, good-add, good-finish, good-withdraw}
 use Rattle.rules.specs.RedoLaws.{good-redo, good-end}
 use Rattle.rules.specs.StartLaws.{good-cut}
 -- a site just opened, or restarted from any bytes that are accepted, has the invariant
@@ -28,9 +34,10 @@ use Rattle.rules.specs.Run.{run}
 -- ### Marks and show
 
 -- Marks that rise, and stay in order and within the log.
-good-marks : (p s : ℕ) (st : State) → Good st → st .stableTo ≤ s → s ≤ p → p ≤ length (st .log) → Good (withMarks p s st)
+good-marks : (p t : ℕ) (st : State) → Good st → st .leftTo ≤ t → t ≤ stableTo st → stableTo st ≤ p → p ≤ length (st .log) →
+    Good (withMarks p t st)
 unfolding live liveDone logBytes
-good-marks p s st G up low high =
+good-marks p t st G up low mid high =
     record {
       histories = G .histories;
       formed = G .formed;
@@ -39,10 +46,13 @@ good-marks p s st G up low high =
       quiet = G .quiet;
       fits = G .fits;
       roomLimit = G .roomLimit;
-      stableBelow = low;
+      rises = G .rises;
+      below = G .below;
+      leftBelow = low;
+      stableBelow = mid;
       persistentBelow = high;
-      few = omega (arith, G .few, length-drop (st .stableTo) (st .log), length-drop s (st .log));
-      ids = ids-later (λ (d : Did). d .id) (st .stableTo) s up (st .log) (didIds (st .waiting) ++ operationIds (st .pending)) (G .ids);
+      few = omega (arith, G .few, length-drop (st .leftTo) (st .log), length-drop t (st .log));
+      ids = ids-later (λ (d : Did). d .id) (st .leftTo) t up (st .log) (didIds (st .waiting) ++ operationIds (st .pending)) (G .ids);
       idle = G .idle;
       nobodyWaits = G .nobodyWaits;
       pendingFormed = G .pendingFormed;
@@ -57,15 +67,94 @@ good-persistent n st st′ a G e =
     let q = unless-check _ AboveLimit _ st′ a e in
     let le = not-lt (length (st .log)) n (q .0) in
     good-ok _ st′ _ a (q .1)
-    (good-marks (max (st .persistentTo) n) (st .stableTo) st G (le-refl (st .stableTo)) (omega (arith, G .stableBelow)) (omega (arith, G .persistentBelow)))
+    (good-marks (max (st .persistentTo) n) (max (st .leftTo) (mark (reported n (linesIn st)))) st G (omega arith)
+    (omega (arith, G .leftBelow, mark-front (reported n (linesIn st)) (linesIn st) (reported-front n (linesIn st)) (G .rises)))
+    (omega (arith, G .stableBelow)) (omega (arith, G .persistentBelow)))
+
+-- A stable line more: its operations stay in the table.
+stable-good : (n : ℕ) (st : State) → Good st → st .restoring ≡ false → stableTo st < n → n ≤ st .persistentTo →
+    length (logBytes st) + bytesOf (stableLine n) ≤ st .room →
+    Good (withStables (st .stables ++ record { behind = length (st .log); upTo = n } ∷ []) st)
+unfolding live liveDone logBytes
+stable-good n st G off up le fits =
+    record {
+      histories = G .histories;
+      formed = G .formed;
+      ran = G .ran;
+      waitingFormed = G .waitingFormed;
+      quiet = G .quiet;
+      fits =
+          omega (
+            arith,
+            ap (λ (x : List Line). length (logText (st .histories) x)) lines′,
+            length-log-snoc (st .histories) (linesIn st) (stableLine n),
+            ap (sum lineBytes) (G .nobodyWaits off),
+          );
+      roomLimit = G .roomLimit;
+      rises = subst Rises (sym lines′) (rises-stable (linesIn st) n (G .rises) risen);
+      below = λ s m. one s (mem-snoc (st .stables) m);
+      leftBelow = omega (arith, G .leftBelow, mark′);
+      stableBelow = omega (arith, mark′);
+      persistentBelow = G .persistentBelow;
+      few = G .few;
+      ids = G .ids;
+      idle = G .idle;
+      nobodyWaits = G .nobodyWaits;
+      pendingFormed = G .pendingFormed;
+      running = G .running;
+      noNever = G .noNever;
+      apart = G .apart;
+    }
+  where
+    ss : List StableAt
+    ss = st .stables ++ record { behind = length (st .log); upTo = n } ∷ []
+
+    lines′ : weave (st .log) ss ≡ linesIn st ++ stableLine n ∷ []
+    lines′ = weave-stable (st .log) (st .stables) n
+
+    mark′ : mark (weave (st .log) ss) ≡ n
+    mark′ = ap mark lines′ ∙ mark-stable (linesIn st) n
+
+    risen : Risen (linesIn st) n
+    risen =
+        record {
+          above = up;
+          within = omega (arith, G .persistentBelow, ap length (dids-weave (st .log) (st .stables)));
+          writable = omega (arith, G .persistentBelow, G .fits, G .roomLimit, few-did-lines (st .histories) (st .log) (st .stables));
+        }
+
+    one : (s : StableAt) → (s ≡ record { behind = length (st .log); upTo = n }) ⊎ Mem s (st .stables) → s .behind ≤ length (st .log)
+    one s (inl e) = let z : s .behind ≡ length (st .log) = ap (λ (x : StableAt). x .behind) e in omega arith
+    one s (inr m) = G .below s m
+
+and-false : (a b : Bool) → a ≡ true → (a && b) ≡ false → b ≡ false
+and-false true b e p = p
+and-false false b e p = absurd (true-not-false false e refl)
+
+above-is : (n : ℕ) (st : State) → aboveMark n st ≡ true → stableTo st < n
+unfolding aboveMark
+above-is n st e = ltb→lt (stableTo st) n (true-T (aboveMark n st) e)
+
+fits-is : (n : ℕ) (st : State) → stableFull n st ≡ false → length (logBytes st) + bytesOf (stableLine n) ≤ st .room
+unfolding stableFull
+fits-is n st e = not-lt (st .room) (length (logBytes st) + bytesOf (stableLine n)) e
 
 good-stable : (n : ℕ) (st st′ : State) (a : Answer) → Good st → stable n st ≡ ok st′ a → Good st′
-unfolding stable
+unfolding stable stableRefusal stabled
 good-stable n st st′ a G e =
-    let q = unless-check _ AboveLimit _ st′ a e in
-    let le = not-lt (st .persistentTo) n (q .0) in
-    good-ok _ st′ _ a (q .1)
-    (good-marks (st .persistentTo) (max (st .stableTo) n) st G (omega arith) (omega (arith, G .stableBelow)) (G .persistentBelow))
+    let q = unless-ok _ _ st′ a e in
+    let q14 = check-none _ OutOfTurn _ (q .0) in
+    let q12 = check-none _ NoRoom _ (q14 .1) in
+    let q13 = check-none _ AboveLimit _ (q12 .1) in
+    good-ok _ st′ _ a (q .1) (go (aboveMark n st) refl (q14 .0) (q12 .0) (not-lt (st .persistentTo) n (q13 .0)))
+  where
+    go : (b : Bool) → aboveMark n st ≡ b → (aboveMark n st && st .restoring) ≡ false → (aboveMark n st && stableFull n st) ≡ false →
+        n ≤ st .persistentTo →
+        Good (elim b [ true ↦ withStables (st .stables ++ (record { behind = length (st .log); upTo = n } ∷ [])) st | false ↦ st ])
+    go true p e14 e12 le =
+        stable-good n st G (and-false (aboveMark n st) (st .restoring) p e14) (above-is n st p) le
+        (fits-is n st (and-false (aboveMark n st) (stableFull n st) p e12))
+    go false p e14 e12 le = G
 
 good-show : (h : ℕ) (st st′ : State) (a : Answer) → Good st → show h st ≡ ok st′ a → Good st′
 unfolding show
@@ -76,7 +165,8 @@ good-show h st st′ a G e = good-ok st st′ _ a (unless-check _ NoSuchHistory 
 good-perform : (c : Call) (st st′ : State) (a : Answer) → Good st → T (writable c) → perform c st ≡ ok st′ a → Good st′
 unfolding perform writable
 good-perform (Add i us) st st′ a G w e =
-    good-add i us st st′ a G (leb→le i top (and-left (leb i top) (all writableUpdate us) w)) (and-right (leb i top) (all writableUpdate us) w) e
+    good-add i us st st′ a G (leb→le i top (and-left (leb i top) (all writableUpdate us) w))
+    (and-right (leb i top) (all writableUpdate us) w) e
 good-perform (Finish i) st st′ a G w e = good-finish i st st′ a G e
 good-perform (Withdraw i) st st′ a G w e = good-withdraw i st st′ a G e
 good-perform (Persistent n) st st′ a G w e = good-persistent n st st′ a G e

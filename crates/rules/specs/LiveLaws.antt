@@ -1,9 +1,9 @@
 -- How many operations are live after a call.
-use mathlib.Core.Path.{_≡_, refl, ap, subst}
+use mathlib.Core.Path.{_≡_, refl, ap, _∙_, subst}
 use mathlib.Core.Bool.{Bool, true, false, not}
 use mathlib.Core.List.{List, [], _∷_, _++_}
 use mathlib.Core.Option.{Option, none, some}
-use Prim.Native.Nat.{ℕ, suc, _+_, _≤_}
+use Prim.Native.Nat.{ℕ, suc, _+_, _≤_, max}
 use native.Mathlib.Omega.{arith}
 use lib.Dec.{T-not, eqb, eqb-refl}
 use lib.ListN.{length, length-append, length-drop, take}
@@ -14,14 +14,19 @@ use Rattle.forms.specs.ListLaws.{length-keep, length-keep-less}
 use Rattle.forms.specs.Forms.{Did, Answer}
 use Rattle.forms.specs.Reading.{readDid}
 use Rattle.forms.specs.declared.Refusal.the-variants.{Unreadable, WrongState, NoRoom, AboveLimit, OutOfTurn, NoSuchHistory, BadLog}
-use Rattle.rules.specs.Log.{Journal, journal, noJournal, readLog}
-use Rattle.rules.specs.State.{Operation, State, ok, logBytes, liveDone, live}
-use Rattle.rules.specs.Calls.{tryAll, overtaken, notOvertaken, arrived, add, lineOf, inProgress, without, finished, finishFound, finish, withdraw, persistent, stable, show, restarted, restartAs, restart, cut, drain, delivered, redoRead, redo, end, Call, Add, Finish, Withdraw, Persistent, Stable, Show, Cut, Redo, End, perform, step, opened, openSite}
+use Rattle.rules.specs.Log.{Journal, journal, noJournal, readLog, mark, reported}
+use Rattle.rules.specs.State.{Operation, State, ok, logBytes, liveDone, live, linesIn, withStables}
+use Rattle.rules.specs.Calls.{tryAll, overtaken, notOvertaken, arrived, add, lineOf, inProgress, without, finished, finishFound}
+use Rattle.rules.specs.Calls.{finish, withdraw, persistent, stable, show, restarted, restartAs, restart, cut, drain, delivered}
+use Rattle.rules.specs.Calls.{redoRead, redo, end, Call, Add, Finish, Withdraw, Persistent, Stable, Show, Cut, Redo, End, perform}
+use Rattle.rules.specs.Calls.{step, opened, openSite, aboveMark, stabled}
+use Rattle.forms.specs.Limits.{liveLimit}
 use Rattle.rules.specs.Good.{Good}
 use Rattle.rules.specs.CheckLaws.{refused-not-ok, unless-ok, unless-check}
 use Rattle.rules.specs.DrainLaws.{drain-keeps}
 use Rattle.rules.specs.PendingLaws.{try-length}
 use Rattle.rules.specs.WorkLaws.{find-at}
+use Rattle.rules.specs.StartLaws.{good-cut}
 
 -- the entries that an accepted call takes at most
 abbrev pub takes : Call → ℕ
@@ -31,14 +36,15 @@ takes (Withdraw i) = 0
 takes (Persistent n) = 0
 takes (Stable n) = 0
 takes (Show h) = 0
-takes (Cut k room) = 0
+takes (Cut k room) = liveLimit
 takes (Redo line) = 1
 takes End = 0
 
 ok-live : (n : ℕ) (x y : State) (a b : Answer) → ok x a ≡ ok y b → live x ≤ n → live y ≤ n
 ok-live n x y a b e le = let same : x ≡ y = cc in subst (λ (s : State). live s ≤ n) same le
 
-live-finish : (st after : State) (a : Answer) → Good st → (i : ℕ) (o : Option Operation) → find (inProgress i) (st .pending) ≡ o → finishFound o st ≡ ok after a → live after ≤ live st + 0
+live-finish : (st after : State) (a : Answer) → Good st → (i : ℕ) (o : Option Operation) → find (inProgress i) (st .pending) ≡ o →
+    finishFound o st ≡ ok after a → live after ≤ live st + 0
 unfolding finishFound finished notOvertaken live liveDone without
 live-finish st after a G i none p e = absurd (refused-not-ok WrongState after a e)
 live-finish st after a G i (some x) p e =
@@ -52,17 +58,13 @@ live-finish st after a G i (some x) p e =
       length-keep (λ (y : Operation). not (overtaken log y)) (tryAll log (without (x .id) (st .pending))),
       try-length log (without (x .id) (st .pending)),
       length-keep-less f (at .0) (λ t. T-not (eqb (x .id) (x .id)) t (eqb-refl (x .id))),
-      length-drop (st .stableTo) (st .log),
-      length-drop (st .stableTo) log,
+      length-drop (st .leftTo) (st .log),
+      length-drop (st .leftTo) log,
       length-append (st .log) (lineOf (st .log) x ∷ []),
+      G .leftBelow,
       G .stableBelow,
       G .persistentBelow,
     ))
-
-live-restart : (room : ℕ) (j : Journal) (after : State) (a : Answer) → restartAs room j ≡ ok after a → live after ≤ 0
-unfolding restartAs restarted live liveDone
-live-restart room (journal n log) after a e = ok-live 0 (restarted room n log) after _ a e (omega (arith, length-drop (length log) log))
-live-restart room noJournal after a e = absurd (refused-not-ok BadLog after a e)
 
 live-redo : (x : Step Did) (st after : State) (a : Answer) → Good st → redoRead x st ≡ ok after a → live after ≤ live st + 1
 unfolding redoRead delivered live liveDone
@@ -77,10 +79,28 @@ live-redo (got d rest) st after a G e =
     ))
     (suc (length (st .waiting))) (st .log) (st .waiting ++ d ∷ []) (omega (arith, length-append (st .waiting) (d ∷ [])), omega arith) in
     ok-live _ _ after _ a (q .1)
-    (omega (arith, D .0, D .1, length-drop (st .stableTo) (st .log), length-drop (st .stableTo) (out .log), G .stableBelow, G .persistentBelow))
+    (omega (
+      arith,
+      D .0,
+      D .1,
+      length-drop (st .leftTo) (st .log),
+      length-drop (st .leftTo) (out .log),
+      G .leftBelow,
+      G .stableBelow,
+      G .persistentBelow,
+    ))
+
+live-stabled : (n : ℕ) (st : State) → live (stabled n st) ≤ live st + 0
+unfolding stabled live liveDone
+live-stabled n st = go (aboveMark n st)
+  where
+    go : (b : Bool) →
+        live (elim b [ true ↦ withStables (st .stables ++ (record { behind = length (st .log); upTo = n } ∷ [])) st | false ↦ st ]) ≤ live st + 0
+    go true = omega arith
+    go false = omega arith
 
 live-perform : (c : Call) (st after : State) (a : Answer) → Good st → perform c st ≡ ok after a → live after ≤ live st + takes c
-unfolding perform add arrived finish withdraw without persistent stable show cut redo end live liveDone
+unfolding perform add arrived finish withdraw without persistent stable show redo end live liveDone
 live-perform (Add i us) st after a G e =
     ok-live _ _ after _ a (unless-ok _ _ after a e .1)
     (omega (arith, try-length (st .log) (arrived i us st), length-append (st .pending) (record { id = i; updates = us; running = false } ∷ [])))
@@ -89,13 +109,13 @@ live-perform (Finish i) st after a G e =
 live-perform (Withdraw i) st after a G e =
     let f : Operation → Bool = λ y. not (eqb (y .id) i) in
     ok-live _ _ after _ a (unless-ok _ _ after a e .1) (omega (arith, length-keep f (st .pending)))
-live-perform (Persistent n) st after a G e = ok-live _ _ after _ a (unless-check _ AboveLimit _ after a e .1) (omega arith)
-live-perform (Stable n) st after a G e =
+live-perform (Persistent n) st after a G e =
+    let t = max (st .leftTo) (mark (reported n (linesIn st))) in
     ok-live _ _ after _ a (unless-check _ AboveLimit _ after a e .1)
-    (omega (arith, length-drop (st .stableTo) (st .log), length-drop (Prim.Native.Nat.max (st .stableTo) n) (st .log)))
+    (omega (arith, length-drop (st .leftTo) (st .log), length-drop t (st .log)))
+live-perform (Stable n) st after a G e = ok-live _ (stabled n st) after _ a (unless-ok _ _ after a e .1) (live-stabled n st)
 live-perform (Show h) st after a G e = ok-live _ _ after _ a (unless-check _ NoSuchHistory _ after a e .1) (omega arith)
-live-perform (Cut k room) st after a G e =
-    let le = live-restart room (readLog (take k (logBytes st))) after a (unless-check _ AboveLimit _ after a e .1) in omega arith
+live-perform (Cut k room) st after a G e = let le = good-cut k room st after a e .few in omega arith
 live-perform (Redo line) st after a G e = live-redo (readDid line) st after a G e
 live-perform End st after a G e = ok-live _ _ after _ a (unless-check _ OutOfTurn _ after a e .1) (omega arith)
 
@@ -104,16 +124,7 @@ pub live-step : (c : Call) (st after : State) (a : Answer) → Good st → step 
 unfolding step
 live-step c st after a G e = live-perform c st after a G (unless-check _ Unreadable _ after a e .1)
 
--- "Nothing is live" after a cut, a restart or an opening.
-pub live-cut : (k room : ℕ) (st after : State) (a : Answer) → step (Cut k room) st ≡ ok after a → live after ≤ 0
-unfolding step perform cut
-live-cut k room st after a e =
-    live-restart room (readLog (take k (logBytes st))) after a (unless-check _ AboveLimit _ after a (unless-check _ Unreadable _ after a e .1) .1)
-
-pub live-restarted : (buffer : List ℕ) (k : ℕ) (after : State) (a : Answer) → restart buffer k ≡ ok after a → live after ≤ 0
-unfolding restart
-live-restarted buffer k after a e = live-restart (length buffer) (readLog (take k buffer)) after a (unless-check _ AboveLimit _ after a e .1)
-
+-- Nothing is live after an opening.
 pub live-opened : (n room : ℕ) (after : State) (a : Answer) → openSite n room ≡ ok after a → live after ≤ 0
 unfolding openSite opened live liveDone
 live-opened n room after a e = ok-live 0 (opened n room) after _ a (unless-ok _ _ after a e .1) (omega arith)
@@ -150,15 +161,29 @@ unfolding redoRead delivered
 flag-redo bad st after a e = absurd (refused-not-ok Unreadable after a e)
 flag-redo (got d rest) st after a e = flag _ after _ a (unless-ok _ _ after a e .1)
 
+-- both restore, or neither
+abbrev SameFlag : State → State → Type 0
+SameFlag x y = x .restoring ≡ y .restoring
+
+flag-stabled : (n : ℕ) (st : State) → st .restoring ≡ stabled n st .restoring
+unfolding stabled
+flag-stabled n st = go (aboveMark n st)
+  where
+    go : (b : Bool) →
+        SameFlag st (elim b [ true ↦ withStables (st .stables ++ (record { behind = length (st .log); upTo = n } ∷ [])) st | false ↦ st ])
+    go true = refl
+    go false = refl
+
 flag-perform : (c : Call) (st after : State) (a : Answer) → perform c st ≡ ok after a → restores c (st .restoring) ≡ after .restoring
 unfolding perform add finish withdraw persistent stable show cut redo end
 flag-perform (Add i us) st after a e = flag _ after _ a (unless-ok _ _ after a e .1)
 flag-perform (Finish i) st after a e = flag-finish (find (inProgress i) (st .pending)) st after a (unless-check _ OutOfTurn _ after a e .1)
 flag-perform (Withdraw i) st after a e = flag _ after _ a (unless-ok _ _ after a e .1)
 flag-perform (Persistent n) st after a e = flag _ after _ a (unless-check _ AboveLimit _ after a e .1)
-flag-perform (Stable n) st after a e = flag _ after _ a (unless-check _ AboveLimit _ after a e .1)
+flag-perform (Stable n) st after a e = flag-stabled n st ∙ flag (stabled n st) after _ a (unless-ok _ _ after a e .1)
 flag-perform (Show h) st after a e = flag _ after _ a (unless-check _ NoSuchHistory _ after a e .1)
-flag-perform (Cut k room) st after a e = flag-restart room (readLog (take k (logBytes st))) after a (unless-check _ AboveLimit _ after a e .1)
+flag-perform (Cut k room) st after a e =
+    flag-restart room (readLog (take k (logBytes st))) after a (unless-check _ AboveLimit _ after a e .1)
 flag-perform (Redo line) st after a e = flag-redo (readDid line) st after a e
 flag-perform End st after a e = flag _ after _ a (unless-check _ OutOfTurn _ after a e .1)
 
@@ -168,7 +193,8 @@ restoring-step c st after a e = flag-perform c st after a (unless-check _ Unread
 
 pub restoring-restarted : (buffer : List ℕ) (k : ℕ) (after : State) (a : Answer) → restart buffer k ≡ ok after a → true ≡ after .restoring
 unfolding restart
-restoring-restarted buffer k after a e = flag-restart (length buffer) (readLog (take k buffer)) after a (unless-check _ AboveLimit _ after a e .1)
+restoring-restarted buffer k after a e =
+    flag-restart (length buffer) (readLog (take k buffer)) after a (unless-check _ AboveLimit _ after a e .1)
 
 pub restoring-opened : (n room : ℕ) (after : State) (a : Answer) → openSite n room ≡ ok after a → false ≡ after .restoring
 unfolding openSite opened

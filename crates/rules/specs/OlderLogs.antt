@@ -1,11 +1,11 @@
 -- 02 (c): "Old logs read with the same meaning". A log that was accepted when a profile had four parts is accepted now that it has eight,
 -- with the same book: the same versions, places and profiles, and every profile below 2^32. Both readings are one definition at two
--- numbers of parts.
+-- numbers of parts. Such a log is older than stable lines too: `OldLog` reads it, and changes it over.
 use mathlib.Core.Path.{_≡_, refl, sym, ap, _∙_, subst}
 use mathlib.Core.Logic.{⊎-elim}
 use mathlib.Core.Bool.{Bool, true, false, cond, not}
 use mathlib.Core.Option.{none}
-use mathlib.Core.List.{List, [], _∷_, _++_}
+use mathlib.Core.List.{List, [], _∷_, _++_, map}
 use mathlib.Core.List.{List·Memᴰ as Mem, List·Memᴰ·head as here, List·Memᴰ·tail as there, List·Memᴰ·not-nil}
 use Prim.Native.Nat.{ℕ, _+_, _*_, _^_, _≤_, _<_}
 use native.Mathlib.Nat.{pow-le-pow-right}
@@ -15,30 +15,33 @@ use lib.Dec.{T, eqb}
 use Rattle.forms.specs.ListLaws.{T-true, true-T, mem-snoc, all-at, all-of}
 use Rattle.forms.specs.DecimalLaws.{and-true}
 use Rattle.forms.specs.Writable.{Each}
-use Rattle.forms.specs.Forms.{Change, Did}
+use Rattle.forms.specs.Forms.{Change, Did, Line, didLine}
 use Rattle.forms.specs.Reading.{readDid, readSite}
 use Rattle.forms.specs.declared.DoneRule.{DoneRule}
 use Rattle.forms.specs.declared.DoneRule.the-variants.{DidInc, DidSet, DidNot}
 use Rattle.rules.specs.Rules.{ruleOf, operandFitsWith}
 use Rattle.rules.specs.Book.{Cell, blankCell, runsAt, cell, enteredWith, enterWith, enterAllWith, cellFromWith, cellWith, canRunWith}
 use Rattle.rules.specs.Checks.{changeMisfitsWith, changesRefusalWith, passes}
-use Rattle.rules.specs.Log.{journal, linesOf, historiesFit, readLog, acceptsWith, readLinesWith, readFirstWith, readLogWith}
+use Rattle.rules.specs.Log.{dids, journal, linesOf, historiesFit, acceptsWith}
+use Rattle.rules.specs.OldLog.{readOldLinesWith, readOldFirstWith, readOldWith, readOld}
+use Rattle.rules.specs.WeaveLaws.{dids-map}
 use Rattle.rules.specs.PartLaws.{replaced-more, replaced-low, worth-positive}
 use Rattle.rules.specs.CheckLaws.{formed-of, formed-none, passes-none, not-false}
-use Rattle.rules.specs.LogLaws.{test-true, by-read, by-test}
+use Rattle.rules.specs.AcceptedLaws.{by-read, by-test}
+use Rattle.rules.specs.LogLaws.{test-true}
 
 -- 01: "The profile is an unsigned 32-bit number made of four parts".
 abbrev pub olderParts : ℕ
 olderParts = 4
 
 -- "Old logs read with the same meaning"
-pub record ReadAlike (bs : List ℕ) (n : ℕ) (log : List Did) : Type 0 where
+pub record ReadAlike (bs : List ℕ) (n : ℕ) (lines : List Line) : Type 0 where
   -- it is accepted, and has the same lines
-  pub accepted : readLog bs ≡ journal n log
+  pub accepted : readOld bs ≡ journal n lines
   -- each history's profile, version and place are the same
-  pub book : (h : ℕ) → cell h log ≡ cellWith olderParts h log
+  pub book : (h : ℕ) → cell h (dids lines) ≡ cellWith olderParts h (dids lines)
   -- .. and the profile has 32 bits
-  pub low : (h : ℕ) → cell h log .profile < 2 ^ 32
+  pub low : (h : ℕ) → cell h (dids lines) .profile < 2 ^ 32
 
 -- From p parts to m more.
 module _ (p m : ℕ) where
@@ -141,44 +144,45 @@ module _ (p m : ℕ) where
       record { also = rw new (T-true (canRunWith (p + m) seen d) runs); fits = fits }
 
   -- lines that were read are read as the same
-  record Lines (n : ℕ) (seen : List Did) (ls : List (List ℕ)) (k : ℕ) (log : List Did) : Type 0 where
-    also : readLinesWith (p + m) n seen ls ≡ journal k log
-    fits : AllFit log
+  record Lines (n : ℕ) (seen : List Did) (ls : List (List ℕ)) (k : ℕ) (lines : List Line) : Type 0 where
+    also : readOldLinesWith (p + m) n seen ls ≡ journal k lines
+    fits : AllFit (dids lines)
 
-  lines-alike : (n : ℕ) (seen : List Did) (ls : List (List ℕ)) (k : ℕ) (log : List Did) → AllFit seen →
-      readLinesWith p n seen ls ≡ journal k log → Lines n seen ls k log
-  unfolding readLinesWith
-  lines-alike n seen [] k log f e = let q : seen ≡ log = cc in record { also = e; fits = subst AllFit q f }
-  lines-alike n seen (l ∷ ls) k log f e =
-      by-read (readDid l) _ k log e λ d rest q h.
-      by-test (acceptsWith p n seen d) _ k log h λ w r.
+  lines-alike : (n : ℕ) (seen : List Did) (ls : List (List ℕ)) (k : ℕ) (lines : List Line) → AllFit seen →
+      readOldLinesWith p n seen ls ≡ journal k lines → Lines n seen ls k lines
+  unfolding readOldLinesWith
+  lines-alike n seen [] k lines f e =
+      let q : map didLine seen ≡ lines = cc in record { also = e; fits = subst AllFit (sym (dids-map seen) ∙ ap dids q) f }
+  lines-alike n seen (l ∷ ls) k lines f e =
+      by-read (readDid l) _ k lines e λ d rest q h.
+      by-test (acceptsWith p n seen d) _ k lines h λ w r.
       let t = taken n seen d f w in
-      let s = lines-alike n (seen ++ (d ∷ [])) ls k log (fit-snoc seen d f (t .fits)) r in
+      let s = lines-alike n (seen ++ (d ∷ [])) ls k lines (fit-snoc seen d f (t .fits)) r in
       record {
-        also = rw q (test-true (acceptsWith (p + m) n seen d) (readLinesWith (p + m) n (seen ++ (d ∷ [])) ls) (t .also) ∙ s .also);
+        also = rw q (test-true (acceptsWith (p + m) n seen d) (readOldLinesWith (p + m) n (seen ++ (d ∷ [])) ls) (t .also) ∙ s .also);
         fits = s .fits;
       }
 
-  record First (ls : List (List ℕ)) (k : ℕ) (log : List Did) : Type 0 where
-    also : readFirstWith (p + m) ls ≡ journal k log
-    fits : AllFit log
+  record First (ls : List (List ℕ)) (k : ℕ) (lines : List Line) : Type 0 where
+    also : readOldFirstWith (p + m) ls ≡ journal k lines
+    fits : AllFit (dids lines)
 
-  first-alike : (ls : List (List ℕ)) (k : ℕ) (log : List Did) → readFirstWith p ls ≡ journal k log → First ls k log
-  unfolding readFirstWith
-  first-alike [] k log e = let z : _≡_ {A = ℕ} 0 1 = cc in absurd (omega arith)
-  first-alike (l ∷ ls) k log e =
-      by-read (readSite l) _ k log e λ n rest q h.
-      by-test (historiesFit n) _ k log h λ w r.
-      let s = lines-alike n [] ls k log (λ d j. absurd (List·Memᴰ·not-nil j)) r in
-      record { also = rw q (test-true (historiesFit n) (readLinesWith (p + m) n [] ls) w ∙ s .also); fits = s .fits }
+  first-alike : (ls : List (List ℕ)) (k : ℕ) (lines : List Line) → readOldFirstWith p ls ≡ journal k lines → First ls k lines
+  unfolding readOldFirstWith
+  first-alike [] k lines e = let z : _≡_ {A = ℕ} 0 1 = cc in absurd (omega arith)
+  first-alike (l ∷ ls) k lines e =
+      by-read (readSite l) _ k lines e λ n rest q h.
+      by-test (historiesFit n) _ k lines h λ w r.
+      let s = lines-alike n [] ls k lines (λ d j. absurd (List·Memᴰ·not-nil j)) r in
+      record { also = rw q (test-true (historiesFit n) (readOldLinesWith (p + m) n [] ls) w ∙ s .also); fits = s .fits }
 
 -- A log that was accepted is accepted, with the same book.
-pub read-alike : (bs : List ℕ) (n : ℕ) (log : List Did) → readLogWith olderParts bs ≡ journal n log → ReadAlike bs n log
-unfolding readLogWith
-read-alike bs n log e =
-    let r = first-alike olderParts 4 (linesOf bs) n log e in
+pub read-alike : (bs : List ℕ) (n : ℕ) (lines : List Line) → readOldWith olderParts bs ≡ journal n lines → ReadAlike bs n lines
+unfolding readOldWith
+read-alike bs n lines e =
+    let r = first-alike olderParts 4 (linesOf bs) n lines e in
     record {
       accepted = r .also;
-      book = λ h. cell-alike olderParts 4 h log (r .fits) .same;
-      low = λ h. let a = cell-alike olderParts 4 h log (r .fits) in subst (λ (c : Cell). c .profile < 2 ^ 32) (sym (a .same)) (a .low);
+      book = λ h. cell-alike olderParts 4 h (dids lines) (r .fits) .same;
+      low = λ h. let a = cell-alike olderParts 4 h (dids lines) (r .fits) in subst (λ (c : Cell). c .profile < 2 ^ 32) (sym (a .same)) (a .low);
     }

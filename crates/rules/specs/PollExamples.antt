@@ -12,25 +12,27 @@ use Rattle.forms.specs.Words.{bytes, word}
 use Rattle.forms.specs.Decimal.{digitsWithin, digits, more, number}
 use Rattle.forms.specs.Refusals.{numberOf}
 use Rattle.forms.specs.Limits.{logLimit}
-use Rattle.forms.specs.Forms.{fieldText, fieldsText, itemsText, tailText, listText, updateText, changeText, oneText, siteText, didText, redoText}
+use Rattle.forms.specs.Forms.{fieldText, fieldsText, itemsText, tailText, listText, updateText, changeText, oneText, siteText, didText}
+use Rattle.forms.specs.Forms.{stableText, lineText, redoText}
 use Rattle.forms.specs.Reading as reading
-use Rattle.forms.specs.Reading.{readDid, readSite, readCommand, readWhole}
+use Rattle.forms.specs.Reading.{readDid, readLine, readSite, readCommand, readWhole}
 use Rattle.rules.specs.Book.{touches, runsAt}
 use Rattle.rules.specs.Checks.{check, andThen, wrongCount, noSuchHistory, historyTwice, updateMisfits, formRefusal, updatesRefusal}
-use Rattle.rules.specs.Log.{ended, didsText, logText, linesOf, linesFrom, restFrom, historiesFit}
-use Rattle.rules.specs.State.{logBytes, versionAt, liveDone, live, asks, dry, becameDry, rose, lineBytes}
+use Rattle.rules.specs.Log.{ended, linesText, logText, linesOf, linesFrom, restFrom, historiesFit, stablesFrom, stablesAt, weaveFrom}
+use Rattle.rules.specs.Log.{markFrom, upToDid, reported, rises, follows, liveIn, tableHolds}
+use Rattle.rules.specs.State.{logBytes, versionAt, liveDone, live, asks, dry, becameDry, rose, lineBytes, bytesOf}
 use Rattle.rules.specs.Calls.{unless, openFull, openRefusal, opened, openSite, blockedBy, blocked, mayRunNow, ready, attempt, tryFrom, madeReady}
 use Rattle.rules.specs.Calls.{neverNow, holdsNever, overtaken, notOvertaken, overtakenIds, atHighest}
 use Rattle.rules.specs.Calls.{nothingOrders, idPending, idDone, alreadyDone, readOvertaken, tableFull, addRefusal, arrived, add, changeOf, lineOf}
 use Rattle.rules.specs.Calls.{valuesAfter, inProgress, future, without, logFull, finished, finishFound, finish, withdrawRefusal, withdraw, persistent}
-use Rattle.rules.specs.Calls.{stable, restarted, restartAs, restart, cutAbove, cut, stale, redoRefusal, behind, pick, drain, delivered}
+use Rattle.rules.specs.Calls.{aboveMark, stableFull, stableRefusal, stabled, stable, restarted, restartAs, restart, cutAbove, cut, stale, redoRefusal, behind, pick, drain, delivered}
 use Rattle.rules.specs.Calls.{redoRead, redo, end, writableUpdate, writable, perform, step}
 use Rattle.rules.specs.Keeper.{sameBytes}
 use Rattle.rules.specs.Session.{Session, turnOf, opening, calling, obey, onCommand, turn}
 use Rattle.rules.specs.Rules.{profileOf, replacedWith}
 use Rattle.rules.specs.Book.{canRunWith, cellFromWith, cellWith, enterAllWith, enterWith, enteredWith}
 use Rattle.rules.specs.Checks.{changeMisfitsWith, changesRefusalWith}
-use Rattle.rules.specs.Log.{acceptsWith, readFirstWith, readLinesWith, readLogWith}
+use Rattle.rules.specs.Log.{acceptsWith, readLines, readFirst, readLog}
 use Rattle.rules.specs.Poll.{Polled, PollRefused, PollDry, PollBusy, poll}
 use Rattle.rules.specs.Examples.{same-bytes}
 
@@ -116,18 +118,19 @@ holds r = sameBytes (polls (bytes "(site 2)\n" ++ r .calls)) (r .told)
 computed : T (all holds edges)
 computed =
     unfold holds polls asked after told sameBytes below word digitsWithin digits more number numberOf in
-    unfold fieldText fieldsText itemsText tailText listText updateText changeText oneText siteText didText redoText in
+    unfold fieldText fieldsText itemsText tailText listText updateText changeText oneText siteText didText stableText lineText redoText in
     unfold reading.field reading.rule reading.doneRule reading.update reading.change reading.one reading.items reading.tail reading.did reading.addForm in
-    unfold reading.redoForm reading.numbered reading.command readDid readSite readCommand readWhole in
+    unfold reading.redoForm reading.numbered reading.command reading.line readDid readLine readSite readCommand readWhole in
     unfold replacedWith profileOf enteredWith enterWith enterAllWith cellFromWith cellWith touches runsAt canRunWith in
     unfold check andThen wrongCount noSuchHistory historyTwice updateMisfits changeMisfitsWith in
     unfold formRefusal updatesRefusal changesRefusalWith in
-    unfold ended didsText logText linesFrom restFrom historiesFit acceptsWith readLinesWith readFirstWith readLogWith in
-    unfold logBytes versionAt liveDone live asks dry becameDry rose lineBytes in
+    unfold stablesFrom stablesAt weaveFrom markFrom upToDid reported ended linesText logText linesFrom restFrom historiesFit acceptsWith in
+    unfold rises follows liveIn tableHolds readLines readFirst readLog in
+    unfold logBytes versionAt liveDone live asks dry becameDry rose lineBytes bytesOf in
     unfold unless openFull openRefusal opened openSite blockedBy blocked mayRunNow ready attempt tryFrom madeReady nothingOrders idPending idDone in
     unfold neverNow holdsNever overtaken notOvertaken overtakenIds atHighest in
     unfold alreadyDone readOvertaken tableFull addRefusal arrived add changeOf lineOf valuesAfter inProgress future without logFull finished in
-    unfold finishFound finish withdrawRefusal withdraw persistent stable restarted restartAs restart cutAbove cut stale redoRefusal behind pick in
+    unfold finishFound finish withdrawRefusal withdraw persistent aboveMark stableFull stableRefusal stabled stable restarted restartAs restart cutAbove cut stale redoRefusal behind pick in
     unfold drain delivered redoRead redo end writableUpdate writable perform step in
     unfold turnOf opening calling obey onCommand turn poll in
     tt

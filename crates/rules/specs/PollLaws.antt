@@ -12,7 +12,8 @@ use lib.ListN.{length, take, drop, length-drop, take-append-drop}
 use lib.Seq.{drop-append-le}
 use Rattle.forms.specs.Lists.{any, keep, sum}
 use Rattle.forms.specs.ListLaws.{Nodup, nodup-right, nodup-mid, mem-split, mem-along, sum-append, sum-mid, keep-append, keep-all, T-true, true-T}
-use Rattle.forms.specs.Forms.{Update, Change, Did}
+use Rattle.forms.specs.Forms.{Update, Change, Did, Line}
+use Rattle.rules.specs.Log.{dids}
 use Rattle.forms.specs.declared.Refusal.the-variants.{NoSuchHistory}
 use Rattle.rules.specs.Book.{touches}
 use Rattle.rules.specs.Checks.{changesRefusal}
@@ -179,7 +180,8 @@ pub busy-redone : (st : State) (more waiting : List Did) (h : ℕ) → st .persi
 unfolding busy
 busy-redone st more waiting h le = omega (arith, volatile-more h (st .persistentTo) (st .log) more le)
 
-drop-take : {A : Type 0} (p q : ℕ) (l : List A) → p ≤ q → drop p l ≡ drop p (take q l) ++ drop q l
+-- What stands from a position on, in two parts.
+pub drop-take : {A : Type 0} (p q : ℕ) (l : List A) → p ≤ q → drop p l ≡ drop p (take q l) ++ drop q l
 drop-take zero q l le = sym (take-append-drop q l)
 drop-take (suc p) zero l le = absurd (omega arith)
 drop-take (suc p) (suc q) [] le = refl
@@ -198,9 +200,9 @@ drop-all [] = refl
 drop-all (x ∷ l) = drop-all l
 
 -- "After restart all are 0."
-pub busy-restarted : (room n : ℕ) (log : List Did) (h : ℕ) → busy (restarted room n log) h ≡ 0
+pub busy-restarted : (room n : ℕ) (lines : List Line) (h : ℕ) → busy (restarted room n lines) h ≡ 0
 unfolding busy restarted
-busy-restarted room n log h = omega (arith, ap (sum (changesIn h)) (drop-all log))
+busy-restarted room n lines h = omega (arith, ap (sum (changesIn h)) (drop-all (dids lines)))
 
 -- ### How large it can be
 
@@ -258,11 +260,12 @@ unfolding busy asksIn changesIn live liveDone
 busy-live st h G =
     omega (
       arith,
+      G .leftBelow,
       G .stableBelow,
       few (asksIn h) (st .pending) asked,
       few (changesIn h) (drop (st .persistentTo) (st .log)) changed,
       length-drop (st .persistentTo) (st .log),
-      length-drop (st .stableTo) (st .log),
+      length-drop (st .leftTo) (st .log),
     )
   where
     few : {A : Type 0} (n : A → ℕ) (l : List A) → ((x : A) → Mem x l → n x ≤ 1) → sum n l ≤ length l

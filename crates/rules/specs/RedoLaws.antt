@@ -1,8 +1,8 @@
 -- Redo and end keep the invariant.
-use mathlib.Core.Path.{_≡_, refl, sym, subst}
+use mathlib.Core.Path.{_≡_, refl, sym, ap, _∙_, subst}
 use mathlib.Core.Logic.{_⊎_, inl, inr}
 use mathlib.Core.Bool.{true, false}
-use mathlib.Core.List.{List, [], _∷_, _++_, map, map-append, append-assoc}
+use mathlib.Core.List.{List, [], _∷_, _++_, map, map-append, append-assoc, append-nil}
 use mathlib.Core.List.{List·Memᴰ as Mem, List·Memᴰ·not-nil, Memᴰ·append-right}
 use Prim.Native.Nat.{ℕ, suc, _+_, _-_, _*_, _≤_, _<_}
 use native.Mathlib.Omega.{arith}
@@ -13,18 +13,22 @@ use Rattle.forms.specs.Decimal.{Step}
 use Rattle.forms.specs.Decimal.Step.{got, bad}
 use Rattle.forms.specs.Lists.{any, sum}
 use Rattle.forms.specs.ListLaws.{Nodup, nodup-right, nodup-sub, nodup-move, mem-at, mem-along, mem-snoc, mem-widen, sum-mid, sum-append}
-use Rattle.forms.specs.Forms.{Did, Answer, Redone}
+use Rattle.forms.specs.ListLaws.{Prefix}
+use Rattle.forms.specs.Forms.{Did, Answer, Redone, didLine}
 use Rattle.forms.specs.Reading.{readDid}
 use Rattle.forms.specs.DidLaws.{readDid-read}
 use Rattle.forms.specs.declared.Refusal.the-variants.{Unreadable, IdPending, AlreadyDone, TableFull, NoRoom, OutOfTurn}
 use Rattle.rules.specs.Book.{canRun}
 use Rattle.forms.specs.Limits.{liveLimit}
-use Rattle.rules.specs.State.{State, ok, logBytes, liveDone, live, lineBytes, withLog, withWaiting}
-use Rattle.rules.specs.Calls.{idPending, idDone, tableFull, logFull, stale, redoRefusal, drain, delivered, redoRead, redo}
-use Rattle.rules.specs.Calls.{end, Call, perform, step}
-use Rattle.rules.specs.Good.{Good, FormedDid, Ran, didIds, operationIds}
-use Rattle.rules.specs.FitLaws.{length-log}
-use Rattle.rules.specs.CheckLaws.{refused-not-ok, check-none, andThen-none, unless-ok, unless-check, not-lt, not-le, not-false, or-false-right}
+use Rattle.rules.specs.State.{State, ok, logBytes, liveDone, live, lineBytes, withLog, withWaiting, linesIn}
+use Rattle.rules.specs.Calls.{idPending, idDone, tableFull, logFull, stale, redoRefusal, drain, delivered, redoRead, redo, end, Call}
+use Rattle.rules.specs.Calls.{perform, step}
+use Rattle.rules.specs.Good.{Good, FormedDid, Ran, didIds, operationIds, Rises}
+use Rattle.rules.specs.FitLaws.{length-grown}
+use Rattle.rules.specs.WeaveLaws.{weave-append, mark-dids, rises-dids}
+use Rattle.rules.specs.Log.{weave, mark, logText}
+use Rattle.rules.specs.CheckLaws.{refused-not-ok, check-none, andThen-none, unless-ok, unless-check, not-lt, not-le, not-false}
+use Rattle.rules.specs.CheckLaws.{or-false-right}
 use Rattle.rules.specs.BookLaws.{ran-snoc}
 use Rattle.rules.specs.DrainLaws.{drain-keeps, drain-quiet, drain-longer, drain-examines}
 use Rattle.rules.specs.IdLaws.{fresh-tested, ids-snoc, ids-wait}
@@ -32,8 +36,10 @@ use Rattle.rules.specs.WorkLaws.{good-ok, true-not-false}
 
 -- ### The drain
 
--- What each run of a waiting line keeps, in a site of n histories with marks s and p: the lines, their bytes and their number, and the live ids.
-record Draining (n s p bytes count : ℕ) (C : List ℕ) (log waiting : List Did) : Type 0 where
+-- What each run of a waiting line keeps, in a site of n histories with marks s and p: the lines, their bytes and their number, and the live
+-- ids.
+record Draining (n s p bytes count : ℕ) (C : List ℕ) (old log waiting : List Did) : Type 0 where
+  front : Prefix old log
   formed : (d : Did) → Mem d log → FormedDid n d
   ran : Ran log
   waitingFormed : (d : Did) → Mem d waiting → FormedDid n d
@@ -42,10 +48,12 @@ record Draining (n s p bytes count : ℕ) (C : List ℕ) (log waiting : List Did
   low : p ≤ length log
   ids : Nodup (didIds (drop s log) ++ (didIds waiting ++ C))
 
-draining-one : (n s p bytes count : ℕ) (C : List ℕ) → s ≤ p → (log a : List Did) (d : Did) (b : List Did) → T (canRun log d) →
-    Draining n s p bytes count C log (a ++ d ∷ b) → Draining n s p bytes count C (log ++ d ∷ []) (a ++ b)
-draining-one n s p bytes count C le log a d b t D =
+draining-one : (n s p bytes count : ℕ) (C : List ℕ) (old : List Did) → s ≤ p → (log a : List Did) (d : Did) (b : List Did) →
+    T (canRun log d) →
+    Draining n s p bytes count C old log (a ++ d ∷ b) → Draining n s p bytes count C old (log ++ d ∷ []) (a ++ b)
+draining-one n s p bytes count C old le log a d b t D =
     record {
+      front = (D .front .0 ++ d ∷ [], ap {B = List Did} (λ l. l ++ d ∷ []) (D .front .1) ∙ append-assoc old (D .front .0) (d ∷ []));
       formed = λ e m. formed-one e (mem-snoc log m);
       ran = ran-snoc log d (D .ran) t;
       waitingFormed = λ e m. D .waitingFormed e (mem-widen d a b m);
@@ -67,9 +75,11 @@ draining-one n s p bytes count C le log a d b t D =
 
 -- ### Redo
 
-redo-good : (d : Did) (st : State) → Good st → FormedDid (st .histories) d → st .restoring ≡ true → idPending (d .id) st ≡ false → idDone (d .id) st ≡ false →
+redo-good : (d : Did) (st : State) → Good st → FormedDid (st .histories) d → st .restoring ≡ true → idPending (d .id) st ≡ false →
+    idDone (d .id) st ≡ false →
     live st < liveLimit → length (logBytes st) + sum lineBytes (st .waiting) + lineBytes d ≤ st .room →
-    (let out = drain (suc (length (st .waiting))) (st .log) (st .waiting ++ d ∷ []) in Good (withLog (out .log) (withWaiting (out .waiting) st)))
+    (let out =
+    drain (suc (length (st .waiting))) (st .log) (st .waiting ++ d ∷ []) in Good (withLog (out .log) (withWaiting (out .waiting) st)))
 unfolding live liveDone logBytes
 redo-good d st G F on e7 e8 e10 e12 =
     record {
@@ -78,11 +88,23 @@ redo-good d st G F on e7 e8 e10 e12 =
       ran = D .ran;
       waitingFormed = D .waitingFormed;
       quiet = drain-quiet (suc (length (st .waiting))) (st .log) lines (omega (arith, length-append (st .waiting) (d ∷ [])));
-      fits = omega (arith, D .weight, length-log (st .histories) (st .log), length-log (st .histories) log′);
+      fits =
+          omega (
+            arith,
+            D .weight,
+            ap (sum lineBytes) grown,
+            sum-append lineBytes (st .log) more,
+            ap (λ (l : List Did). length (logText (st .histories) (weave l (st .stables)))) grown,
+            length-grown (st .histories) (st .log) more (st .stables) (G .below),
+          );
       roomLimit = G .roomLimit;
-      stableBelow = G .stableBelow;
+      rises = subst Rises (sym lines′) (rises-dids (linesIn st) more (G .rises));
+      below = λ s k. let le = G .below s k in omega (arith, ap length grown, length-append (st .log) more);
+      leftBelow = omega (arith, G .leftBelow, mark′);
+      stableBelow = omega (arith, G .stableBelow, mark′);
       persistentBelow = D .low;
-      few = omega (arith, D .number, D .low, G .stableBelow, G .persistentBelow, length-drop (st .stableTo) (st .log), length-drop (st .stableTo) log′);
+      few =
+          omega (arith, D .number, D .low, G .leftBelow, G .stableBelow, G .persistentBelow, length-drop (st .leftTo) (st .log), length-drop (st .leftTo) log′);
       ids = D .ids;
       idle = G .idle;
       nobodyWaits = λ off. absurd (true-not-false (st .restoring) on off);
@@ -108,7 +130,7 @@ redo-good d st G F on e7 e8 e10 e12 =
     C = operationIds (st .pending)
 
     Keeps : List Did → List Did → Type 0
-    Keeps log waiting = Draining (st .histories) (st .stableTo) (st .persistentTo) bytes count C log waiting
+    Keeps log waiting = Draining (st .histories) (st .leftTo) (st .persistentTo) bytes count C (st .log) log waiting
 
     formed-new : (e : Did) → (e ≡ d) ⊎ Mem e (st .waiting) → FormedDid (st .histories) e
     formed-new e (inl p) = subst (FormedDid (st .histories)) (sym p) F
@@ -117,6 +139,7 @@ redo-good d st G F on e7 e8 e10 e12 =
     before : Keeps (st .log) lines
     before =
         record {
+          front = ([], sym (append-nil (st .log)));
           formed = G .formed;
           ran = G .ran;
           waitingFormed = λ e k. formed-new e (mem-snoc (st .waiting) k);
@@ -125,14 +148,26 @@ redo-good d st G F on e7 e8 e10 e12 =
           low = G .persistentBelow;
           ids =
               rw (map-append (λ (e : Did). e .id) (st .waiting) (d ∷ []))
-              (ids-wait (d .id) (didIds (drop (st .stableTo) (st .log))) (didIds (st .waiting)) C (fresh-tested (d .id) st e7 e8) (G .ids));
+              (ids-wait (d .id) (didIds (drop (st .leftTo) (st .log))) (didIds (st .waiting)) C (fresh-tested (d .id) st e7 e8) (G .ids));
         }
 
     D : Keeps log′ (drain (suc (length (st .waiting))) (st .log) lines .waiting)
     D =
         drain-keeps Keeps
-        (λ log a e b t I. draining-one (st .histories) (st .stableTo) (st .persistentTo) bytes count C (G .stableBelow) log a e b t I)
+        (λ log a e b t I. draining-one (st .histories) (st .leftTo) (st .persistentTo) bytes count C (st .log) (omega (arith, G .leftBelow, G .stableBelow)) log a e b t I)
         (suc (length (st .waiting))) (st .log) lines before
+
+    more : List Did
+    more = D .front .0
+
+    grown : log′ ≡ st .log ++ more
+    grown = D .front .1
+
+    lines′ : weave log′ (st .stables) ≡ linesIn st ++ map didLine more
+    lines′ = ap (λ (l : List Did). weave l (st .stables)) grown ∙ weave-append (st .log) more (st .stables) (G .below)
+
+    mark′ : mark (weave log′ (st .stables)) ≡ mark (linesIn st)
+    mark′ = ap mark lines′ ∙ mark-dids (linesIn st) more
 
 pub good-redo : (line : List ℕ) (st st′ : State) (a : Answer) → Good st → redo line st ≡ ok st′ a → Good st′
 unfolding redo redoRead redoRefusal delivered tableFull logFull
@@ -191,6 +226,9 @@ good-end st st′ a G e =
       quiet = λ d k. absurd (List·Memᴰ·not-nil k);
       fits = omega (arith, G .fits);
       roomLimit = G .roomLimit;
+      rises = G .rises;
+      below = G .below;
+      leftBelow = G .leftBelow;
       stableBelow = G .stableBelow;
       persistentBelow = G .persistentBelow;
       few = omega (arith, G .few);

@@ -14,14 +14,14 @@ use Rattle.forms.specs.Words.{bytes, word}
 use Rattle.forms.specs.Decimal.{digitsWithin, digits, more, number}
 use Rattle.forms.specs.Refusals.{numberOf}
 use Rattle.forms.specs.Forms.{fieldText, fieldsText, itemsText, tailText, listText, updateText, changeText, oneText}
-use Rattle.forms.specs.Forms.{siteText, didText, redoText, numbersText, answerText, outcomeText}
+use Rattle.forms.specs.Forms.{siteText, didText, stableText, lineText, redoText, numbersText, answerText, outcomeText}
 use Rattle.forms.specs.Reading as reading
-use Rattle.forms.specs.Reading.{readDid, readSite, readCommand, readWhole}
+use Rattle.forms.specs.Reading.{readDid, readSite, readCommand, readWhole, readLine}
 use Rattle.rules.specs.Book.{touches, runsAt}
 use Rattle.rules.specs.Checks.{check, andThen, wrongCount, noSuchHistory, historyTwice, updateMisfits}
 use Rattle.rules.specs.Checks.{formRefusal, updatesRefusal}
-use Rattle.rules.specs.Log.{ended, didsText, logText, linesFrom, linesOf, restFrom}
-use Rattle.rules.specs.Log.{historiesFit}
+use Rattle.rules.specs.Log.{ended, linesText, logText, linesFrom, linesOf, restFrom, stablesFrom, stablesAt, weaveFrom, markFrom}
+use Rattle.rules.specs.Log.{historiesFit, rises, follows, liveIn, tableHolds}
 use Rattle.rules.specs.State.{logBytes, versionAt, liveDone, live, asks, dry, becameDry, rose, lineBytes}
 use Rattle.rules.specs.Calls.{unless, blockedBy, blocked, mayRunNow, ready, attempt, tryFrom, madeReady, neverNow, holdsNever, overtaken, notOvertaken, overtakenIds}
 use Rattle.rules.specs.Calls.{nothingOrders, idPending, idDone, alreadyDone, readOvertaken, atHighest, tableFull, addRefusal, arrived}
@@ -35,7 +35,7 @@ use Rattle.rules.specs.Examples.{same-bytes}
 use Rattle.rules.specs.Rules.{profileOf, replacedWith}
 use Rattle.rules.specs.Book.{canRunWith, cellFromWith, cellWith, enterAllWith, enterWith, enteredWith}
 use Rattle.rules.specs.Checks.{changeMisfitsWith, changesRefusalWith}
-use Rattle.rules.specs.Log.{acceptsWith, readFirstWith, readLinesWith, readLogWith}
+use Rattle.rules.specs.Log.{acceptsWith, readLines, readFirst, readLog}
 
 -- ### Cases: a log that restart reads, and then lines of a session
 
@@ -108,11 +108,11 @@ reruns change shown = redoing change (bytes "(ok 1 1)\n(history 0 " ++ bytes sho
 
 -- .. or waits
 abbrev staysBack : String → Case
-staysBack change = redoing change (bytes "(ok 0 1)\n(history 0 4 4 4 1 578437695752307201)\n") at4
+staysBack change = redoing change (bytes "(ok 0 1)\n(history 0 4 4 0 1 578437695752307201)\n") at4
 
 -- .. or is refused
 abbrev redoRefused : String → String → Case
-redoRefused change n = redoing change (bytes "(refused " ++ bytes n ++ bytes ")\n(history 0 4 4 4 1 578437695752307201)\n") at4
+redoRefused change n = redoing change (bytes "(refused " ++ bytes n ++ bytes ")\n(history 0 4 4 0 1 578437695752307201)\n") at4
 
 -- An add of an operation, its finish, and `show`.
 abbrev adding : List ℕ → String → List ℕ → List ℕ → Case
@@ -135,13 +135,13 @@ runs updates values changes shown =
 -- .. waits (finishing it is refused 11)
 abbrev waits : String → Case
 waits updates =
-    adding at4 updates (bytes "(ok 1 48)\n(ok (waiting))\n(ok (ready))\n(refused 11)\n(history 0 4 4 4 1 578437695752307201)\n") at4
+    adding at4 updates (bytes "(ok 1 48)\n(ok (waiting))\n(ok (ready))\n(refused 11)\n(history 0 4 4 0 1 578437695752307201)\n") at4
 
 -- .. or is refused
 abbrev addRefused : String → String → Case
 addRefused updates n =
     adding at4 updates
-    (bytes "(ok 1 48)\n(ok (waiting))\n(refused " ++ bytes n ++ bytes ")\n(refused 11)\n(history 0 4 4 4 1 578437695752307201)\n")
+    (bytes "(ok 1 48)\n(ok (waiting))\n(refused " ++ bytes n ++ bytes ")\n(refused 11)\n(history 0 4 4 0 1 578437695752307201)\n")
     at4
 
 -- "may run if", at C = 4 and U = 3, 4, 5 and 6: of a line that restart reads, of a redo, and of an added operation.
@@ -149,23 +149,23 @@ abbrev pub versions : List Case
 versions =
     -- inc: "U = C + 1"; "version U"
     bad "(inc 0 3 2 0)" ∷ bad "(inc 0 4 2 0)" ∷ taken "(inc 0 5 2 0)" "70" ∷ bad "(inc 0 6 2 0)"
-    ∷ staysBack "(inc 0 3 2 0)" ∷ staysBack "(inc 0 4 2 0)" ∷ reruns "(inc 0 5 2 0)" "5 4 4 2 578437695752307200"
+    ∷ staysBack "(inc 0 3 2 0)" ∷ staysBack "(inc 0 4 2 0)" ∷ reruns "(inc 0 5 2 0)" "5 4 0 2 578437695752307200"
     ∷ staysBack "(inc 0 6 2 0)"
     ∷ addRefused "(inc 0 3 0)" "8" ∷ addRefused "(inc 0 4 0)" "8"
-    ∷ runs "(inc 0 5 0)" "578437695752307200" "(inc 0 5 2 0)" "5 4 4 2 578437695752307200" ∷ waits "(inc 0 6 0)"
+    ∷ runs "(inc 0 5 0)" "578437695752307200" "(inc 0 5 2 0)" "5 4 0 2 578437695752307200" ∷ waits "(inc 0 6 0)"
     -- set: "U > C"; "version U"
     ∷ bad "(set 0 3 2 7)" ∷ bad "(set 0 4 2 7)" ∷ taken "(set 0 5 2 7)" "70" ∷ taken "(set 0 6 2 7)" "70"
-    ∷ staysBack "(set 0 3 2 7)" ∷ staysBack "(set 0 4 2 7)" ∷ reruns "(set 0 5 2 7)" "5 4 4 2 7" ∷ reruns "(set 0 6 2 7)" "6 4 4 2 7"
+    ∷ staysBack "(set 0 3 2 7)" ∷ staysBack "(set 0 4 2 7)" ∷ reruns "(set 0 5 2 7)" "5 4 0 2 7" ∷ reruns "(set 0 6 2 7)" "6 4 0 2 7"
     ∷ addRefused "(set 0 3 7)" "8" ∷ addRefused "(set 0 4 7)" "8"
-    ∷ runs "(set 0 5 7)" "7" "(set 0 5 2 7)" "5 4 4 2 7" ∷ runs "(set 0 6 7)" "7" "(set 0 6 2 7)" "6 4 4 2 7"
+    ∷ runs "(set 0 5 7)" "7" "(set 0 5 2 7)" "5 4 0 2 7" ∷ runs "(set 0 6 7)" "7" "(set 0 6 2 7)" "6 4 0 2 7"
     -- not: "U = C"; "version kept"
     ∷ bad "(not 0 3 2 0)" ∷ taken "(not 0 4 2 0)" "70" ∷ bad "(not 0 5 2 0)" ∷ bad "(not 0 6 2 0)"
-    ∷ staysBack "(not 0 3 2 0)" ∷ reruns "(not 0 4 2 0)" "4 4 4 2 578437695752307201"
+    ∷ staysBack "(not 0 3 2 0)" ∷ reruns "(not 0 4 2 0)" "4 4 0 2 578437695752307201"
     ∷ staysBack "(not 0 5 2 0)" ∷ staysBack "(not 0 6 2 0)"
-    ∷ addRefused "(not 0 3 0)" "9" ∷ runs "(not 0 4 0)" "578437695752307201" "(not 0 4 2 0)" "4 4 4 2 578437695752307201"
+    ∷ addRefused "(not 0 3 0)" "9" ∷ runs "(not 0 4 0)" "578437695752307201" "(not 0 4 2 0)" "4 4 0 2 578437695752307201"
     ∷ waits "(not 0 5 0)" ∷ waits "(not 0 6 0)"
     -- unk: "U is written 0"; "as inc; version C + 1", and recorded as inc
-    ∷ runs "(inc 1 1 0)(unk 0 0 7)" "0 578437695752307207" "(inc 1 1 1 0)(inc 0 5 2 7)" "5 4 4 2 578437695752307207"
+    ∷ runs "(inc 1 1 0)(unk 0 0 7)" "0 578437695752307207" "(inc 1 1 1 0)(inc 0 5 2 7)" "5 4 0 2 578437695752307207"
     ∷ addRefused "(inc 1 1 0)(unk 0 1 7)" "5" ∷ addRefused "(inc 1 1 0)(unk 0 4 7)" "5" ∷ addRefused "(inc 1 1 0)(unk 0 5 7)" "5"
     ∷ []
 
@@ -180,32 +180,32 @@ places =
 abbrev pub operands : List Case
 operands =
     taken "(inc 0 5 2 1023)" "73" ∷ taken "(inc 0 5 2 1024)" "73" ∷ taken "(inc 0 5 2 2047)" "73" ∷ bad "(inc 0 5 2 2048)"
-    ∷ reruns "(inc 0 5 2 2047)" "5 4 4 2 18376663423120507393" ∷ redoRefused "(inc 0 5 2 2048)" "5"
-    ∷ runs "(inc 0 5 1024)" "578437674277470721" "(inc 0 5 2 1024)" "5 4 4 2 578437674277470721"
-    ∷ runs "(inc 0 5 2047)" "18376663423120507393" "(inc 0 5 2 2047)" "5 4 4 2 18376663423120507393" ∷ addRefused "(inc 0 5 2048)" "5"
+    ∷ reruns "(inc 0 5 2 2047)" "5 4 0 2 18376663423120507393" ∷ redoRefused "(inc 0 5 2 2048)" "5"
+    ∷ runs "(inc 0 5 1024)" "578437674277470721" "(inc 0 5 2 1024)" "5 4 0 2 578437674277470721"
+    ∷ runs "(inc 0 5 2047)" "18376663423120507393" "(inc 0 5 2 2047)" "5 4 0 2 18376663423120507393" ∷ addRefused "(inc 0 5 2048)" "5"
     ∷ taken "(set 0 5 2 0)" "70" ∷ taken "(set 0 5 2 4294967296)" "79" ∷ taken "(set 0 5 2 18446744073709551615)" "89"
     ∷ bad "(set 0 5 2 18446744073709551616)"
-    ∷ reruns "(set 0 5 2 4294967295)" "5 4 4 2 4294967295" ∷ reruns "(set 0 5 2 4294967296)" "5 4 4 2 4294967296"
-    ∷ reruns "(set 0 5 2 18446744073709551615)" "5 4 4 2 18446744073709551615" ∷ redoRefused "(set 0 5 2 18446744073709551616)" "1"
-    ∷ runs "(set 0 5 0)" "0" "(set 0 5 2 0)" "5 4 4 2 0"
-    ∷ runs "(set 0 5 4294967296)" "4294967296" "(set 0 5 2 4294967296)" "5 4 4 2 4294967296"
-    ∷ runs "(set 0 5 18446744073709551615)" "18446744073709551615" "(set 0 5 2 18446744073709551615)" "5 4 4 2 18446744073709551615"
+    ∷ reruns "(set 0 5 2 4294967295)" "5 4 0 2 4294967295" ∷ reruns "(set 0 5 2 4294967296)" "5 4 0 2 4294967296"
+    ∷ reruns "(set 0 5 2 18446744073709551615)" "5 4 0 2 18446744073709551615" ∷ redoRefused "(set 0 5 2 18446744073709551616)" "1"
+    ∷ runs "(set 0 5 0)" "0" "(set 0 5 2 0)" "5 4 0 2 0"
+    ∷ runs "(set 0 5 4294967296)" "4294967296" "(set 0 5 2 4294967296)" "5 4 0 2 4294967296"
+    ∷ runs "(set 0 5 18446744073709551615)" "18446744073709551615" "(set 0 5 2 18446744073709551615)" "5 4 0 2 18446744073709551615"
     ∷ addRefused "(set 0 5 18446744073709551616)" "1"
     ∷ bad "(not 0 4 2 1)" ∷ redoRefused "(not 0 4 2 1)" "5" ∷ addRefused "(not 0 4 1)" "5"
-    ∷ runs "(inc 1 1 0)(unk 0 0 2047)" "0 18376663423120507393" "(inc 1 1 1 0)(inc 0 5 2 2047)" "5 4 4 2 18376663423120507393"
+    ∷ runs "(inc 1 1 0)(unk 0 0 2047)" "0 18376663423120507393" "(inc 1 1 1 0)(inc 0 5 2 2047)" "5 4 0 2 18376663423120507393"
     ∷ addRefused "(inc 1 1 0)(unk 0 0 2048)" "5" ∷ []
 
 -- "one part replaced: operand = part × 256 + byte": each part with the bytes 0 and 255.
 abbrev pub parts : List Case
 parts =
-    reruns "(inc 0 5 2 0)" "5 4 4 2 578437695752307200" ∷ reruns "(inc 0 5 2 255)" "5 4 4 2 578437695752307455"
-    ∷ reruns "(inc 0 5 2 256)" "5 4 4 2 578437695752306689" ∷ reruns "(inc 0 5 2 511)" "5 4 4 2 578437695752371969"
-    ∷ reruns "(inc 0 5 2 512)" "5 4 4 2 578437695752110593" ∷ reruns "(inc 0 5 2 767)" "5 4 4 2 578437695768822273"
-    ∷ reruns "(inc 0 5 2 768)" "5 4 4 2 578437695685198337" ∷ reruns "(inc 0 5 2 1023)" "5 4 4 2 578437699963388417"
-    ∷ reruns "(inc 0 5 2 1024)" "5 4 4 2 578437674277470721" ∷ reruns "(inc 0 5 2 1279)" "5 4 4 2 578438769494131201"
-    ∷ reruns "(inc 0 5 2 1280)" "5 4 4 2 578431098682540545" ∷ reruns "(inc 0 5 2 1535)" "5 4 4 2 578711474147623425"
-    ∷ reruns "(inc 0 5 2 1536)" "5 4 4 2 576467370915332609" ∷ reruns "(inc 0 5 2 1791)" "5 4 4 2 648243489976549889"
-    ∷ reruns "(inc 0 5 2 1792)" "5 4 4 2 1976943448883713" ∷ reruns "(inc 0 5 2 2047)" "5 4 4 2 18376663423120507393" ∷ []
+    reruns "(inc 0 5 2 0)" "5 4 0 2 578437695752307200" ∷ reruns "(inc 0 5 2 255)" "5 4 0 2 578437695752307455"
+    ∷ reruns "(inc 0 5 2 256)" "5 4 0 2 578437695752306689" ∷ reruns "(inc 0 5 2 511)" "5 4 0 2 578437695752371969"
+    ∷ reruns "(inc 0 5 2 512)" "5 4 0 2 578437695752110593" ∷ reruns "(inc 0 5 2 767)" "5 4 0 2 578437695768822273"
+    ∷ reruns "(inc 0 5 2 768)" "5 4 0 2 578437695685198337" ∷ reruns "(inc 0 5 2 1023)" "5 4 0 2 578437699963388417"
+    ∷ reruns "(inc 0 5 2 1024)" "5 4 0 2 578437674277470721" ∷ reruns "(inc 0 5 2 1279)" "5 4 0 2 578438769494131201"
+    ∷ reruns "(inc 0 5 2 1280)" "5 4 0 2 578431098682540545" ∷ reruns "(inc 0 5 2 1535)" "5 4 0 2 578711474147623425"
+    ∷ reruns "(inc 0 5 2 1536)" "5 4 0 2 576467370915332609" ∷ reruns "(inc 0 5 2 1791)" "5 4 0 2 648243489976549889"
+    ∷ reruns "(inc 0 5 2 1792)" "5 4 0 2 1976943448883713" ∷ reruns "(inc 0 5 2 2047)" "5 4 0 2 18376663423120507393" ∷ []
 
 -- A version C near the highest in history 0.
 abbrev atHigh : String → List ℕ
@@ -216,7 +216,7 @@ abbrev runsHigh : String → String → String → Case
 runsHigh updates values changes =
     adding (atHigh "18446744073709551614") updates
     (bytes "(ok 1 50)\n(ok (waiting))\n(ok (ready 2))\n(ok 2 (values " ++ bytes values ++ bytes ")(ready)(overtaken))\n"
-    ++ bytes "(history 0 18446744073709551615 18446744073709551614 18446744073709551614 2 0)\n")
+    ++ bytes "(history 0 18446744073709551615 18446744073709551614 0 2 0)\n")
     (atHigh "18446744073709551614" ++ did2 changes)
 
 -- At C = 2^64 − 1 it does not: it gets this reply.
@@ -224,7 +224,7 @@ abbrev staysHigh : String → String → Case
 staysHigh updates answer =
     adding (atHigh "18446744073709551615") updates
     (bytes "(ok 1 50)\n(ok (waiting))\n" ++ bytes answer ++ bytes "\n(refused 11)\n"
-    ++ bytes "(history 0 18446744073709551615 18446744073709551615 18446744073709551615 1 7)\n")
+    ++ bytes "(history 0 18446744073709551615 18446744073709551615 0 1 7)\n")
     (atHigh "18446744073709551615")
 
 -- unk: "C is below 2^64 − 1", and 02's 17; inc: "a true sum"; set up to 2^64 − 1.
@@ -278,14 +278,15 @@ cases = versions ++ places ++ operands ++ parts ++ highest ++ strengths
 computed : T (all caseHolds cases)
 computed =
     unfold caseHolds begins answers logOf leaves lines sameBytes below word digitsWithin digits more number numberOf in
-    unfold fieldText fieldsText itemsText tailText listText updateText changeText oneText siteText didText redoText in
+    unfold fieldText fieldsText itemsText tailText listText updateText changeText oneText siteText didText stableText lineText redoText in
     unfold numbersText answerText outcomeText in
     unfold reading.field reading.rule reading.doneRule reading.update reading.change reading.one reading.items reading.tail in
-    unfold reading.did reading.addForm reading.redoForm reading.numbered reading.command readDid readSite readCommand readWhole in
+    unfold reading.did reading.addForm reading.redoForm reading.numbered reading.command reading.line readDid readLine readSite readCommand readWhole in
     unfold replacedWith profileOf enteredWith enterWith enterAllWith cellFromWith cellWith touches runsAt canRunWith in
     unfold check andThen wrongCount noSuchHistory historyTwice updateMisfits changeMisfitsWith in
     unfold formRefusal updatesRefusal changesRefusalWith in
-    unfold ended didsText logText linesFrom restFrom historiesFit acceptsWith readLinesWith readFirstWith readLogWith in
+    unfold stablesFrom stablesAt weaveFrom markFrom ended linesText logText linesFrom restFrom historiesFit acceptsWith in
+    unfold rises follows liveIn tableHolds readLines readFirst readLog in
     unfold logBytes versionAt liveDone live asks dry becameDry rose lineBytes in
     unfold unless blockedBy blocked mayRunNow ready attempt tryFrom madeReady in
     unfold neverNow holdsNever overtaken notOvertaken overtakenIds nothingOrders idPending idDone in

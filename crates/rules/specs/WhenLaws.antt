@@ -15,11 +15,16 @@ use Rattle.forms.specs.Forms.{Update, Did, Answer}
 use Rattle.forms.specs.Reading.{readDid}
 use Rattle.forms.specs.Refusals.{numberOf}
 use Rattle.forms.specs.declared.Refusal.{Refusal}
-use Rattle.forms.specs.declared.Refusal.the-variants.{Unreadable, WrongCount, NoSuchHistory, HistoryTwice, OperandRange, NothingOrders, IdPending, AlreadyDone, ReadOvertaken, HighestVersion, TableFull, WrongState, NoRoom, AboveLimit, OutOfTurn, BadLog}
+use Rattle.forms.specs.declared.Refusal.the-variants.{Unreadable, WrongCount, NoSuchHistory, HistoryTwice, OperandRange, NothingOrders}
+use Rattle.forms.specs.declared.Refusal.the-variants.{IdPending, AlreadyDone, ReadOvertaken, HighestVersion, TableFull, WrongState, NoRoom}
+use Rattle.forms.specs.declared.Refusal.the-variants.{AboveLimit, OutOfTurn, BadLog}
 use Rattle.rules.specs.Checks.{check, andThen, formRefusal, updatesRefusal, changesRefusal}
 use Rattle.rules.specs.Log.{Journal, journal, noJournal, readLog}
 use Rattle.rules.specs.State.{Operation, State, Reply, refused, ok, settle, logBytes}
-use Rattle.rules.specs.Calls.{unless, nothingOrders, idPending, idDone, alreadyDone, readOvertaken, atHighest, tableFull, stale, logFull, addRefusal, added, add, inProgress, finished, finishFound, finish, withdrawRefusal, withdraw, persistent, stable, show, end, restartAs, cutAbove, cut, redoRefusal, delivered, redoRead, redo, Call, Add, Finish, Withdraw, Persistent, Stable, Show, Cut, Redo, End, writable, perform, step}
+use Rattle.rules.specs.Calls.{unless, nothingOrders, idPending, idDone, alreadyDone, readOvertaken, atHighest, tableFull, stale}
+use Rattle.rules.specs.Calls.{logFull, addRefusal, added, add, inProgress, finished, finishFound, finish, withdrawRefusal, withdraw}
+use Rattle.rules.specs.Calls.{persistent, stable, show, end, restartAs, cutAbove, cut, redoRefusal, delivered, redoRead, redo, Call}
+use Rattle.rules.specs.Calls.{Add, Finish, Withdraw, Persistent, Stable, Show, Cut, Redo, End, writable, perform, step, stableRefusal}
 use Rattle.rules.specs.CheckLaws.{refused-not-ok, some-not-none, unless-check}
 use Rattle.rules.specs.When.{addWhen, redoReadWhen, redoWhen, lastly, cutWhen, performWhen, stepWhen, meets}
 use Rattle.rules.specs.Good.{Good}
@@ -62,7 +67,8 @@ then-settles f g (inr e) (inr p) = inr (λ o. e (g o) ∙ p o)
 some-same : (r q : Refusal) → some r ≡ some q → r ≡ q
 some-same r q e = cc
 
-pub check-not-ten : (b : Bool) (r : Refusal) (o : Option Refusal) → isTenth r ≡ false → (o ≡ some TableFull → ⊥) → check b r o ≡ some TableFull → ⊥
+pub check-not-ten : (b : Bool) (r : Refusal) (o : Option Refusal) → isTenth r ≡ false → (o ≡ some TableFull → ⊥) →
+    check b r o ≡ some TableFull → ⊥
 unfolding check
 check-not-ten true r o e h p = differs r e (some-same r TableFull p)
 check-not-ten false r o e h p = h p
@@ -70,13 +76,15 @@ check-not-ten false r o e h p = h p
 pub none-not-ten : none ≡ some TableFull → ⊥
 none-not-ten e = some-not-none TableFull (sym e)
 
-form-not-ten : {A : Type 0} (history : A → ℕ) (misfits : A → Bool) (n : ℕ) (xs : List A) → formRefusal history misfits n xs ≡ some TableFull → ⊥
+form-not-ten : {A : Type 0} (history : A → ℕ) (misfits : A → Bool) (n : ℕ) (xs : List A) →
+    formRefusal history misfits n xs ≡ some TableFull → ⊥
 unfolding formRefusal isTenth numberOf
 form-not-ten history misfits n xs =
-    check-not-ten _ WrongCount _ refl (check-not-ten _ NoSuchHistory _ refl (check-not-ten _ HistoryTwice _ refl (check-not-ten _ OperandRange _ refl none-not-ten)))
+    check-not-ten _ WrongCount _ refl
+    (check-not-ten _ NoSuchHistory _ refl (check-not-ten _ HistoryTwice _ refl (check-not-ten _ OperandRange _ refl none-not-ten)))
 
 -- the checks of an add before 10
-abbrev addBefore : ℕ → List Update → State → Option Refusal → Option Refusal
+abbrev pub addBefore : ℕ → List Update → State → Option Refusal → Option Refusal
 addBefore i us st o =
     check (st .restoring) OutOfTurn
     (andThen (updatesRefusal (st .histories) us)
@@ -99,7 +107,7 @@ add-settles i us st =
     (check-settles (any (readOvertaken st) us) ReadOvertaken refl) (check-settles (any (atHighest st) us) HighestVersion refl))))))
 
 -- the checks of a redo before 10
-abbrev redoBefore : Did → State → Option Refusal → Option Refusal
+abbrev pub redoBefore : Did → State → Option Refusal → Option Refusal
 redoBefore d st o =
     check (not (st .restoring)) OutOfTurn
     (andThen (changesRefusal (st .histories) (d .changes))
@@ -113,7 +121,8 @@ redo-settles d st =
     (then-settles (andThen (changesRefusal (st .histories) (d .changes))) _
     (andThen-settles (changesRefusal (st .histories) (d .changes)) (form-not-ten _ _ (st .histories) (d .changes)))
     (then-settles (check (idPending (d .id) st) IdPending) (check (any (stale st) (d .changes) || idDone (d .id) st) AlreadyDone)
-    (check-settles (idPending (d .id) st) IdPending refl) (check-settles (any (stale st) (d .changes) || idDone (d .id) st) AlreadyDone refl)))
+    (check-settles (idPending (d .id) st) IdPending refl)
+    (check-settles (any (stale st) (d .changes) || idDone (d .id) st) AlreadyDone refl)))
 
 -- ### One call, with 10 and without
 
@@ -151,7 +160,8 @@ add-ten full i us st = chain-ten (addBefore i us st) full (tableFull st) none (a
 redo-ten : (full : Bool) (x : Step Did) (st : State) → TenOr (redoReadWhen full x st) (redoRead x st)
 unfolding redoReadWhen redoRead redoRefusal
 redo-ten full bad st = inr refl
-redo-ten full (got d rest) st = chain-ten (redoBefore d st) full (tableFull st) (check (logFull d st) NoRoom none) (delivered d st) (redo-settles d st)
+redo-ten full (got d rest) st =
+    chain-ten (redoBefore d st) full (tableFull st) (check (logFull d st) NoRoom none) (delivered d st) (redo-settles d st)
 
 perform-ten : (full : Bool) (c : Call) (st : State) → TenOr (performWhen full c st) (perform c st)
 unfolding performWhen perform redoWhen redo cutWhen cut
@@ -196,7 +206,8 @@ step-off c st = ap (λ (x : Reply). unless (check (not (writable c)) Unreadable 
 -- ### Where 10 is met
 
 -- Two flags give the same reply, if it is 10 for both or for neither.
-pub flags-same : (f g : Bool) (c : Call) (st : State) → (stepWhen f c st ≡ refused TableFull ↔ stepWhen g c st ≡ refused TableFull) → stepWhen f c st ≡ stepWhen g c st
+pub flags-same : (f g : Bool) (c : Call) (st : State) → (stepWhen f c st ≡ refused TableFull ↔ stepWhen g c st ≡ refused TableFull) →
+    stepWhen f c st ≡ stepWhen g c st
 flags-same f g c st same = go (step-ten f c st) (step-ten g c st)
   where
     go : TenOr (stepWhen f c st) (step c st) → TenOr (stepWhen g c st) (step c st) → stepWhen f c st ≡ stepWhen g c st
@@ -205,7 +216,8 @@ flags-same f g c st same = go (step-ten f c st) (step-ten g c st)
     go (inr p) (inr q) = p ∙ sym q
 
 -- An accepted call is that of 01.
-pub when-ok : (full : Bool) (c : Call) (st after : State) (answer : Answer) → stepWhen full c st ≡ ok after answer → step c st ≡ ok after answer
+pub when-ok : (full : Bool) (c : Call) (st after : State) (answer : Answer) → stepWhen full c st ≡ ok after answer →
+    step c st ≡ ok after answer
 when-ok full c st after answer e = go (step-ten full c st)
   where
     go : TenOr (stepWhen full c st) (step c st) → step c st ≡ ok after answer
@@ -223,7 +235,8 @@ good-when full c st G = go (step-ten full c st)
 
 -- ### A call refused 10
 
-pub unless-not-ten : (o : Option Refusal) (x : Reply) → (o ≡ some TableFull → ⊥) → (x ≡ refused TableFull → ⊥) → unless o x ≡ refused TableFull → ⊥
+pub unless-not-ten : (o : Option Refusal) (x : Reply) → (o ≡ some TableFull → ⊥) → (x ≡ refused TableFull → ⊥) →
+    unless o x ≡ refused TableFull → ⊥
 unfolding unless
 unless-not-ten (some r) x ho hx p = ho (ap some (refused-same r TableFull p))
 unless-not-ten none x ho hx p = hx p
@@ -240,7 +253,8 @@ ok-not-ten st a e = refused-not-ok TableFull st a (sym e)
 chain-why : (f : Option Refusal → Option Refusal) (met : Bool) (later : Option Refusal) (x : Reply) → Settles f →
     (later ≡ some TableFull → ⊥) → (x ≡ refused TableFull → ⊥) → unless (f (check met TableFull later)) x ≡ refused TableFull → T met
 unfolding check unless
-chain-why f met later x (inl (r, q, e)) hl hx p = absurd (q (refused-same r TableFull (sym (ap (λ (o : Option Refusal). unless o x) (e _)) ∙ p)))
+chain-why f met later x (inl (r, q, e)) hl hx p =
+    absurd (q (refused-same r TableFull (sym (ap (λ (o : Option Refusal). unless o x) (e _)) ∙ p)))
 chain-why f true later x (inr e) hl hx p = tt
 chain-why f false later x (inr e) hl hx p = absurd (unless-not-ten later x hl hx (sym (ap (λ (o : Option Refusal). unless o x) (e _)) ∙ p))
 
@@ -275,13 +289,18 @@ finish-not-ten none st p = differs WrongState refl (refused-same WrongState Tabl
 finish-not-ten (some x) st p = unless-not-ten _ _ (check-not-ten _ NoRoom none refl none-not-ten) (ok-not-ten _ _) p
 
 perform-why : (full : Bool) (c : Call) (st : State) → performWhen full c st ≡ refused TableFull → T (meets full c st)
-unfolding performWhen addWhen redoWhen redoReadWhen cutWhen finish withdraw withdrawRefusal persistent stable show end delivered isTenth numberOf
-perform-why full (Add i us) st p = chain-why (addBefore i us st) (full || tableFull st) none (added i us st) (add-settles i us st) none-not-ten (ok-not-ten _ _) p
-perform-why full (Finish i) st p = unless-not-ten _ _ (check-not-ten _ OutOfTurn none refl none-not-ten) (finish-not-ten (find (inProgress i) (st .pending)) st) p
+unfolding performWhen addWhen redoWhen redoReadWhen cutWhen finish withdraw withdrawRefusal persistent stable stableRefusal show end delivered isTenth numberOf
+perform-why full (Add i us) st p =
+    chain-why (addBefore i us st) (full || tableFull st) none (added i us st) (add-settles i us st) none-not-ten (ok-not-ten _ _) p
+perform-why full (Finish i) st p =
+    unless-not-ten _ _ (check-not-ten _ OutOfTurn none refl none-not-ten) (finish-not-ten (find (inProgress i) (st .pending)) st) p
 perform-why full (Withdraw i) st p =
     unless-not-ten _ _ (check-not-ten _ OutOfTurn _ refl (check-not-ten _ WrongState none refl none-not-ten)) (ok-not-ten _ _) p
 perform-why full (Persistent n) st p = unless-not-ten _ _ (check-not-ten _ AboveLimit none refl none-not-ten) (ok-not-ten _ _) p
-perform-why full (Stable n) st p = unless-not-ten _ _ (check-not-ten _ AboveLimit none refl none-not-ten) (ok-not-ten _ _) p
+perform-why full (Stable n) st p =
+    unless-not-ten _ _
+    (check-not-ten _ OutOfTurn _ refl (check-not-ten _ NoRoom _ refl (check-not-ten _ AboveLimit none refl none-not-ten)))
+    (ok-not-ten _ _) p
 perform-why full (Show h) st p = unless-not-ten _ _ (check-not-ten _ NoSuchHistory none refl none-not-ten) (ok-not-ten _ _) p
 perform-why full (Cut k room) st p =
     lastly-why full (restartAs room (readLog (take k (logBytes st)))) (restart-not-ten room (readLog (take k (logBytes st))))
@@ -302,7 +321,8 @@ ten-why full c st p = perform-why full c st (unless-over _ _ (check-not-ten (not
 
 perform-met : (full : Bool) (c : Call) (st after : State) (a : Answer) → performWhen full c st ≡ ok after a → T (meets full c st) → ⊥
 unfolding performWhen addWhen redoWhen redoReadWhen cutWhen
-perform-met full (Add i us) st after a p t = chain-ok (addBefore i us st) (full || tableFull st) none (added i us st) (add-settles i us st) after a p t
+perform-met full (Add i us) st after a p t =
+    chain-ok (addBefore i us st) (full || tableFull st) none (added i us st) (add-settles i us st) after a p t
 perform-met full (Finish i) st after a p t = t
 perform-met full (Withdraw i) st after a p t = t
 perform-met full (Persistent n) st after a p t = t
@@ -315,7 +335,8 @@ perform-met full (Redo line) st after a p t = go (readDid line) p
     go : (x : Step Did) → redoReadWhen full x st ≡ ok after a → ⊥
     go bad q = refused-not-ok Unreadable after a q
     go (got d rest) q =
-        chain-ok (redoBefore d st) (full || tableFull st) (check (logFull d st) NoRoom none) (delivered d st) (redo-settles d st) after a q t
+        chain-ok (redoBefore d st) (full || tableFull st) (check (logFull d st) NoRoom none) (delivered d st)
+        (redo-settles d st) after a q t
 perform-met full End st after a p t = t
 
 -- A call that meets the test is not accepted.
@@ -324,7 +345,8 @@ unfolding stepWhen
 ten-met full c st after a p t = perform-met full c st after a (unless-check (not (writable c)) Unreadable _ after a p .1) t
 
 -- "exactly when": a call that 01 accepts is refused 10 exactly when it meets the test.
-pub ten-exactly : (full : Bool) (c : Call) (st after : State) (a : Answer) → step c st ≡ ok after a → stepWhen full c st ≡ refused TableFull ↔ T (meets full c st)
+pub ten-exactly : (full : Bool) (c : Call) (st after : State) (a : Answer) → step c st ≡ ok after a →
+    stepWhen full c st ≡ refused TableFull ↔ T (meets full c st)
 ten-exactly full c st after a e = (ten-why full c st, λ t. go t (step-ten full c st))
   where
     go : T (meets full c st) → TenOr (stepWhen full c st) (step c st) → stepWhen full c st ≡ refused TableFull

@@ -1,5 +1,5 @@
 -- Add, finish and withdraw keep the invariant.
-use mathlib.Core.Path.{_≡_, refl, sym, subst}
+use mathlib.Core.Path.{_≡_, refl, sym, ap, _∙_, subst}
 use mathlib.Core.Logic.{_⊎_, inl, inr}
 use mathlib.Core.Bool.{Bool, true, false, cond, not}
 use mathlib.Core.List.{List, [], _∷_, _++_, map-append, Memᴰ·map, Memᴰ·of-map}
@@ -13,17 +13,19 @@ use Rattle.forms.specs.Decimal.{top}
 use Rattle.forms.specs.Lists.{all, any, keep, find, sum}
 use Rattle.forms.specs.ListLaws.{Nodup, nodup-right, nodup-apart, mem-along, mem-snoc, mem-of-keep, length-keep, length-keep-less, true-T}
 use Rattle.forms.specs.ListLaws.{and-right, all-at}
-use Rattle.forms.specs.Forms.{Update, Did, Answer}
+use Rattle.forms.specs.Forms.{Update, Did, Answer, didLine}
 use Rattle.forms.specs.declared.Refusal.the-variants.{NothingOrders, IdPending, AlreadyDone, ReadOvertaken, HighestVersion, TableFull, WrongState, NoRoom, OutOfTurn}
 use Rattle.forms.specs.Limits.{liveLimit}
-use Rattle.rules.specs.State.{Operation, State, ok, logBytes, liveDone, live, lineBytes, withPending, withLog}
+use Rattle.rules.specs.State.{Operation, State, ok, logBytes, liveDone, live, lineBytes, withPending, withLog, linesIn}
 use Rattle.rules.specs.Calls.{mayRunNow, tryAll, neverNow, holdsNever, overtaken, notOvertaken, idPending, idDone, alreadyDone, tableFull}
 use Rattle.rules.specs.Calls.{addRefusal, arrived, add, lineOf, inProgress, without, logFull, finished, finishFound, finish, withdrawRefusal}
 use Rattle.rules.specs.Calls.{withdraw}
 use Rattle.rules.specs.Calls.{writableUpdate}
-use Rattle.rules.specs.Good.{Good, FormedDid, FormedOperation, didIds, operationIds}
-use Rattle.rules.specs.FitLaws.{length-log-snoc, few-log-lines}
+use Rattle.rules.specs.Good.{Good, FormedDid, FormedOperation, didIds, operationIds, Rises}
+use Rattle.rules.specs.FitLaws.{length-grown, few-did-lines}
 use Rattle.rules.specs.CheckLaws.{refused-not-ok, check-none, andThen-none, unless-ok, unless-check, not-lt, not-le, or-false-left, or-false-right}
+use Rattle.rules.specs.WeaveLaws.{weave-append, mark-dids, rises-did}
+use Rattle.rules.specs.Log.{weave, mark}
 use Rattle.rules.specs.BookLaws.{each-once, ran-snoc}
 use Rattle.rules.specs.PendingLaws.{Pending, unblocked-apart, apart-unblocked, pending-try, pending-part, pending-more, try-ids, try-length}
 use Rattle.rules.specs.OvertakenLaws.{stay-no-never, added-no-never, drop-before-tries}
@@ -64,6 +66,9 @@ module _ (st : State) (xs : List Operation) where
         quiet = G .quiet;
         fits = G .fits;
         roomLimit = G .roomLimit;
+        rises = G .rises;
+        below = G .below;
+        leftBelow = G .leftBelow;
         stableBelow = G .stableBelow;
         persistentBelow = G .persistentBelow;
         few = few;
@@ -180,17 +185,20 @@ finish-good st x G at on off fits =
       ran = ran-snoc (st .log) d (G .ran) (line-runs (st .log) x may);
       waitingFormed = G .waitingFormed;
       quiet = λ e k. absurd (List·Memᴰ·not-nil (mem-along (G .nobodyWaits off) k));
-      fits = omega (arith, length-log-snoc (st .histories) (st .log) d);
+      fits = omega (arith, length-grown (st .histories) (st .log) (d ∷ []) (st .stables) (G .below));
       roomLimit = G .roomLimit;
-      stableBelow = G .stableBelow;
+      rises = subst Rises (sym lines′) (rises-did (linesIn st) d (G .rises));
+      below = λ s k. let le = G .below s k in omega (arith, length-append (st .log) (d ∷ []));
+      leftBelow = omega (arith, G .leftBelow, mark′);
+      stableBelow = omega (arith, G .stableBelow, mark′);
       persistentBelow = omega (arith, G .persistentBelow, length-append (st .log) (d ∷ []));
       few =
           omega (
             arith,
             G .few,
             length-append (st .log) (d ∷ []),
-            length-drop (st .stableTo) (st .log),
-            length-drop (st .stableTo) log′,
+            length-drop (st .leftTo) (st .log),
+            length-drop (st .leftTo) log′,
             length-keep-less f at gone,
             length-keep stays (keep f (st .pending)),
             low,
@@ -212,6 +220,12 @@ finish-good st x G at on off fits =
     log′ : List Did
     log′ = st .log ++ d ∷ []
 
+    lines′ : weave log′ (st .stables) ≡ linesIn st ++ didLine d ∷ []
+    lines′ = weave-append (st .log) (d ∷ []) (st .stables) (G .below)
+
+    mark′ : mark (weave log′ (st .stables)) ≡ mark (linesIn st)
+    mark′ = ap mark lines′ ∙ mark-dids (linesIn st) (d ∷ [])
+
     f : Operation → Bool
     f y = not (eqb (y .id) (x .id))
 
@@ -226,7 +240,7 @@ finish-good st x G at on off fits =
     from y k = mem-of-keep f (st .pending) (mem-of-keep stays (keep f (st .pending)) k .0)
 
     D : List ℕ
-    D = didIds (drop (st .stableTo) (st .log))
+    D = didIds (drop (st .leftTo) (st .log))
 
     W : List ℕ
     W = didIds (st .waiting)
@@ -234,11 +248,11 @@ finish-good st x G at on off fits =
     may : T (all (mayRunNow (st .log)) (x .updates))
     may = G .running x at on
 
-    low : st .stableTo ≤ length (st .log)
-    low = omega (arith, G .stableBelow, G .persistentBelow)
+    low : st .leftTo ≤ length (st .log)
+    low = omega (arith, G .leftBelow, G .stableBelow, G .persistentBelow)
 
     short : length (st .log) < top
-    short = omega (arith, G .fits, G .roomLimit, few-log-lines (st .histories) (st .log))
+    short = omega (arith, G .fits, G .roomLimit, few-did-lines (st .histories) (st .log) (st .stables))
 
     formed-one : (e : Did) → (e ≡ d) ⊎ Mem e (st .log) → FormedDid (st .histories) e
     formed-one e (inl p) =
@@ -281,8 +295,8 @@ finish-good st x G at on off fits =
           pends = λ k. out (Memᴰ·of-map (λ (y : Operation). y .id) left k);
         }
 
-    ids : Nodup (didIds (drop (st .stableTo) log′) ++ (W ++ operationIds left))
-    ids = rw (ids-snoc (λ (e : Did). e .id) (st .stableTo) (st .log) d low) (ids-do (x .id) D W (operationIds left) fresh fewer)
+    ids : Nodup (didIds (drop (st .leftTo) log′) ++ (W ++ operationIds left))
+    ids = rw (ids-snoc (λ (e : Did). e .id) (st .leftTo) (st .log) d low) (ids-do (x .id) D W (operationIds left) fresh fewer)
 
 pub good-finish : (i : ℕ) (st st′ : State) (a : Answer) → Good st → finish i st ≡ ok st′ a → Good st′
 unfolding finish finishFound finished inProgress logFull

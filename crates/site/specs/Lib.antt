@@ -19,6 +19,7 @@ pub mod EntryOf
 pub mod AddLaws
 pub mod FinishLaws
 pub mod OpenLaws
+pub mod Revive
 pub mod RestartLaws
 pub mod Drains
 pub mod DrainLaws

@@ -14,7 +14,7 @@ use Rattle.history.specs.Words.{width, historiesIn, persistedIn, stabilisedIn, 
 use Rattle.table.specs.declared.Table.{Table}
 use Rattle.table.specs.Ends.{Ends, was, left}
 use Rattle.table.specs.Order.{tally}
-use Rattle.table.specs.Tables.{liveNumbers, finishedRows, queueRows, Owns, Frame}
+use Rattle.table.specs.Tables.{liveNumbers, finishedRows, marksIn, queueRows, Owns, Frame}
 use Rattle.site.specs.declared.Site.{Site}
 use Rattle.site.specs.declared.CallResult.{CallResult}
 use Rattle.site.specs.Representation.{Representation, stateOf, Sound}
@@ -60,6 +60,7 @@ represented s m =
       done = s .done;
       persistent = s .persistent;
       stable = s .stable;
+      left = s .left;
       restoring = s .restoring;
       reserved = s .reserved;
       histories = historiesIn (m .book);
@@ -68,6 +69,7 @@ represented s m =
       busy = busyIn (m .book);
       queue = queueRows (s .table) (m .order) (m .rows);
       finished = finishedRows (s .table) (m .order) (m .rows);
+      marks = marksIn (s .table) (m .order) (m .rows);
     }
 
 -- The state that a site and what is lent to it are.

@@ -4,14 +4,15 @@ use native.Mathlib.Omega.{arith}
 use mathlib.Core.Path.{_≡_, refl, sym, ap, ap₂, subst, _∙_}
 use mathlib.Core.Bool.{true}
 use mathlib.Core.List.{List, []}
-use lib.ListN.{take, drop}
+use lib.ListN.{drop}
 use Rattle.forms.specs.Forms.{Answer, Refused, Accepted}
 use Rattle.forms.specs.Held.{Numbers, listed, numbersOf, Replied, replied, outcomeWith, outcomeOf}
-use Rattle.rules.specs.LogLaws.{read-printed}
+use Rattle.rules.specs.KeptLaws.{good-reads}
+use Rattle.rules.specs.WeaveLaws.{dids-weave}
 use Rattle.rules.specs.GoodLaws.{good-step}
 use Rattle.forms.specs.declared.Refusal.{Refusal}
-use Rattle.rules.specs.Log.{readLog}
-use Rattle.rules.specs.State.{State, Reply, refused, ok, logBytes, settle}
+use Rattle.rules.specs.Log.{dids, stablesOf, readLog}
+use Rattle.rules.specs.State.{State, Reply, refused, ok, linesIn, settle}
 use Rattle.rules.specs.Checks.{check}
 use Rattle.rules.specs.Calls.{Call, unless, writable, perform, step}
 use Rattle.rules.specs.Good.{Good}
@@ -23,7 +24,7 @@ use Rattle.table.specs.Order.{tally}
 use Rattle.table.specs.Tables.{liveNumbers, Owns, Frame}
 use Rattle.site.specs.declared.Site.{Site}
 use Rattle.site.specs.declared.CallResult.{CallResult}
-use Rattle.site.specs.Representation.{Representation, stateOf, didsIn, Carries, Represents, Sound}
+use Rattle.site.specs.Representation.{Representation, linesOfJournal, linesRead, stateOf, Carries, Represents, Sound}
 use Rattle.site.specs.Model.{Lent, lent, represented, Few, Says, DoesWith, Does}
 
 -- ### Replies
@@ -52,12 +53,9 @@ says-lists r xs ys a b =
 
 -- ### What a site holds
 
--- The log that the bytes in use say.
-pub log-is : (s : Representation) (bytes : List ℕ) (st : State) → Represents s bytes st → didsIn (readLog (take (s .used) bytes)) ≡ st .log
-unfolding logBytes
-log-is s bytes st h =
-    ap (λ (b : List ℕ). didsIn (readLog b)) (h .carries .text)
-    ∙ ap didsIn (read-printed (st .histories) (st .log) (h .good .histories) (h .good .formed) (h .good .ran))
+-- The lines that the bytes in use say.
+pub lines-are : (s : Representation) (bytes : List ℕ) (st : State) → Represents s bytes st → linesRead s bytes ≡ linesIn st
+lines-are s bytes st h = ap (λ (b : List ℕ). linesOfJournal (readLog b)) (h .carries .text) ∙ ap linesOfJournal (good-reads st (h .good))
 
 -- What a site holds is its view.
 pub view-is : (s : Representation) (bytes : List ℕ) (st : State) → Represents s bytes st → stateOf s bytes ≡ st
@@ -65,11 +63,12 @@ view-is s bytes st h =
     λ i. record {
       histories = c .count i;
       room = c .room i;
-      log = log-is s bytes st h i;
+      log = (ap dids (lines-are s bytes st h) ∙ dids-weave (st .log) (st .stables)) i;
+      stables = (ap stablesOf (lines-are s bytes st h) ∙ c .stables) i;
       pending = c .pending i;
       waiting = c .waiting i;
       persistentTo = c .persistent i;
-      stableTo = c .stable i;
+      leftTo = c .left i;
       restoring = c .restoring i;
     }
   where
@@ -90,6 +89,7 @@ withBook histories persisted stabilised busy w =
       done = w .done;
       persistent = w .persistent;
       stable = w .stable;
+      left = w .left;
       restoring = w .restoring;
       reserved = w .reserved;
       histories = histories;
@@ -98,6 +98,7 @@ withBook histories persisted stabilised busy w =
       busy = busy;
       queue = w .queue;
       finished = w .finished;
+      marks = w .marks;
     }
 
 -- .. which is the site itself, when they are the same
@@ -132,14 +133,15 @@ accepts-book old x w reply new h p s b a =
     subst (λ (z : Representation). AcceptsCall old x (record { site = z; reply = reply }) new) (same-book w h p s b) a
 
 -- .. likewise the site with these rows
-abbrev pub withRows : List Entry → List Entry → Representation → Representation
-withRows finished queue w =
+abbrev pub withRows : List Entry → List ℕ → List Entry → Representation → Representation
+withRows finished marks queue w =
     record {
       count = w .count;
       used = w .used;
       done = w .done;
       persistent = w .persistent;
       stable = w .stable;
+      left = w .left;
       restoring = w .restoring;
       reserved = w .reserved;
       histories = w .histories;
@@ -148,12 +150,13 @@ withRows finished queue w =
       busy = w .busy;
       queue = queue;
       finished = finished;
+      marks = marks;
     }
 
-pub accepts-rows : (old : List ℕ) (x : Reply) (w : Representation) (reply : Replied) (new : List ℕ) {f q : List Entry} → f ≡ w .finished → q ≡ w .queue →
-    AcceptsCall old x (record { site = w; reply = reply }) new → AcceptsCall old x (record { site = withRows f q w; reply = reply }) new
-accepts-rows old x w reply new f q a =
-    subst (λ (z : Representation). AcceptsCall old x (record { site = z; reply = reply }) new) (λ i. withRows (sym f i) (sym q i) w) a
+pub accepts-rows : (old : List ℕ) (x : Reply) (w : Representation) (reply : Replied) (new : List ℕ) {f : List Entry} {k : List ℕ} {q : List Entry} → f ≡ w .finished → k ≡ w .marks → q ≡ w .queue →
+    AcceptsCall old x (record { site = w; reply = reply }) new → AcceptsCall old x (record { site = withRows f k q w; reply = reply }) new
+accepts-rows old x w reply new f k q a =
+    subst (λ (z : Representation). AcceptsCall old x (record { site = z; reply = reply }) new) (λ i. withRows (sym f i) (sym k i) (sym q i) w) a
 
 -- What a call keeps of a table: each entry has one place in the order and a row of its own, the entries have these numbers, and only rows
 -- of entries that are live after the call differ.

@@ -21,6 +21,7 @@ withQueue q restoring reserved busy s =
       done = s .done;
       persistent = s .persistent;
       stable = s .stable;
+      left = s .left;
       restoring = restoring;
       reserved = reserved;
       histories = s .histories;
@@ -29,6 +30,7 @@ withQueue q restoring reserved busy s =
       busy = busy;
       queue = q;
       finished = s .finished;
+      marks = s .marks;
     }
 
 -- the state with other operations that are not done, and other lines that wait
@@ -38,10 +40,11 @@ withOpen pending waiting restoring st =
       histories = st .histories;
       room = st .room;
       log = st .log;
+      stables = st .stables;
       pending = pending;
       waiting = waiting;
       persistentTo = st .persistentTo;
-      stableTo = st .stableTo;
+      leftTo = st .leftTo;
       restoring = restoring;
     }
 
@@ -61,6 +64,8 @@ carries-queue s bytes st c q restoring reserved numbers pending waiting p w n b 
       done = c .done;
       persistent = c .persistent;
       stable = c .stable;
+      left = c .left;
+      stables = c .stables;
       restoring = refl;
       pending = p;
       waiting = w;
@@ -73,4 +78,5 @@ carries-queue s bytes st c q restoring reserved numbers pending waiting p w n b 
       stabilised = c .stabilised;
       busy = b;
       finished = c .finished;
+      marks = c .marks;
     }

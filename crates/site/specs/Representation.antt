@@ -3,26 +3,28 @@ use Prim.Native.Nat.{ℕ, _≤_, _<_}
 use mathlib.Core.Path.{_≡_}
 use mathlib.Core.Bool.{Bool, true, false}
 use mathlib.Core.List.{List, [], map}
-use lib.ListN.{length, take, getD}
+use lib.ListN.{length, take, drop, getD}
 use Rattle.forms.specs.Lists.{sum}
-use Rattle.forms.specs.Forms.{Did}
+use Rattle.forms.specs.Forms.{Did, Line}
 use Rattle.forms.specs.declared.LogNumber.{LogNumber}
 use Rattle.rules.specs.Book.{cell}
-use Rattle.rules.specs.Log.{Journal, journal, noJournal, readLog}
-use Rattle.rules.specs.State.{Operation, State, logBytes, versionAt, liveDone, lineBytes}
+use Rattle.rules.specs.Log.{Journal, journal, noJournal, dids, stablesOf, readLog}
+use Rattle.rules.specs.State.{Operation, State, logBytes, linesIn, stableTo, versionAt, liveDone, lineBytes}
+use Rattle.rules.specs.CoverLaws.{marksBefore}
 use Rattle.rules.specs.Poll.{busy as busyIn}
 use Rattle.rules.specs.Good.{Good}
 use Rattle.history.specs.declared.History.{History}
 use Rattle.history.specs.declared.Entry.{Entry}
 use Rattle.history.specs.Entries.{cellsOf, operationOf, didOfEntry}
 
--- A site, and the rows of its table: those not done (or waiting), and those done and not yet stable.
+-- A site, and the rows of its table: those not done (or waiting), and those done that have not left it, with the mark noted in each.
 pub record Representation : Type 0 where
   pub count : ℕ
   pub used : ℕ
   pub done : LogNumber
   pub persistent : LogNumber
   pub stable : LogNumber
+  pub left : LogNumber
   pub restoring : Bool
   pub reserved : ℕ
   pub histories : List History
@@ -31,6 +33,7 @@ pub record Representation : Type 0 where
   pub busy : List ℕ
   pub queue : List Entry
   pub finished : List Entry
+  pub marks : List ℕ
 
 -- ### The site as a state
 
@@ -43,9 +46,13 @@ abbrev pub waitingIn : Bool → Representation → List Did
 waitingIn true s = map didOfEntry (s .queue)
 waitingIn false s = []
 
-abbrev pub didsIn : Journal → List Did
-didsIn (journal n log) = log
-didsIn noJournal = []
+abbrev pub linesOfJournal : Journal → List Line
+linesOfJournal (journal n lines) = lines
+linesOfJournal noJournal = []
+
+-- the lines that the bytes in use say
+abbrev pub linesRead : Representation → List ℕ → List Line
+linesRead s bytes = linesOfJournal (readLog (take (s .used) bytes))
 
 -- The state that a site and the bytes of its log buffer are: the log is read off the bytes in use.
 abbrev pub stateOf : Representation → List ℕ → State
@@ -53,11 +60,12 @@ stateOf s bytes =
     record {
       histories = s .count;
       room = length bytes;
-      log = didsIn (readLog (take (s .used) bytes));
+      log = dids (linesRead s bytes);
+      stables = stablesOf (linesRead s bytes);
       pending = pendingIn (s .restoring) s;
       waiting = waitingIn (s .restoring) s;
       persistentTo = s .persistent .0;
-      stableTo = s .stable .0;
+      leftTo = s .left .0;
       restoring = s .restoring;
     }
 
@@ -71,7 +79,10 @@ pub record Carries (s : Representation) (bytes : List ℕ) (st : State) : Type 0
   pub room : length bytes ≡ st .room
   pub done : s .done .0 ≡ length (st .log)
   pub persistent : s .persistent .0 ≡ st .persistentTo
-  pub stable : s .stable .0 ≡ st .stableTo
+  pub stable : s .stable .0 ≡ stableTo st
+  pub left : s .left .0 ≡ st .leftTo
+  -- the stable lines are listed in the order in which they stand
+  pub stables : stablesOf (linesIn st) ≡ st .stables
   pub restoring : s .restoring ≡ st .restoring
   pub pending : pendingIn (s .restoring) s ≡ st .pending
   pub waiting : waitingIn (s .restoring) s ≡ st .waiting
@@ -81,11 +92,12 @@ pub record Carries (s : Representation) (bytes : List ℕ) (st : State) : Type 0
   pub persistedLong : length (s .persisted) ≡ 16
   pub persisted : (h : ℕ) → h < s .count → getD (s .persisted) h 0 ≡ versionAt (st .persistentTo) h st
   pub stabilisedLong : length (s .stabilised) ≡ 16
-  pub stabilised : (h : ℕ) → h < s .count → getD (s .stabilised) h 0 ≡ versionAt (st .stableTo) h st
+  pub stabilised : (h : ℕ) → h < s .count → getD (s .stabilised) h 0 ≡ versionAt (stableTo st) h st
   -- "for every history the number of its future, in-progress and volatile updates"
   pub busy : (h : ℕ) → h < s .count → getD (s .busy) h 0 ≡ busyIn st h
-  -- done operations that are not yet stable, in log order
+  -- done operations that have not left the table, in log order, and the stable mark when the line of each was written
   pub finished : map didOfEntry (s .finished) ≡ liveDone st
+  pub marks : s .marks ≡ drop (st .leftTo) (marksBefore 0 (linesIn st))
 
 -- The site holds the state st: it carries its parts, and st is one that calls reach.
 pub record Represents (s : Representation) (bytes : List ℕ) (st : State) : Type 0 where

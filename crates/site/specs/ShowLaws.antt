@@ -11,7 +11,7 @@ use Rattle.forms.specs.Forms.{Shown}
 use Rattle.forms.specs.declared.Refusal.the-variants.{NoSuchHistory}
 use Rattle.rules.specs.Checks.{check}
 use Rattle.rules.specs.Book.{cell}
-use Rattle.rules.specs.State.{State, refused, ok, versionAt}
+use Rattle.rules.specs.State.{State, refused, ok, stableTo, versionAt}
 use Rattle.rules.specs.LogLaws.{histories-most}
 use Rattle.rules.specs.Calls.{Call, unless, writable, perform, step, show}
 use Rattle.history.specs.declared.History.{History}
@@ -51,7 +51,7 @@ show-accepted s bytes h v le below =
     persisted : versionAt (s .persistent .0) h (stateOf s bytes) ≡ getD (s .persisted) h 0
     persisted = sym (c .persisted h below)
 
-    stabilised : versionAt (s .stable .0) h (stateOf s bytes) ≡ getD (s .stabilised) h 0
+    stabilised : versionAt (stableTo (stateOf s bytes)) h (stateOf s bytes) ≡ getD (s .stabilised) h 0
     stabilised = sym (c .stabilised h below)
 
 -- the reply that shows history h: what it holds, and its persistent and its stable version

@@ -26,8 +26,8 @@ use Rattle.forms.specs.declared.Refusal.the-variants.{WrongCount, NoSuchHistory
 use Rattle.rules.specs.Checks.{check, andThen, wrongCount, noSuchHistory, historyTwice, formRefusal, updatesRefusal}
 use Rattle.rules.specs.State.{State, Reply, refused}
 use Rattle.rules.specs.Calls.{Call, writableUpdate, unless, step, add, addRefusal, redoRefusal, delivered}
-use Rattle.site.specs.Trim.{padded, updatesHeld, changesHeld, didHeld, redoOf, Stands}
 use Rattle.site.specs.AddLaws.{add-performs}
+use Rattle.site.specs.Trim.{padded, updatesHeld, changesHeld, didHeld, redoOf, Stands}
 use Rattle.rules.specs.Checks.{changesRefusalWith}
 
 -- ### What stands in the places

@@ -32,14 +32,15 @@ pub struct Site {
     pub count: usize,
     // bytes of the log buffer in use
     pub used: usize,
-    // how many operations are done, persistent and stable
+    // how many operations are done, persistent, stable, and have left the table
     pub done: LogNumber,
     pub persistent: LogNumber,
     pub stable: LogNumber,
+    pub left: LogNumber,
     pub restoring: bool,
     // bytes that the waiting redo lines will take in the log
     pub reserved: usize,
-    // how many operations are done and not yet stable, and how many are not done (while restoring: wait)
+    // how many operations are done and have not left the table, and how many are not done (while restoring: wait)
     pub table: Table,
 }
 

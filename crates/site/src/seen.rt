@@ -10,7 +10,7 @@ pub struct CheckInputs {
     pub restoring: bool,
     // how many histories there are
     pub count: usize,
-    // whether the id stands in the queue, and among the done operations that are not yet stable
+    // whether the id stands in the queue, and among the done operations that have not left the table
     pub pending: bool,
     pub done: bool,
     // whether as many operations are live as may be

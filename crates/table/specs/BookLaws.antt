@@ -4,21 +4,20 @@ use native.Mathlib.Omega.{arith}
 use mathlib.Core.Path.{_≡_, refl, sym, ap, ap₂, subst, _∙_}
 use mathlib.Core.Bool.{Bool, true, false, cond, not, _&&_}
 use mathlib.Core.List.{List, [], _∷_, _++_, map, append-assoc, append-nil}
-use mathlib.Core.List.{List·Memᴰ as Mem, List·Memᴰ·head as here, List·Memᴰ·tail as there, Memᴰ·append-right, Memᴰ·map}
+use mathlib.Core.List.{List·Memᴰ as Mem, List·Memᴰ·head as here, List·Memᴰ·tail as there, Memᴰ·append-left, Memᴰ·append-right, Memᴰ·map}
 use borrow.Author.Tests.{eqb-true, ne-eqb, lt-ltb}
 use lib.Dec.{T, eqb, ltb}
 use lib.ListN.{getD, take, drop, take-append-drop}
 use lib.Seq.{take-add, take-take}
 use Rattle.forms.specs.Lists.{keep, below}
-use Rattle.forms.specs.ListLaws.{Nodup, Prefix, mem-along, keep-append}
+use Rattle.forms.specs.ListLaws.{Nodup, mem-along, keep-append}
 use Rattle.forms.specs.Forms.{Change, Did}
 use Rattle.rules.specs.Book.{Cell, cell, entered, enterAll, enterAllWith, enterWith, runsAt, canRun}
 use Rattle.rules.specs.Poll.{busy}
 use Rattle.rules.specs.PollLaws.{dry-is}
 use Rattle.rules.specs.State.{State, dry, becameDry, rose, versionAt}
 use Rattle.rules.specs.Good.{FormedDid, Ran}
-use Rattle.rules.specs.BookLaws.{once-formed, enterAll-other, entered-version, can-run-at, cell-snoc}
-use Rattle.rules.specs.LogLaws.{ran-front, mem-front}
+use Rattle.rules.specs.BookLaws.{once-formed, enterAll-other, entered-version, can-run-at, cell-snoc, ran-prefix}
 use Rattle.history.specs.declared.Item.{Item}
 use Rattle.history.specs.declared.Entry.{Entry}
 use Rattle.history.specs.Entries.{itemChange, itemsOf, didOfEntry}
@@ -123,15 +122,16 @@ advance-is n h log s from to v es formed ran le e q =
         ∙ ap (λ (l : List Did). take s log ++ l) (take-append-drop from (take to (drop s log)))
         ∙ sym (take-add s to log)
 
-    front : Prefix (take (s + to) log) log
-    front = (drop (s + to) log, sym (take-append-drop (s + to) log))
+    front : log ≡ take (s + to) log ++ drop (s + to) log
+    front = sym (take-append-drop (s + to) log)
 
     inside : (d : Did) → Mem d (map didOfEntry part) → FormedDid n d
-    inside d m = formed d (mem-front (take (s + to) log) log front d (mem-along whole (Memᴰ·append-right a (mem-along same m))))
+    inside d m =
+        formed d (mem-along (sym front) (Memᴰ·append-left (drop (s + to) log) (mem-along whole (Memᴰ·append-right a (mem-along same m)))))
 
     runs : (p : List Did) (d : Did) (r : List Did) → map didOfEntry part ≡ p ++ d ∷ r → T (canRun (a ++ p) d)
     runs p d r f =
-        ran-front (take (s + to) log) log front ran (a ++ p) d r
+        ran-prefix (take (s + to) log) (drop (s + to) log) (subst Ran front ran) (a ++ p) d r
         (sym whole ∙ ap (λ (l : List Did). a ++ l) (sym same ∙ f) ∙ sym (append-assoc a p (d ∷ r)))
 
 -- .. where they are the first m entries of an order

@@ -11,6 +11,7 @@ pub mod RowLaws
 pub mod Tables
 pub mod TableLaws
 pub mod StepLaws
+pub mod NotedLaws
 pub mod Tries
 pub mod Overtaken
 pub mod LoopLaws

@@ -3,7 +3,7 @@ use Prim.Native.Nat.{ℕ, _+_, _-_, _≤_}
 use mathlib.Core.Path.{_≡_}
 use mathlib.Core.Bool.{Bool, true, false, not}
 use mathlib.Core.List.{List, [], _∷_, map}
-use lib.ListN.{getD}
+use lib.ListN.{getD, take}
 use Rattle.forms.specs.Lists.{keep, sum}
 use Rattle.forms.specs.Write.{Wrote}
 use Rattle.history.specs.declared.Entry.{Entry}
@@ -61,5 +61,6 @@ Examines false e d i o book lists at r p book′ lists′ = Stays d o book lists
 -- `at` on; their updates count no longer, and nothing else changes in the book.
 pub record Drops (t : Table) (o ws book lists : List ℕ) (at : ℕ) (r : Dropped) (p book′ lists′ : List ℕ) : Type 0 where
   pub becomes : Becomes o ws (r .table) p ws (finishedRows t o ws) (keep (staysEntry book) (queueRows t o ws))
+  pub done : take (r .table .finished) p ≡ take (t .finished) o
   pub named : Lists lists at (map idOf (keep (overtakenEntry book) (queueRows t o ws))) (r .count) lists′
   pub counts : CountsMore (keep (overtakenEntry book) (queueRows t o ws)) book′ book

@@ -29,7 +29,7 @@ use Rattle.table.specs.Order.{moved}
 use Rattle.table.specs.Overtaken.{overtakenEntry, staysEntry, rowIn, Covers, Leaves, Examines, Drops}
 use Rattle.table.specs.RangeLaws.{pastEntry}
 use Rattle.table.specs.StepLaws.{frame-same, becomes-same}
-use Rattle.table.specs.TableLaws.{queue-length, queue-at, removed}
+use Rattle.table.specs.TableLaws.{queue-length, queue-at, removed, removed-done}
 use Rattle.table.specs.Tables.{liveCount, finishedRows, queueRows, liveNumbers, idOf, Owns, Becomes}
 
 -- ### One element leaves a list
@@ -114,6 +114,7 @@ covers-less book book′ l i lt enough less h some = go (ltb h 16) refl
 pub record Dropping (t : Table) (o ws book lists : List ℕ) (at : ℕ) (d : Dropped) (p book′ lists′ : List ℕ) (i : ℕ) : Type 0 where
   pub out : List Entry
   pub becomes : Becomes o ws (d .table) p ws (finishedRows t o ws) (queueRows (d .table) p ws)
+  pub done : take (d .table .finished) p ≡ take (t .finished) o
   pub passed : any (overtakenEntry book) (take i (queueRows (d .table) p ws)) ≡ false
   pub stay : keep (staysEntry book) (queueRows (d .table) p ws) ≡ keep (staysEntry book) (queueRows t o ws)
   pub leave : out ++ keep (overtakenEntry book) (queueRows (d .table) p ws) ≡ keep (overtakenEntry book) (queueRows t o ws)
@@ -131,6 +132,7 @@ dropping-none t o ws book lists at own enough long early =
     record {
       out = [];
       becomes = becomes-same t o ws own;
+      done = refl;
       passed = refl;
       stay = refl;
       leave = refl;
@@ -218,6 +220,7 @@ module _ (t : Table) (o ws book lists : List ℕ) (at : ℕ) (d : Dropped) (p bo
               finishedIs = gone .finishedIs ∙ s .becomes .finishedIs;
               queueIs = refl;
             };
+        done = removed-done (d .table) p ws own i low p′ (l .order) ∙ s .done;
         passed = ap (any test) (ap (take i) (gone .queueIs) ∙ same-before pastEntry queue i there) ∙ s .passed;
         stay = ap (keep (staysEntry book)) (gone .queueIs) ∙ others-stay pastEntry queue i there test passes ∙ s .stay;
         leave = out-next;
@@ -263,6 +266,7 @@ module _ (t : Table) (o ws book lists : List ℕ) (at : ℕ) (d : Dropped) (p bo
       record {
         out = s .out;
         becomes = s .becomes;
+        done = s .done;
         passed =
             any-more (overtakenEntry book) queue pastEntry i there
             ∙ ap₂ _||_ (s .passed) (ap (overtakenEntry book) here ∙ miss);
@@ -320,6 +324,7 @@ dropping-all t o ws book lists at d p book′ lists′ i end few s =
             finishedIs = s .becomes .finishedIs;
             queueIs = sym (all-stay test queue none) ∙ s .stay;
           };
+      done = s .done;
       named =
           record {
             few = omega (arith, s .left, few);

@@ -3,7 +3,7 @@ use Prim.Native.Nat.{ℕ, _+_, _-_, _≤_, _<_}
 use native.Mathlib.Omega.{arith}
 use mathlib.Core.Path.{_≡_, refl, sym, ap, subst, _∙_}
 use mathlib.Core.Bool.{Bool, true, false}
-use mathlib.Core.List.{List, [], _∷_, _++_}
+use mathlib.Core.List.{List, [], _∷_, _++_, map}
 use borrow.Author.Tests.{eqb-true, eqb-false}
 use lib.Dec.{eqb}
 use lib.ListN.{length, getD, take, drop, set, length-drop}
@@ -17,8 +17,9 @@ use Rattle.table.specs.declared.Marks.{Marks}
 use Rattle.table.specs.declared.Table.{Table}
 use Rattle.table.specs.Order.{tally}
 use Rattle.table.specs.OrderLaws.{tally-at, tally-parts}
-use Rattle.table.specs.Rows.{rowAt, begun, HasRow, PutRow}
+use Rattle.table.specs.Rows.{rowAt, markAt, begun, HasRow, PutRow}
 use Rattle.table.specs.RowLaws.{word-kept, row-other, rows-other, rows-set}
+use Rattle.table.specs.NotedLaws.{row-marks}
 use Rattle.table.specs.Tables.{rowsIn, liveCount, Usable, Owns, Frame}
 use Rattle.table.specs.Tries.{gather, heldOf, entryUpdates, MarksOf, More, startsBy, Tries}
 use Rattle.table.specs.NumberLaws.{numbers-next}
@@ -53,13 +54,20 @@ module _ (o old new : List ℕ) (i : ℕ) (long : length o ≡ 64) (once : (e : 
       (omega (arith, length-drop from (take to o), length-take-le to o (omega (arith, long))))
       (part-once from to (getD (drop from (take to o)) (i - from) 0))
 
-  pub rows-before : (from : ℕ) → from ≤ i → rowsIn o new 0 from ≡ rowsIn o old 0 from
-  rows-before from h =
+  -- .. not in the part before
+  not-before : (from : ℕ) → from ≤ i → tally number (take from o) ≡ 0
+  not-before from h =
       let z : from + (i - from) ≡ i = omega arith in
       let e : getD (drop from o) (i - from) 0 ≡ number = getD-drop from o (i - from) 0 ∙ ap (λ (k : ℕ). getD o k 0) z in
       let w : 1 ≤ tally number (drop from o) =
       subst (λ (k : ℕ). 1 ≤ tally k (drop from o)) e (tally-at (i - from) (drop from o) (omega (arith, length-drop from o, long))) in
-      rows-other number (begun (rowAt old number)) old new put (take from o) (omega (arith, w, once number, tally-parts number from o))
+      omega (arith, w, once number, tally-parts number from o)
+
+  pub rows-before : (from : ℕ) → from ≤ i → rowsIn o new 0 from ≡ rowsIn o old 0 from
+  rows-before from h = rows-other number (begun (rowAt old number)) old new put (take from o) (not-before from h)
+
+  pub marks-before : (from : ℕ) → map (markAt new) (take from o) ≡ map (markAt old) (take from o)
+  marks-before from = row-marks number (begun (rowAt old number)) old new put (take from o)
 
   pub begun-within : (e : ℕ) → HasRow old e → HasRow new e
   begun-within e h = omega (arith, h, put .long)
@@ -103,6 +111,7 @@ pub record Passing (cells : ℕ → Cell) (o old new : List ℕ) (from to : ℕ)
   pub once : (e : ℕ) → tally e o ≤ 1
   pub frame : Frame (take to o) old new
   pub finished : rowsIn o new 0 from ≡ rowsIn o old 0 from
+  pub noted : map (markAt new) (take from o) ≡ map (markAt old) (take from o)
   pub tried : TriedTo cells (rowsIn o old from to) (rowsIn o new from to) m first start (listed ready lists) (i - from)
 
 pub passing-none : (cells : ℕ → Cell) (t : Table) (o ws : List ℕ) (m : Marks) (first : List ℕ) (start : ℕ) → Owns t o ws
@@ -117,6 +126,7 @@ passing-none cells t o ws m first start w marks long =
       once = w .once;
       frame = record { long = refl; rest = λ e j h n. refl };
       finished = refl;
+      noted = refl;
       tried =
           subst (TriedTo cells rows rows m first start (listed 0 first)) z
           (passed-none cells rows m first start (usable-range o ws (t .finished) (liveCount t) (w .usable) (omega arith)) marks long);
@@ -151,6 +161,7 @@ module _ (cells : ℕ → Cell) (o old new : List ℕ) (from to : ℕ) (m : Mark
     once = p .once;
     frame = frame-begun o new words i (p .usable .long) (p .once) small put old to l (p .usable .few) (p .frame);
     finished = rows-before o new words i (p .usable .long) (p .once) small put from h ∙ p .finished;
+    noted = marks-before o new words i (p .usable .long) (p .once) small put from ∙ p .noted;
     tried =
         subst (λ (k : List Entry). TriedTo cells (rowsIn o old from to) k r first start (listed (ready + 1) vs) (i + 1 - from)) (sym rows)
         (subst (TriedTo cells (rowsIn o old from to) (set now (i - from) (begun (getD now (i - from) pastEntry))) r first start
@@ -183,6 +194,7 @@ module _ (cells : ℕ → Cell) (o old new : List ℕ) (from to : ℕ) (m : Mark
     once = p .once;
     frame = p .frame;
     finished = p .finished;
+    noted = p .noted;
     tried =
         subst (TriedTo cells (rowsIn o old from to) (rowsIn o new from to) m first start (listed ready lists)) next
         (step-no cells (rowsIn o old from to) (rowsIn o new from to) m first start (listed ready lists) (i - from) (p .tried) inside-range
@@ -209,6 +221,7 @@ passing-all cells t o old new m first start ready lists i early e p = record {
   owns = record { usable = p .usable; within = p .within; once = p .once };
   frame = p .frame;
   finished = p .finished;
+  noted = p .noted;
   queue = tried-all cells l k m first start (listed ready lists) (i - t .finished) (p .tried) whole;
   ready = ready-all cells l k m first start (listed ready lists) (i - t .finished) (p .tried) whole (omega (arith, early, e))
       (omega (arith, p .usable .few));

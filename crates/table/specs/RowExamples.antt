@@ -13,7 +13,7 @@ use Rattle.table.specs.Tables.{rowsIn, idOf, hasId, entryOf, versionBy, 
 
 -- a row with one update: history 1 set at this version
 abbrev oneRow : ℕ → ℕ → List ℕ
-oneRow id version = id ∷ 0 ∷ 1 ∷ 1 ∷ 1 ∷ version ∷ 1 ∷ 0 ∷ replicate 15 0
+oneRow id version = id ∷ 0 ∷ 1 ∷ 1 ∷ 1 ∷ version ∷ 1 ∷ 0 ∷ replicate 16 0
 
 abbrev words : List ℕ
 words = oneRow 7 4 ++ (oneRow 9 6 ++ oneRow 5 8)

@@ -79,7 +79,7 @@ module _ (old new : List ℕ) where
         s (at + 4) (omega arith) (omega arith),
       )
 
-  entry-same : (at : ℕ) → Same at rowWidth old new → entryFrom new at ≡ entryFrom old at
+  pub entry-same : (at : ℕ) → Same at 23 old new → entryFrom new at ≡ entryFrom old at
   unfolding entryFrom
   entry-same at s =
       rw (
@@ -201,10 +201,10 @@ module _ (ws : List ℕ) (at : ℕ) (e : Entry) (b : ℕ) (room : at + rowWidth 
       kept-then (kept-wide (at + 3) 20 (one .rest) (omega arith) (omega arith))
       (kept-wide (at + 3) 20 behind-one (omega arith) (omega arith))
 
-  entry-rest : UnchangedOutside at rowWidth ws z
+  entry-rest : UnchangedOutside at 23 ws z
   entry-rest =
-      kept-then (kept-wide at rowWidth (stores-kept ws at (e .id) (b ∷ e .count ∷ []) (omega arith)) (omega arith) (omega arith))
-      (kept-wide at rowWidth behind-start (omega arith) (omega arith))
+      kept-then (kept-wide at 23 (stores-kept ws at (e .id) (b ∷ e .count ∷ []) (omega arith)) (omega arith) (omega arith))
+      (kept-wide at 23 behind-start (omega arith) (omega arith))
 
   entry-written : entryFrom z at ≡ e
   unfolding entryFrom
@@ -223,6 +223,7 @@ module _ (ws : List ℕ) (at : ℕ) (e : Entry) (b : ℕ) (room : at + rowWidth 
   pub row-written : (i : ℕ) → at ≡ i * rowWidth → PutRow i e ws z
   row-written i q = record {
     row = ap (entryFrom z) (sym q) ∙ entry-written;
+    noted = entry-rest .behind (i * rowWidth + 23) (omega (arith, q));
     rest = kept-wide (i * rowWidth) rowWidth entry-rest (omega (arith, q)) (omega (arith, q));
     long =
         four .long ∙ three .long ∙ two .long ∙ one .long ∙ puts-long (set ws at (e .id)) at 1 (b ∷ e .count ∷ [])
@@ -230,10 +231,10 @@ module _ (ws : List ℕ) (at : ℕ) (e : Entry) (b : ℕ) (room : at + rowWidth 
   }
 
 -- the words of two entries
-abbrev Apart : ℕ → ℕ → Type 0
+abbrev pub Apart : ℕ → ℕ → Type 0
 Apart e i = (i * rowWidth + rowWidth ≤ e * rowWidth) ⊎ (e * rowWidth + rowWidth ≤ i * rowWidth)
 
-apart : (e i : ℕ) → (i ≡ e → ⊥) → Apart e i
+pub apart : (e i : ℕ) → (i ≡ e → ⊥) → Apart e i
 apart e i ne = go (ltb i e) refl
   where
     go : (b : Bool) → ltb i e ≡ b → Apart e i
@@ -262,13 +263,17 @@ row-same old new i s =
     let d : k ≡ i * rowWidth + j = omega arith in
     ap (λ (n : ℕ). getD new n 0) d ∙ s j (omega arith) ∙ ap (λ (n : ℕ). getD old n 0) (sym d))
 
+-- what is the same of each number of a list
+pub each-same : {A : Type 0} (f g : ℕ → A) (es : List ℕ) → ((i : ℕ) → 1 ≤ tally i es → g i ≡ f i) → map g es ≡ map f es
+unfolding tally
+each-same f g [] h = refl
+each-same {A} f g (x ∷ es) h =
+    ap₂ (λ (r : A) (rs : List A). r ∷ rs) (h x (omega (arith, tally-head x es))) (each-same f g es (λ i l. h i (omega arith)))
+
 -- rows of which no word differs
 pub rows-same : (old new : List ℕ) (es : List ℕ) → ((i : ℕ) → 1 ≤ tally i es → rowAt new i ≡ rowAt old i)
     → map (rowAt new) es ≡ map (rowAt old) es
-unfolding tally
-rows-same old new [] h = refl
-rows-same old new (x ∷ es) h =
-    ap₂ (λ (r : Entry) (rs : List Entry). r ∷ rs) (h x (omega (arith, tally-head x es))) (rows-same old new es (λ i l. h i (omega arith)))
+rows-same old new es h = each-same (rowAt old) (rowAt new) es h
 
 module _ (e : ℕ) (r : Entry) (old new : List ℕ) (put : PutRow e r old new) where
   -- a row but that of e
@@ -327,6 +332,7 @@ pub start-put : (ws : List ℕ) (e : ℕ) → e * rowWidth + rowWidth ≤ length
     → PutRow e (begun (rowAt ws e)) ws (set ws (e * rowWidth + 1) 1)
 start-put ws e room = record {
   row = started ws (e * rowWidth) room;
+  noted = kept-set ws (e * rowWidth + 1) 1 .behind (e * rowWidth + 23) (omega arith);
   rest = kept-wide (e * rowWidth) rowWidth (kept-set ws (e * rowWidth + 1) 1) (omega arith) (omega arith);
   long = length-set ws (e * rowWidth + 1) 1;
 }

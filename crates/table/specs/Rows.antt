@@ -1,4 +1,4 @@
--- Rows in words: how the entries of the table stand in the numbers that are lent to it, 23 for each.
+-- Rows in words: how the entries of the table stand in the numbers that are lent to it, 24 for each.
 use Prim.Native.Nat.{ℕ, _+_, _*_, _≤_}
 use mathlib.Core.Path.{_≡_}
 use mathlib.Core.Bool.{true, cond}
@@ -13,7 +13,7 @@ use Rattle.history.specs.Words.{within, UnchangedOutside}
 
 -- How many words a row has.
 abbrev pub rowWidth : ℕ
-rowWidth = 23
+rowWidth = 24
 
 -- the number of a rule, and the rule of a number
 unfoldable pub ruleNumber : Rule → ℕ
@@ -56,6 +56,10 @@ entryFrom ws at =
 abbrev pub rowAt : List ℕ → ℕ → Entry
 rowAt ws e = entryFrom ws (e * rowWidth)
 
+-- the stable mark noted in the row of entry e, behind the entry's words
+abbrev pub markAt : List ℕ → ℕ → ℕ
+markAt ws e = getD ws (e * rowWidth + 23) 0
+
 -- the entry in progress
 abbrev pub begun : Entry → Entry
 begun e = record { id = e .id; running = true; count = e .count; items = e .items }
@@ -64,8 +68,21 @@ begun e = record { id = e .id; running = true; count = e .count; items = e .item
 abbrev pub HasRow : List ℕ → ℕ → Type 0
 HasRow ws e = e * rowWidth + rowWidth ≤ length ws
 
--- Entry e has the row r now; all other words are as they were.
+-- Entry e has the row r now; the mark noted there, and all other words, are as they were.
 pub record PutRow (e : ℕ) (r : Entry) (old new : List ℕ) : Type 0 where
   pub row : rowAt new e ≡ r
+  pub noted : markAt new e ≡ markAt old e
   pub rest : UnchangedOutside (e * rowWidth) rowWidth old new
   pub long : length new ≡ length old
+
+-- The mark m is noted in the row of entry e now; all other words are as they were.
+pub record PutMark (e m : ℕ) (old new : List ℕ) : Type 0 where
+  pub mark : markAt new e ≡ m
+  pub rest : UnchangedOutside (e * rowWidth + 23) 1 old new
+  pub long : length new ≡ length old
+
+-- Entry e has the row r and the mark m now; all other words are as they were.
+pub record PutNoted (e : ℕ) (r : Entry) (m : ℕ) (old new : List ℕ) : Type 0 where
+  pub between : List ℕ
+  pub row : PutRow e r old between
+  pub mark : PutMark e m between new

@@ -199,13 +199,13 @@ module _ (t : Table) (o ws : List ℕ) (own : Owns t o ws) where
     abbrev doneFirst : List ℕ
     doneFirst = F ++ (getD Q i 0 ∷ [])
 
-    done-whole : (p : List ℕ) → p ≡ moved (t .finished + i) (t .finished) o → p ≡ doneFirst ++ (rest ++ R)
+    pub done-whole : (p : List ℕ) → p ≡ moved (t .finished + i) (t .finished) o → p ≡ doneFirst ++ (rest ++ R)
     done-whole p e =
         e
         ∙ ap (moved (t .finished + i) (t .finished)) (whole-parts t o)
         ∙ moved-forward F Q R (t .finished) i (done-long t o low) there
 
-    done-first-long : length doneFirst ≡ t .finished + 1
+    pub done-first-long : length doneFirst ≡ t .finished + 1
     done-first-long = omega (arith, length-append F (getD Q i 0 ∷ []), done-long t o low)
 
     done-tally : (k : ℕ) → tally k doneFirst + tally k rest ≡ tally k (liveNumbers t o)
@@ -231,6 +231,16 @@ module _ (t : Table) (o ws : List ℕ) (own : Owns t o ws) where
         ∙ ap (λ (r : Entry). finishedRows t o ws ++ (r ∷ [])) (ap (rowAt ws) (queue-number t o i h) ∙ sym (queue-at t o ws own i d h)))
         (rows-without ws Q i)
 
+    removed-whole : (p : List ℕ) → p ≡ moved (t .finished + i) (liveCount t - 1) o → p ≡ F ++ (rest ++ (getD Q i 0 ∷ R))
+    removed-whole p e =
+        let all : t .finished + length Q ≡ (liveCount t - 1) + 1 = omega (arith, h, queue-long t o low) in
+        e ∙ ap (moved (t .finished + i) (liveCount t - 1)) (whole-parts t o)
+        ∙ moved-back F Q R (t .finished) i (done-long t o low) there (liveCount t - 1) all
+
+    -- the done ones are where they were
+    pub removed-done : (p : List ℕ) → p ≡ moved (t .finished + i) (liveCount t - 1) o → take (t .finished) p ≡ take (t .finished) o
+    removed-done p e = ap (take (t .finished)) (removed-whole p e) ∙ take-at F (rest ++ (getD Q i 0 ∷ R)) (t .finished) (done-long t o low)
+
     -- An operation leaves: its number is the first of the free ones.
     pub removed : (p : List ℕ) → p ≡ moved (t .finished + i) (liveCount t - 1) o
         → Becomes o ws (record { finished = t .finished; queue = t .queue - 1 }) p ws
@@ -238,24 +248,29 @@ module _ (t : Table) (o ws : List ℕ) (own : Owns t o ws) where
     removed p e =
         let x = getD Q i 0 in
         let u : Table = record { finished = t .finished; queue = t .queue - 1 } in
-        let all : t .finished + length Q ≡ (liveCount t - 1) + 1 = omega (arith, h, queue-long t o low) in
-        moves t o ws own u p F rest (x ∷ R) _ _
-        (e ∙ ap (moved (t .finished + i) (liveCount t - 1)) (whole-parts t o)
-        ∙ moved-back F Q R (t .finished) i (done-long t o low) there (liveCount t - 1) all)
-        (done-long t o low) rest-long
+        moves t o ws own u p F rest (x ∷ R) _ _ (removed-whole p e) (done-long t o low) rest-long
         (ap (λ (l : List ℕ). length l) e ∙ length-moved (t .finished + i) (liveCount t - 1) o at-place) (omega (arith, h))
         (λ k. ap (tally k) e ∙ tally-moved k (t .finished + i) (liveCount t - 1) o at-place)
         (λ k. omega (arith, rest-tally k, live-tally t o k)) refl (rows-without ws Q i)
+
+  dropped-whole : (k : ℕ) → k ≤ t .finished → (p : List ℕ) → p ≡ turned k (liveCount t) o → p ≡ drop k F ++ (Q ++ (take k F ++ R))
+  dropped-whole k h p e =
+      e ∙ ap (turned k (liveCount t)) (whole-parts t o)
+      ∙ turned-parts F Q R k (liveCount t) (omega (arith, h, done-long t o low)) (omega (arith, done-long t o low, queue-long t o low))
+
+  -- the other done ones come first
+  pub dropped-done : (k : ℕ) → k ≤ t .finished → (p : List ℕ) → p ≡ turned k (liveCount t) o
+      → take (t .finished - k) p ≡ drop k (take (t .finished) o)
+  dropped-done k h p e =
+      ap (take (t .finished - k)) (dropped-whole k h p e)
+      ∙ take-at (drop k F) (Q ++ (take k F ++ R)) (t .finished - k) (omega (arith, length-drop k F, done-long t o low))
 
   -- The first k done operations leave: their numbers are the first of the free ones.
   pub dropped : (k : ℕ) → k ≤ t .finished → (p : List ℕ) → p ≡ turned k (liveCount t) o
       → Becomes o ws (record { finished = t .finished - k; queue = t .queue }) p ws (drop k (finishedRows t o ws)) (queueRows t o ws)
   dropped k h p e =
       let u : Table = record { finished = t .finished - k; queue = t .queue } in
-      let many : k ≤ length F = omega (arith, h, done-long t o low) in
-      moves t o ws own u p (drop k F) Q (take k F ++ R) _ _
-      (e ∙ ap (turned k (liveCount t)) (whole-parts t o)
-      ∙ turned-parts F Q R k (liveCount t) many (omega (arith, done-long t o low, queue-long t o low)))
+      moves t o ws own u p (drop k F) Q (take k F ++ R) _ _ (dropped-whole k h p e)
       (omega (arith, length-drop k F, done-long t o low)) (queue-long t o low)
       (ap (λ (l : List ℕ). length l) e ∙ length-turned k (liveCount t) o (omega (arith, h)) low) (omega (arith, h))
       (λ x. ap (tally x) e ∙ tally-turned x k (liveCount t) o (omega (arith, h)))

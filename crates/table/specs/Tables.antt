@@ -12,7 +12,7 @@ use Rattle.history.specs.Entries.{UsableEntry, itemsOf, canRunIn, didOfEntry}
 use Rattle.table.specs.declared.Table.{Table}
 use Rattle.table.specs.declared.Lookup.{Lookup}
 use Rattle.table.specs.declared.Lookup.the-variants.{At, Nothing}
-use Rattle.table.specs.Rows.{rowWidth, rowAt, HasRow}
+use Rattle.table.specs.Rows.{rowWidth, rowAt, markAt, HasRow}
 use Rattle.table.specs.Order.{tally}
 
 -- ### What the table means
@@ -29,9 +29,13 @@ rowsIn o ws from to = rowsOf ws (drop from (take to o))
 abbrev pub liveCount : Table → ℕ
 liveCount t = t .finished + t .queue
 
--- The done operations that are not yet stable, in log order.
+-- The done operations that have not left the table, in log order.
 abbrev pub finishedRows : Table → List ℕ → List ℕ → List Entry
 finishedRows t o ws = rowsIn o ws 0 (t .finished)
+
+-- .. and the stable mark noted in the row of each: 02's "a report of a did line after it" covers the stable lines written before that did line
+abbrev pub marksIn : Table → List ℕ → List ℕ → List ℕ
+marksIn t o ws = map (markAt ws) (take (t .finished) o)
 
 -- Those not done, in order of arrival, or waiting lines, in order of delivery.
 abbrev pub queueRows : Table → List ℕ → List ℕ → List Entry

@@ -16,7 +16,7 @@ use Rattle.history.specs.Entries.{operationOf, mayRunIn}
 use Rattle.table.specs.declared.Marks.{Marks}
 use Rattle.history.specs.Lists.{Lists}
 use Rattle.table.specs.declared.Table.{Table}
-use Rattle.table.specs.Tables.{liveNumbers, finishedRows, queueRows, Owns, Frame}
+use Rattle.table.specs.Tables.{liveNumbers, finishedRows, marksIn, queueRows, Owns, Frame}
 use Rattle.table.specs.Arrays.{Tabulates}
 
 -- ### The specification's tries, against cells
@@ -91,5 +91,6 @@ pub record Tries (cells : ℕ → Cell) (t : Table) (o old new lists : List ℕ)
   pub owns : Owns t o new
   pub frame : Frame (liveNumbers t o) old new
   pub finished : finishedRows t o new ≡ finishedRows t o old
+  pub noted : marksIn t o new ≡ marksIn t o old
   pub queue : operationsOf (queueRows t o new) ≡ tryAllIn cells (operationsOf (queueRows t o old))
   pub ready : Lists lists at (madeReady (operationsOf (queueRows t o old)) (tryAllIn cells (operationsOf (queueRows t o old)))) r newLists

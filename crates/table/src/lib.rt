@@ -5,13 +5,14 @@ ghost use Prim.Native.Nat.{_+_, _-_, _≤_, _<_};
 ghost use lib.ListN.{getD};
 ghost use Rattle.table.specs.Ends.{was, left};
 ghost use Rattle.table.specs.Order.{moved, turned};
-ghost use Rattle.table.specs.Rows.{HasRow, rowAt, PutRow};
+ghost use Rattle.table.specs.Rows.{HasRow, rowAt, PutRow, PutMark, PutNoted};
 ghost use Rattle.table.specs.Tables.{liveCount};
 use history::Entry;
 use order::Order;
 use order::move_back;
 use order::move_forward;
 use order::turn;
+use rows::put_mark;
 use rows::put_row;
 use rows::row_at;
 
@@ -45,7 +46,7 @@ pub struct Marks {
     pub strong: [bool; 16],
 }
 
-// The table by value: how many entries are done and not yet stable, and how many are not done (or wait).
+// The table by value: how many entries are done and have not left it, and how many are not done (or wait).
 pub struct Table {
     pub finished: usize,
     pub queue: usize,
@@ -114,16 +115,37 @@ impl Table {
         }
     }
 
-    // The operation at place i of those not done is done: it keeps its entry, whose number is the last of the done ones.
-    pub fn finish(self, order: &mut Order, i: usize) -> Table
-        requires { ⌜ (i < self .queue) × (liveCount self ≤ 64) ⌝ }
+    // The operation at place i of those not done is done, the stable mark being m: it keeps its entry, whose number is the last of the done
+    // ones, and the mark is noted in its row.
+    pub fn finish(self, order: &mut Order, rows: &mut [u64], i: usize, m: u64) -> Table
+        requires { ⌜ (i < self .queue) × (liveCount self ≤ 64) × HasRow (now rows) (getD (now order) (self .finished + i) 0) ⌝ }
         ensures { λ r. ⌜ (r ≡ record { finished = self .finished + 1; queue = self .queue - 1 }) ×
-            (left order ≡ moved (self .finished + i) (self .finished) (was order)) ⌝ }
+            (left order ≡ moved (self .finished + i) (self .finished) (was order)) ×
+            PutMark (getD (was order) (self .finished + i) 0) m (was rows) (left rows) ⌝ }
     {
+        let number = order[self.finished + i];
+        put_mark(rows, number as usize, m);
         move_forward(order, self.finished + i, self.finished);
         Table {
             finished: self.finished + 1,
             queue: self.queue - 1,
+        }
+    }
+
+    // One done operation more behind the done ones, in the first entry that is free, with the stable mark m when its line was written. None
+    // is future, in progress or waiting, and the caller sees to it that an entry is free.
+    pub fn push_done(self, order: &Order, rows: &mut [u64], e: Entry, m: u64) -> Table
+        requires { ⌜ (self .finished < 64) × HasRow (now rows) (getD (now order) (self .finished) 0) ⌝ }
+        ensures { λ r. ⌜ (r ≡ record { finished = self .finished + 1; queue = self .queue }) ×
+            PutNoted (getD (was order) (self .finished) 0) e m (was rows) (left rows) ⌝ }
+    {
+        let at = self.finished;
+        let number = order[at];
+        put_row(rows, number as usize, e);
+        put_mark(rows, number as usize, m);
+        Table {
+            finished: self.finished + 1,
+            queue: self.queue,
         }
     }
 

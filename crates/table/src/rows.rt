@@ -5,15 +5,16 @@ ghost use lib.ListN.{length, getD};
 ghost use Rattle.history.specs.Entries.{noItem};
 ghost use Rattle.history.specs.Words.{within};
 ghost use Rattle.table.specs.Ends.{was, left};
-ghost use Rattle.table.specs.Rows.{ruleNumber, ruleNamed, itemAt, PutItem, begun, rowAt, HasRow, PutRow};
+ghost use Rattle.table.specs.Rows.{ruleNumber, ruleNamed, itemAt, PutItem, begun, rowAt, markAt, HasRow, PutRow, PutMark};
 use forms::Place;
 use forms::Rule;
 use forms::Version;
 use history::Entry;
 use history::Item;
 
-// How many words a row has: id, whether it is in progress, count, and for each of four updates rule, history, version, place, operand.
-pub const ROW: usize = 23;
+// How many words a row has: id, whether it is in progress, count, for each of four updates rule, history, version, place, operand, and
+// behind them the stable mark when its did line was written.
+pub const ROW: usize = 24;
 
 // The rows of a table of one site.
 pub type Rows = [u64; 64 * ROW];
@@ -150,4 +151,20 @@ pub fn start_row(words: &mut [u64], e: usize)
     ensures { λ u. ⌜ PutRow e (begun (rowAt (was words) e)) (was words) (left words) ⌝ }
 {
     words[e * ROW + 1] = 1;
+}
+
+// The stable mark noted in the row of entry e.
+pub fn mark_at(words: &[u64], e: usize) -> u64
+    requires { ⌜ HasRow (now words) e ⌝ }
+    ensures { λ r. ⌜ r ≡ markAt (was words) e ⌝ }
+{
+    words[e * ROW + 23]
+}
+
+// Notes the stable mark m in the row of entry e.
+pub fn put_mark(words: &mut [u64], e: usize, m: u64)
+    requires { ⌜ HasRow (now words) e ⌝ }
+    ensures { λ u. ⌜ PutMark e m (was words) (left words) ⌝ }
+{
+    words[e * ROW + 23] = m;
 }

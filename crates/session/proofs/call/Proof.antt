@@ -133,9 +133,9 @@ same-length-5 c = search needs
 returns-7 : tie.Need-returns-7
 unfolding siteReply
 returns-7 c =
-    let e = c .before .before .before .before .before .before .before .before .before .before .before .before .before in
-    formed (e .args .site) (lent (now (e .args .log)) (now (e .args .rows)) (now (e .args .order)) (now (e .args .book)) (now (e .args .lists))) (e .args .c) _ _ _ (c .before .before .before .before .before .before .before .before .form5 .given .1)
-    (c .stable .ensures)
+    let e = c .before .before .before .before .before .before .before .before .before .before .before .before .before .before .before in
+    formed (e .args .site) (lent (now (e .args .log)) (now (e .args .rows)) (now (e .args .order)) (now (e .args .book)) (now (e .args .lists))) (e .args .c) _ _ _ (c .before .before .before .before .before .before .before .before .before .before .form5 .given .1)
+    (c .before .before .stable .ensures)
 
 same-length-6 : tie.Need-same-length-6
 same-length-6 c = search needs
@@ -153,8 +153,8 @@ same-length-7 c = search needs
 returns-9 : tie.Need-returns-9
 unfolding siteReply
 returns-9 c =
-    let e = c .before .before .before .before .before .before .before .before .before .before .before .before in
-    formed (e .args .site) (lent (now (e .args .log)) (now (e .args .rows)) (now (e .args .order)) (now (e .args .book)) (now (e .args .lists))) (e .args .c) _ _ _ (c .before .before .before .before .before .before .before .form7 .given .1)
+    let e = c .before .before .before .before .before .before .before .before .before .before .before in
+    formed (e .args .site) (lent (now (e .args .log)) (now (e .args .rows)) (now (e .args .order)) (now (e .args .book)) (now (e .args .lists))) (e .args .c) _ _ _ (c .before .before .before .before .before .before .form7 .given .1)
     (c .cut .ensures (now (e .args .lists)))
 
 same-length-8 : tie.Need-same-length-8

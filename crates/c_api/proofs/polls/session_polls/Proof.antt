@@ -4,6 +4,7 @@ use Prim.Native.Nat.{ℕ, _*_}
 use mathlib.Core.List.{List}
 use lib.ListN.{replicate}
 use Rattle.history.specs.Words.{width}
+use Rattle.table.specs.Rows.{rowWidth}
 use Rattle.site.specs.Model.{Lent, lent}
 use Rattle.c_api.specs.PollCallLaws.{polls-whole, polls-part}
 use borrow.Author.Needs.{needs}
@@ -12,7 +13,7 @@ use Rattle.c_api.proofs.polls.session_polls.Tie as tie
 
 -- what is lent at first: the log buffer and tables of zeros
 abbrev blank : List ℕ → Lent
-blank log = lent log (replicate 1472 0) (replicate 64 0) (replicate (16 * width) 0) (replicate 68 0)
+blank log = lent log (replicate (64 * rowWidth) 0) (replicate 64 0) (replicate (16 * width) 0) (replicate 68 0)
 
 run-session-requires : tie.Need-run-session-requires
 run-session-requires c κs = search needs

@@ -7,6 +7,7 @@ use native.Mathlib.Omega.{arith}
 use borrow.Author.Needs.{needs}
 use Rattle.rules.specs.Calls.{restart}
 use Rattle.history.specs.Words.{width}
+use Rattle.table.specs.Rows.{rowWidth}
 use Rattle.site.specs.Model.{lent}
 use Rattle.site.specs.OpenLaws.{blankSite}
 use Rattle.c_api.specs.RestartLaws.{puts-reply}
@@ -15,7 +16,7 @@ use Rattle.c_api.proofs.restart.site_restart.Tie as tie
 
 -- the rows, the order and the words of the histories before the restart
 abbrev rs : List ℕ
-rs = replicate 1472 0
+rs = replicate (64 * rowWidth) 0
 
 abbrev os : List ℕ
 os = replicate 64 0
@@ -47,7 +48,7 @@ returns c =
     let bytes = now (e .args .log) in
     let r = c .before .before .before .before .before .before .before .before .restart in
     let w = c .before .before .before .write-reply in
-    puts-reply blankSite (lent bytes rs os bs []) (restart bytes (e .args .k)) (r .result) bytes rs (r .last .1 .1 .0) (r .last .1 .1 .1 .0)
+    puts-reply blankSite (lent bytes rs os bs []) (restart bytes (e .args .k)) (r .result) bytes (r .last .1 .0) (r .last .1 .1 .0) (r .last .1 .1 .1 .0)
     (now (e .args .out)) (w .last .0) (w .result) (c .code .result) (r .ensures []) (w .ensures .0) (c .code .ensures)
 
 pub site-restart-spec : {M : Type 1} → statement M

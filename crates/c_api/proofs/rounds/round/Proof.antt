@@ -22,13 +22,14 @@ same-length c = search needs
 
 returns : tie.Need-returns
 returns c =
-    let e = c .before .before .before .before .before .before .before .before .before .before .before .before .before .before .before .before in
-    let o = c .before .before .before .before .before .before .before .before .before .one-operation in
+    let e = c .before .before .before .before .before .before .before .before .before .before .before .before .before .before .before .before .before .before in
+    let o = c .before .before .before .before .before .before .before .before .before .before .before .one-operation in
+    let k = c .before .before .mark in
     let m = lent (now (e .args .log)) (now (e .args .rows)) (now (e .args .order)) (now (e .args .book)) (now (e .args .lists)) in
     let mid = lent (o .last .1 .0) (o .last .1 .1 .0) (o .last .1 .1 .1 .0) (o .last .1 .1 .1 .1 .0) (o .last .1 .1 .1 .1 .1 .0) in
-    let new = lent (o .last .1 .0) (o .last .1 .1 .0) (c .mark .last .1 .1 .1 .0) (c .mark .last .1 .1 .1 .1 .0) (c .mark .last .1 .1 .1 .1 .1 .0) in
-    marked-reach (e .args .site) m (e .args .id) (o .result) mid (c .mark .result) new _
-    (eq-eqb (e .args .id % 32) 31 (c .before .before .before .before .before .before .if1 .taken)) (o .ensures) (c .mark .ensures)
+    let new = lent (k .last .1 .0) (o .last .1 .1 .0) (k .last .1 .1 .1 .0) (k .last .1 .1 .1 .1 .0) (k .last .1 .1 .1 .1 .1 .0) in
+    marked-reach (e .args .site) m (e .args .id) (o .result) mid (k .result) new _
+    (eq-eqb (e .args .id % 32) 31 (c .before .before .before .before .before .before .before .before .if1 .taken)) (o .ensures) (k .ensures)
 
 same-length-2 : tie.Need-same-length-2
 same-length-2 c = search needs

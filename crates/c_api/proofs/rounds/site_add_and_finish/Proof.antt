@@ -10,6 +10,7 @@ use borrow.Author.Needs.{needs}
 use Rattle.rules.specs.Calls.{openSite}
 use Rattle.history.specs.Words.{width}
 use Rattle.site.specs.declared.Site.{Site}
+use Rattle.table.specs.Rows.{rowWidth}
 use Rattle.site.specs.Model.{Lent, lent}
 use Rattle.c_api.specs.Rounds.{Reaches, roundsCalls}
 use Rattle.c_api.specs.RoundsLaws.{no-round, round-more, not-opened, opened-valid, rounds-stand}
@@ -24,7 +25,7 @@ record Serving (n : ℕ) (site₀ : Site) (m₀ : Lent) (id : ℕ) (site : Site)
 
 -- the rows and the order before the site is opened
 abbrev rs : List ℕ
-rs = replicate 1472 0
+rs = replicate (64 * rowWidth) 0
 
 abbrev os : List ℕ
 os = replicate 64 0

@@ -22,17 +22,20 @@ stable-requires c κs =
 put-call-requires : tie.Need-put-call-requires
 put-call-requires c κs = search needs
 
+same-length : tie.Need-same-length
+same-length c = search needs
+
 returns : tie.Need-returns
 returns c =
-    let e = c .before .before .before .before .before .before .before .before .before .before .before .before .before in
+    let e = c .before .before .before .before .before .before .before .before .before .before .before .before .before .before .before in
     let a = e .args in
-    let s = c .before .before .before .before .before .before .before .before .before .before .session-at in
-    let r = c .before .before .before .stable in
+    let s = c .before .before .before .before .before .before .before .before .before .before .before .before .session-at in
+    let r = c .before .before .before .before .before .stable in
     let p = c .put-call in
     let old = lent (now (a .log)) (now (a .rows)) (now (a .order)) (now (a .book)) (now (a .numbers)) in
-    let new = lent (now (a .log)) (now (a .rows)) (r .last .1 .1 .1 .0) (r .last .1 .1 .1 .1 .0) (r .last .1 .1 .1 .1 .1 .0) in
+    let new = lent (r .last .1 .0) (now (a .rows)) (now (a .order)) (r .last .1 .1 .1 .1 .0) (r .last .1 .1 .1 .1 .1 .0) in
     performs (s .result) (now (a .counters)) old (Call.Stable (a .n)) (r .result) new (p .result) (p .last .0) (now (a .answer)) (p .last .1 .0)
-    (s .ensures) (c .before .before .before .before .before .before .before .before .before .if1 .taken) (e .pre) (r .ensures) (p .ensures)
+    (s .ensures) (c .before .before .before .before .before .before .before .before .before .before .before .if1 .taken) (e .pre) (r .ensures) (p .ensures)
 
 returns-2 : tie.Need-returns-2
 unfolding numberOf
@@ -44,4 +47,4 @@ returns-2 c =
 
 pub fl-stable-parts-spec : {M : Type 1} → statement M
 fl-stable-parts-spec =
-    tie.close (tie.spec session-at-requires stable-requires put-call-requires returns returns-2)
+    tie.close (tie.spec session-at-requires stable-requires put-call-requires same-length returns returns-2)

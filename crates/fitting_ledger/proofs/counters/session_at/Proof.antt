@@ -32,6 +32,9 @@ element-copy-out-t30 c = search needs
 element-copy-out-t34 : tie.Need-element-copy-out-t34
 element-copy-out-t34 c = search needs
 
+element-copy-out-t38 : tie.Need-element-copy-out-t38
+element-copy-out-t38 c = search needs
+
 element-copy-out-t6-3 : tie.Need-element-copy-out-t6-3
 element-copy-out-t6-3 c = search needs
 
@@ -52,5 +55,6 @@ session-at-spec =
     element-copy-out-t26
     element-copy-out-t30
     element-copy-out-t34
+    element-copy-out-t38
     element-copy-out-t6-3
     returns)

@@ -32,7 +32,7 @@ returns c =
     let r = c .before .before .before .cut in
     let p = c .put-call in
     let old = lent (now (a .log)) (now (a .rows)) (now (a .order)) (now (a .book)) [] in
-    let new = lent (now (a .log)) (now (a .rows)) (now (a .order)) (r .last .1 .1 .1 .1 .0) [] in
+    let new = lent (now (a .log)) (r .last .1 .1 .0) (now (a .order)) (r .last .1 .1 .1 .1 .0) [] in
     performs (s .result) (now (a .counters)) old (Call.Cut (a .k) (length (now (a .log)))) (r .result) new (p .result) (p .last .0) (now (a .answer)) (p .last .1 .0)
     (s .ensures) (c .before .before .before .before .before .before .before .if1 .taken) (e .pre) (r .ensures []) (p .ensures)
 

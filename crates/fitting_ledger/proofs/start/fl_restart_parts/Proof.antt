@@ -16,7 +16,7 @@ begin-requires c κs = search needs
 
 returns : tie.Need-returns
 returns c =
-    let a = c .before .before .before .before .before .before .args in
+    let a = c .before .before .before .before .before .before .before .args in
     let o = c .before .before .restart in
     begins (lent (now (a .log)) (now (a .rows)) (now (a .order)) (now (a .book)) []) (restart (now (a .log)) (a .kept)) (o .result) _ _ _
     (o .ensures []) (c .begin .ensures .0) (c .begin .ensures .1)

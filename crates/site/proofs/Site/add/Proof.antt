@@ -1,7 +1,7 @@
 -- What the checks saw is so in the site's state, so their verdict is the specification's; an operation that passes gets the first free entry,
 -- its updates count, and it is tried with the others.
 use denote.Ref.{now}
-use Prim.Native.Nat.{_≤_, _<_}
+use Prim.Native.Nat.{_+_, _≤_, _<_}
 use native.Mathlib.Omega.{arith}
 use mathlib.Core.Path.{_≡_, refl, sym, ap, _∙_}
 use mathlib.Core.List.{List, [], _∷_, _++_}
@@ -16,7 +16,9 @@ use Rattle.history.specs.Entries.{cellsOf}
 use Rattle.history.specs.Words.{busyIn}
 use Rattle.history.specs.BusyLaws.{all-in-first}
 use Rattle.table.specs.Tries.{tryAllIn, operationsOf}
-use Rattle.table.specs.Tables.{liveCount, queueRows, Becomes}
+use Rattle.table.specs.declared.Table.{Table}
+use Rattle.table.specs.NotedLaws.{marks-pushed}
+use Rattle.table.specs.Tables.{liveCount, marksIn, queueRows, Becomes}
 use Rattle.table.specs.TableLaws.{pushed}
 use Rattle.site.specs.Representation.{Representation, stateOf}
 use Rattle.site.specs.Model.{Lent, lent, represented, view}
@@ -155,7 +157,10 @@ returns-2 c =
     does (a .self) m _ _ (lent (m .log) rows (m .order) book (try .last .1 .1 .1 .1 .0))
     (accepts-book (m .log) _ _ _ (m .log) (counts .histories) (counts .others 3 (omega arith) (λ (k : 3 ≡ 5). omega (arith, k)))
     (counts .others 4 (omega arith) (λ (k : 4 ≡ 5). omega (arith, k))) refl
-    (accepts-rows (m .log) _ _ _ (m .log) (try .ensures .finished ∙ b .finishedIs) refl
+    (accepts-rows (m .log) _ _ _ (m .log) (try .ensures .finished ∙ b .finishedIs)
+    (try .ensures .noted
+    ∙ (ap (λ (z : Table). marksIn z (m .order) (p .push .last .1 .1 .0)) (p .push .ensures .0)
+    ∙ marks-pushed (a .self .table) (m .order) (m .rows) (e .pre .owns) _ _ (a .self .table .queue + 1) (p .push .ensures .1))) refl
     (add-does (site e) (m .log) (e .pre .sound) (a .id) _ le (updates-writable _ (t .writable)) f _ (enters y)
     q (b .queueIs) (queueRows (p .push .result) (m .order) rows)
     (try .ensures .queue ∙ ap (λ (hs : List History). tryAllIn (cellsOf hs) (operationsOf q)) (counts .histories)) _

@@ -1,7 +1,7 @@
 -- The operation is looked for among those not done; its updates are no longer counted, and its number goes behind the live ones.
 use denote.Ref.{now}
 use native.Mathlib.Omega.{arith}
-use Prim.Native.Nat.{ℕ, _+_, _<_}
+use Prim.Native.Nat.{ℕ, _+_, _-_, _<_}
 use mathlib.Core.Path.{_≡_, refl, sym, ap, subst, _∙_}
 use mathlib.Core.List.{List, [], _∷_, _++_}
 use lib.ListN.{take, drop, getD}
@@ -14,7 +14,9 @@ use Rattle.history.specs.Words.{entryIn}
 use Rattle.history.specs.BusyLaws.{all-in-first}
 use Rattle.table.specs.RangeLaws.{pastEntry}
 use Rattle.table.specs.Lists.{firstAt}
-use Rattle.table.specs.Tables.{isEntry, queueRows, Becomes}
+use Rattle.table.specs.declared.Table.{Table}
+use Rattle.table.specs.NotedLaws.{marks-removed}
+use Rattle.table.specs.Tables.{isEntry, marksIn, queueRows, Becomes}
 use Rattle.table.specs.TableLaws.{queue-length, queue-at, queue-usable, removed}
 use Rattle.site.specs.Representation.{Representation}
 use Rattle.site.specs.Model.{Lent, lent, represented}
@@ -132,7 +134,9 @@ returns-3 c =
     does (a .self) m _ _ (lent (m .log) (m .rows) order book (dry .last .1 .1 .1 .1 .0))
     (accepts-book (m .log) _ _ _ (m .log) (sym (lower .histories)) (sym (lower .others 3 (omega arith) (λ (q : 3 ≡ 5). omega (arith, q))))
     (sym (lower .others 4 (omega arith) (λ (q : 4 ≡ 5). omega (arith, q)))) (sym (after .ensures))
-    (accepts-rows (m .log) _ _ _ (m .log) (b .finishedIs) refl
+    (accepts-rows (m .log) _ _ _ (m .log) (b .finishedIs)
+    (ap (λ (z : Table). marksIn z order (m .rows)) (c .remove .ensures .0)
+    ∙ marks-removed (a .self .table) (m .order) (m .rows) (e .pre .owns) _ (below (c .before .before .before .before .before .before .before .before .before .before .before .before .before)) order (a .self .table .queue - 1) (c .remove .ensures .1)) refl
     (withdraw-does (site e) (m .log) (a .id) _ v (omega (arith, e .fits .id)) turn (found (c .before .before .before .before .before .before .before .before .before .before .before .before .before)) _ (read x)
     (queueRows (c .remove .result) order (m .rows)) _ _ _ _ (b .queueIs) (c .before .before .before .before .before .before .before .before .before .before .column-at .ensures)
     (λ h lt. lower .numbers h lt ∙ ap (λ (r : List ℕ). getD r h 0 + sum (entryIn h) (x .queued-at .result ∷ [])) (sym (after .ensures)))
