@@ -34,15 +34,15 @@ extern "C" {
 #define FL_LINE_BYTES 1024
 /* The longest reply, its end among them: the room that fl_line asks for. */
 #define FL_REPLY_BYTES 2741
-/* More than any call was seen to need of the stack (some 4,100). */
-#define FL_STACK_BYTES 8192
+/* More than any call was seen to need of the stack: fl_line, which may be a cut, some 15,200, a restart 13,900, most calls below 5,000. */
+#define FL_STACK_BYTES 20480
 
 /* "1 to 4 updates": as many as fl_add can be given. */
 #define FL_UPDATES 4
 
 /* Words of a state's parts. */
-#define FL_COUNTER_WORDS 10
-#define FL_ROW_WORDS 23
+#define FL_COUNTER_WORDS 11
+#define FL_ROW_WORDS 24
 #define FL_HISTORY_WORDS 6
 
 /* Words of a reply's parts. */
@@ -129,8 +129,8 @@ size_t fl_state_bytes(void);
 size_t fl_reply_bytes(void);
 uint64_t fl_start_parts(uint64_t *counters, uint8_t *log, size_t log_bytes, const uint64_t *rows, uint8_t *order, uint64_t *histories,
                         uint64_t count);
-uint64_t fl_restart_parts(uint64_t *counters, const uint8_t *log, size_t log_bytes, const uint64_t *rows, uint8_t *order,
-                          uint64_t *histories, size_t kept);
+uint64_t fl_restart_parts(uint64_t *counters, const uint8_t *log, size_t log_bytes, uint64_t *rows, uint8_t *order, uint64_t *histories,
+                          size_t kept);
 size_t fl_line_parts(uint64_t *counters, uint8_t *log, size_t log_bytes, uint64_t *rows, uint8_t *order, uint64_t *histories,
                      const uint8_t *line, size_t line_bytes, uint8_t *reply, size_t reply_bytes);
 size_t fl_log_used_parts(const uint64_t *counters, const uint8_t *log, size_t log_bytes, const uint64_t *rows, const uint8_t *order,
@@ -142,15 +142,15 @@ uint64_t fl_finish_parts(uint64_t *counters, uint8_t *log, size_t log_bytes, uin
                          uint64_t *numbers, uint64_t *answer, uint64_t id);
 uint64_t fl_withdraw_parts(uint64_t *counters, const uint8_t *log, size_t log_bytes, const uint64_t *rows, uint8_t *order,
                            uint64_t *histories, uint64_t *numbers, uint64_t *answer, uint64_t id);
-uint64_t fl_persistent_parts(uint64_t *counters, const uint8_t *log, size_t log_bytes, const uint64_t *rows, const uint8_t *order,
+uint64_t fl_persistent_parts(uint64_t *counters, const uint8_t *log, size_t log_bytes, const uint64_t *rows, uint8_t *order,
                              uint64_t *histories, uint64_t *numbers, uint64_t *answer, uint64_t n);
-uint64_t fl_stable_parts(uint64_t *counters, const uint8_t *log, size_t log_bytes, const uint64_t *rows, uint8_t *order,
+uint64_t fl_stable_parts(uint64_t *counters, uint8_t *log, size_t log_bytes, const uint64_t *rows, const uint8_t *order,
                          uint64_t *histories, uint64_t *numbers, uint64_t *answer, uint64_t n);
 uint64_t fl_end_parts(uint64_t *counters, const uint8_t *log, size_t log_bytes, const uint64_t *rows, const uint8_t *order,
                       const uint64_t *histories, uint64_t *numbers, uint64_t *answer);
 uint64_t fl_show_parts(uint64_t *counters, const uint8_t *log, size_t log_bytes, const uint64_t *rows, const uint8_t *order,
                        const uint64_t *histories, uint64_t *answer, uint64_t history);
-uint64_t fl_cut_parts(uint64_t *counters, const uint8_t *log, size_t log_bytes, const uint64_t *rows, const uint8_t *order,
+uint64_t fl_cut_parts(uint64_t *counters, const uint8_t *log, size_t log_bytes, uint64_t *rows, const uint8_t *order,
                       uint64_t *histories, uint64_t *answer, uint64_t kept);
 uint64_t fl_redo_parts(uint64_t *counters, uint8_t *log, size_t log_bytes, uint64_t *rows, uint8_t *order, uint64_t *histories,
                        uint64_t *answer, const uint8_t *line, size_t line_bytes);
@@ -175,9 +175,20 @@ static inline uint64_t fl_start(fl_site *site, uint8_t *log, size_t log_bytes, u
 }
 
 /*
+ * Changes over a log that was stored before there were stable lines, the first `kept` bytes of a log buffer: where it has did lines, a
+ * stable line of their number is put right behind its last whole line, so that after fl_restart all of them are stable, as they were then.
+ * Only for such logs: of a log of today that has no stable line yet, it would call all operations stable too. Store it before the restart.
+ * FL_OK: `*used` is how many bytes at the front of the buffer are the log now; those behind are as they were.
+ * FL_BAD_LOG: these bytes are no such log; one with a stable line is none. FL_NO_ROOM: the line does not fit the buffer. FL_ABOVE_LIMIT:
+ * `kept` is above log_bytes, or log_bytes above FL_LOG_BYTES. A refusal changes neither the buffer nor `*used`.
+ */
+uint64_t fl_upgrade(uint8_t *log, size_t log_bytes, size_t kept, size_t *used);
+
+/*
  * Takes a site up again from the first `kept` bytes of a log, which stand at the front of the log buffer, whatever the state holds.
- * FL_OK: the site is restoring; a last line without its end is not counted, so that fl_log_used may be less than `kept`: cut the stored log
- * to that. FL_BAD_LOG: these bytes are no site's log. FL_ABOVE_LIMIT: `kept` is above log_bytes, or log_bytes above FL_LOG_BYTES.
+ * FL_OK: the site is restoring, and the operations above its last stable line are live again; a last line without its end is not counted,
+ * so that fl_log_used may be less than `kept`: cut the stored log to that. FL_BAD_LOG: these bytes are no site's log, or they leave more
+ * than FL_LIVE operations live, or two with one id. FL_ABOVE_LIMIT: `kept` is above log_bytes, or log_bytes above FL_LOG_BYTES.
  * No byte of the log buffer changes. A refusal leaves the state without a site.
  */
 static inline uint64_t fl_restart(fl_site *site, uint8_t *log, size_t log_bytes, size_t kept) {
@@ -198,8 +209,8 @@ static inline size_t fl_line(fl_site *site, const uint8_t *line, size_t line_byt
 }
 
 /*
- * How many bytes at the front of the log buffer are the log: what the owner has to store. A finish and a redo add whole lines behind
- * them; only a line `(cut K)` takes some away. 0 without a site.
+ * How many bytes at the front of the log buffer are the log: what the owner has to store. A finish, a redo and a stable add whole lines
+ * behind them; only a line `(cut K)` takes some away. 0 without a site.
  */
 static inline size_t fl_log_used(const fl_site *site) {
     return fl_log_used_parts(site->counters, site->log, site->log_bytes, site->rows, site->order, site->histories);
@@ -241,13 +252,21 @@ static inline uint64_t fl_withdraw(fl_site *site, uint64_t id, fl_reply *reply) 
                              reply->answer, id);
 }
 
-/* Makes log numbers up to n persistent: first list: the histories whose persistent version rose, second: those that became dry. */
+/*
+ * Makes log numbers up to n persistent: first list: the histories whose persistent version rose, second: those that became dry.
+ * It also says that the stable lines before did line n are stored, and, where n is all that is done, every stable line: the operations up
+ * to the last of them leave the table.
+ */
 static inline uint64_t fl_persistent(fl_site *site, uint64_t n, fl_reply *reply) {
     return fl_persistent_parts(site->counters, site->log, site->log_bytes, site->rows, site->order, site->histories, reply->numbers,
                                reply->answer, n);
 }
 
-/* Makes log numbers up to n stable: first list: the histories whose stable version rose. */
+/*
+ * Makes log numbers up to n stable: first list: the histories whose stable version rose. Where n is above what is stable it adds a line
+ * `(stable N)` to the log, which is to be stored as a did line is; else it is accepted and changes nothing. FL_OUT_OF_TURN while restoring,
+ * FL_NO_ROOM where the line does not fit, FL_ABOVE_LIMIT above what is persistent.
+ */
 static inline uint64_t fl_stable(fl_site *site, uint64_t n, fl_reply *reply) {
     return fl_stable_parts(site->counters, site->log, site->log_bytes, site->rows, site->order, site->histories, reply->numbers,
                            reply->answer, n);

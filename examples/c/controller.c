@@ -71,14 +71,25 @@ static void begin(void) {
     must("(end)");
 }
 
-/* How many operations the log has: a line each, behind the site line. */
+/* How many operations the log has: a did line each. */
 static unsigned done(void) {
     unsigned lines = 0;
-    for (size_t i = 0; i < stored; i++) lines += log_buffer[i] == '\n';
-    return lines - 1;
+    for (size_t i = 1; i < stored; i++) lines += log_buffer[i - 1] == '(' && log_buffer[i] == 'd';
+    return lines;
 }
 
-/* Operation i: a part of a history's profile gets a new value. Once its line is stored it is persistent, and stable. */
+/* The first n operations are stored: they are persistent, and stable. They leave the table once the line that says so is stored too. */
+static void settle(unsigned n) {
+    char line[FL_LINE_BYTES];
+    snprintf(line, sizeof line, "(persistent %u)", n);
+    must(line);
+    snprintf(line, sizeof line, "(stable %u)", n);
+    must(line);
+    snprintf(line, sizeof line, "(persistent %u)", n);
+    must(line);
+}
+
+/* Operation i: a part of a history's profile gets a new value. */
 static void operate(unsigned i) {
     char line[FL_LINE_BYTES];
     unsigned history = i % HISTORIES, version = i / HISTORIES + 1, part = i % 8, value = i * 11 % 256;
@@ -86,10 +97,7 @@ static void operate(unsigned i) {
     must(line);
     snprintf(line, sizeof line, "(finish %u)", i);
     must(line);
-    snprintf(line, sizeof line, "(persistent %u)", i + 1);
-    must(line);
-    snprintf(line, sizeof line, "(stable %u)", i + 1);
-    must(line);
+    settle(i + 1);
 }
 
 int main(int argc, char **argv) {
@@ -99,6 +107,7 @@ int main(int argc, char **argv) {
     file = open(argv[1], O_RDWR | O_CREAT | O_APPEND, 0644);
     if (file < 0) fail("cannot open the file");
     begin();
+    settle(done());
     for (unsigned i = done(); i < OPERATIONS; i++) operate(i);
     for (unsigned h = 0; h < HISTORIES; h++) {
         char line[FL_LINE_BYTES];

@@ -1,6 +1,7 @@
 /*
  * The session of document 01 on numbers: each call prints what the session prints. The supply is cut in the middle, the lost line comes back,
- * and the histories are as before. Then a finish overtakes an operation. Between the calls histories are polled.
+ * and the histories are as before. Then a finish overtakes an operation, and what is done becomes stable. Between the calls histories are
+ * polled. At last a log from before stable lines is changed over and taken up.
  *
  * usage: numbers
  */
@@ -73,6 +74,7 @@ int main(void) {
     const fl_update ten[] = {{FL_INC, 1, 10, 7}};
     const fl_update none[] = {{7, 0, 1, 0}};
     const char *lost = "(did 6 (set 1 4 2 1000))";
+    const char *older = "(site 1)\n(did 5 (inc 0 1 1 513))\n";
     if (!fl_fits()) return 1;
     say(fl_start(&site, log_buffer, sizeof log_buffer, 2), 0, NULL, NULL);
     say(fl_add(&site, 5, five, 2, &reply), 0, "ready", NULL);
@@ -96,11 +98,20 @@ int main(void) {
     finish(10);
     say(fl_persistent(&site, 4, &reply), 0, "histories", "dry");
     poll(1);
+    /* a line of the log says it */
+    say(fl_stable(&site, 4, &reply), 0, "histories", NULL);
+    show(1);
     /* a rule that is none, an operation without updates, and what is not there */
     say(fl_add(&site, 7, none, 1, &reply), 0, "ready", NULL);
     say(fl_add(&site, 7, none, 0, &reply), 0, "ready", NULL);
     say(fl_withdraw(&site, 7, &reply), 0, "dry", NULL);
     say(fl_stable(&site, 5, &reply), 0, "histories", NULL);
     printf("%zu bytes of log\n", fl_log_used(&site));
+    size_t used = strlen(older);
+    memcpy(log_buffer, older, used);
+    say(fl_upgrade(log_buffer, sizeof log_buffer, used, &used), 0, NULL, NULL);
+    printf("%zu bytes of log\n", used);
+    say(fl_restart(&site, log_buffer, sizeof log_buffer, used), 0, NULL, NULL);
+    show(0);
     return 0;
 }

@@ -78,6 +78,14 @@ impl Did {
     }
 }
 
+/// A line of a log behind its site line.
+#[derive(Clone, Copy, Debug, PartialEq, Eq)]
+pub enum LogLine {
+    Did(Did),
+    /// `(stable N)`.
+    Stable(u64),
+}
+
 /// One readable line of a session.
 #[derive(Clone, Copy, Debug, PartialEq, Eq)]
 pub enum Command {

@@ -1,12 +1,13 @@
 //! The fitting ledger a second time, from its papers (documents 01 and 02) alone.
 //!
 //! From the bottom up: [`forms`] are the things that lines say, [`reader`] and [`writer`]
-//! turn bytes into them and back, [`rules`] decides, [`site`], [`keeper`] and [`records`] carry
-//! the state,
-//! [`session`] turns a text of commands into a text of replies. [`program`] is the face that
-//! a test or a benchmark sees; the proved library shows the same face in `library`.
+//! turn bytes into them and back, [`rules`] decides, [`flaws`] can break a decision on purpose,
+//! [`site`], [`keeper`] and [`records`] carry the state, [`session`] turns a text of commands
+//! into a text of replies. [`program`] is the face that a test or a benchmark sees; the proved
+//! library shows the same face in `library`.
 
 pub mod few;
+pub mod flaws;
 pub mod forms;
 pub mod keeper;
 #[cfg(feature = "library")]

@@ -35,6 +35,8 @@ mod linked {
             out_length: usize,
         ) -> usize;
 
+        pub fn log_upgrade(log: *mut u8, log_length: usize, kept: usize) -> u64;
+
         pub fn keeper_keep(
             buffer: *mut u8,
             buffer_length: usize,
@@ -182,6 +184,11 @@ impl Program for Library {
         fitting(unsafe {
             linked::site_restart(log.as_ptr(), log.len(), kept, out.as_mut_ptr(), out.len())
         })
+    }
+
+    fn upgrade(&self, log: &mut [u8], kept: usize) -> Outcome {
+        // SAFETY: see above.
+        outcome(unsafe { linked::log_upgrade(log.as_mut_ptr(), log.len(), kept) })
     }
 
     fn keep(&self, buffer: &mut [u8], used: usize, line: &[u8]) -> Outcome {

@@ -5,11 +5,11 @@ use crate::keeper::{Keeper, Places};
 use crate::records::{RecordCall, Records};
 use crate::refusal::Refusal;
 use crate::rules::Rules;
-use crate::session;
+use crate::session::{self, Session};
 use crate::site::Site;
 use crate::writer;
 
-/// The bytes in use after a keeper's call, or handed out by it; else the refusal's number.
+/// The bytes in use after a call, or handed out by it; else the refusal's number.
 pub type Outcome = Result<usize, u64>;
 
 /// The number in place of a refusal's where the first bytes are not what a keeper keeps.
@@ -49,6 +49,9 @@ pub trait Program {
     /// which 64 bytes are enough, or nothing when `out` is too short for it.
     fn restart(&self, log: &[u8], kept: usize, out: &mut [u8]) -> Option<usize>;
 
+    /// Changes over an older log in the first `kept` bytes of a buffer. Gives the bytes in use.
+    fn upgrade(&self, log: &mut [u8], kept: usize) -> Outcome;
+
     /// Stores a did line in a keeper's buffer. Here and below the first `used` bytes of the
     /// buffer must be what a keeper keeps: else nothing changes, and [`NO_KEEPER`] says so.
     fn keep(&self, buffer: &mut [u8], used: usize, line: &[u8]) -> Outcome;
@@ -77,16 +80,31 @@ pub fn all() -> Vec<Box<dyn Program>> {
 pub struct Second {
     name: String,
     rules: Rules,
+    /// The log from which the site of a session is restarted; without it a session opens one.
+    start: Option<Vec<u8>>,
 }
 
 impl Second {
     pub fn new(name: &str, rules: Rules) -> Second {
-        Second { name: name.to_string(), rules }
+        Second { name: name.to_string(), rules, start: None }
     }
 
     /// The program as the paper has it.
     pub fn from_paper() -> Second {
         Second::new("second program", Rules::PAPER)
+    }
+
+    /// The program whose sessions begin with a site restarted from a log, at the front of the log
+    /// buffer, which must have room for it.
+    pub fn starting_from(self, log: &[u8]) -> Second {
+        Second { start: Some(log.to_vec()), ..self }
+    }
+
+    fn begin(&self, log: &mut [u8]) -> Session {
+        let Some(start) = &self.start else { return Session::new(self.rules) };
+        log[..start.len()].copy_from_slice(start);
+        let site = Site::restart(log, start.len() as u64, self.rules).expect("a log");
+        Session::of(site, self.rules)
     }
 
     /// The keeper whose lines the first bytes of a buffer are.
@@ -101,7 +119,7 @@ impl Program for Second {
     }
 
     fn session(&self, input: &[u8], log: &mut [u8], out: &mut [u8]) -> Option<usize> {
-        put(&session::run(input, log, self.rules).0, out)
+        put(&session::run_on(self.begin(log), input, log).0, out)
     }
 
     fn session_polls(
@@ -111,7 +129,7 @@ impl Program for Second {
         out: &mut [u8],
         histories: &mut [u64],
     ) -> Option<usize> {
-        let (replies, session) = session::run(input, log, self.rules);
+        let (replies, session) = session::run_on(self.begin(log), input, log);
         let length = put(&replies, out)?;
         for number in histories {
             *number = match session.poll(*number) {
@@ -129,6 +147,10 @@ impl Program for Second {
         let mut reply = Vec::new();
         writer::answer(&mut reply, &restarted);
         put(&reply, out)
+    }
+
+    fn upgrade(&self, log: &mut [u8], kept: usize) -> Outcome {
+        outcome(Site::upgrade(log, kept as u64, self.rules))
     }
 
     fn keep(&self, buffer: &mut [u8], used: usize, line: &[u8]) -> Outcome {

@@ -19,6 +19,11 @@ impl Session {
         Session { rules, site: None }
     }
 
+    /// A session whose site was restarted from a log.
+    pub fn of(site: Site, rules: Rules) -> Session {
+        Session { rules, site: Some(site) }
+    }
+
     pub fn site(&self) -> Option<&Site> {
         self.site.as_ref()
     }
@@ -54,7 +59,7 @@ fn perform(command: Command, site: &mut Site, log: &mut [u8]) -> Answer {
             let (rose, dry) = site.make_persistent(n)?;
             Reply::Persistent { rose, dry }
         }
-        Command::Stable(n) => Reply::Stable { rose: site.make_stable(n)? },
+        Command::Stable(n) => Reply::Stable { rose: site.make_stable(n, log)? },
         Command::Show(number) => Reply::Shown { number, history: site.show(number)? },
         Command::Cut(kept) => {
             let (lines, bytes) = site.cut(kept, log)?;
@@ -70,12 +75,16 @@ fn perform(command: Command, site: &mut Site, log: &mut [u8]) -> Answer {
 
 /// Runs a whole session over a log buffer; gives its replies, and the session at its end.
 pub fn run(input: &[u8], log: &mut [u8], rules: Rules) -> (Vec<u8>, Session) {
-    let mut session = Session::new(rules);
+    run_on(Session::new(rules), input, log)
+}
+
+/// The same of a session that has begun.
+pub fn run_on(mut session: Session, input: &[u8], log: &mut [u8]) -> (Vec<u8>, Session) {
     let mut replies = Vec::new();
     for piece in input.split_inclusive(|&byte| byte == b'\n') {
         let answer = match piece.strip_suffix(b"\n") {
             Some(line) => session.answer(line, log),
-            None if rules.replies_to_rest() => Err(Refusal::Unreadable),
+            None if session.rules.replies_to_rest() => Err(Refusal::Unreadable),
             None => continue,
         };
         writer::answer(&mut replies, &answer);

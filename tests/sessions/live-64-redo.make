@@ -1,5 +1,6 @@
 #!/usr/bin/env bash
-# 64 waiting lines, then 64 lines that have run and are not yet stable: the 65th redo is refused 10.
+# 64 waiting lines, then 64 lines that have run: the 65th redo is refused 10, and no stable call helps while restoring. After the end
+# one stable and the report that covers it free an entry, also after a cut that keeps the stable line.
 set -eu
 echo '(site 2)'
 echo '(cut 9)'
@@ -27,4 +28,15 @@ cat <<END
 (redo (did 1 (inc 0 66 66 0)))
 (show 0)
 (end)
+(add 65 (inc 0 65 0))
+(stable 1)
+(add 65 (inc 0 65 0))
+(persistent 64)
+(add 65 (inc 0 65 0))
+(cut 1593)
+(redo (did 1 (inc 0 65 65 0)))
+(redo (did 66 (inc 0 66 66 0)))
+(cut 1592)
+(redo (did 1 (inc 0 65 65 0)))
+(redo (did 65 (inc 0 65 65 0)))
 END

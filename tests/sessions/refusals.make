@@ -66,7 +66,7 @@ say '(redo (did 6 (inc 4 2 2 0)))' '(redo (did 6 (inc 4 2 2 0)))' '(redo (did 6 
 say '(redo (did 5 (inc 4 1 0 0)))' '(redo (did 5 (set 3 18446744073709551615 1 0)(inc 4 1 1 0)))'
 # 12: 43 bytes are left, the waiting line has 22 and this one too
 say '(redo (did 7 (inc 5 1 1 0)))'
-# 13, 15
+# 13; 14: a stable call above the mark; 13, 15
 say "(persistent $((done + 1)))" "(stable $((done + 1)))" '(cut 65494)' '(cut 1)'
 # 8: id is live and done
 say '(cut 65493)' '(redo (did 5 (inc 4 1 1 0)))' '(redo (did 5 (inc 4 1 1 0)))' '(redo (did 5 (inc 5 1 1 0)))' '(end)'

@@ -6,8 +6,8 @@ pub const LOG_BYTES: usize = 65_536;
 /// The longest reply.
 pub const REPLY_BYTES: usize = 2_741;
 const VERSION: u64 = 1;
-const COUNTERS: usize = 10;
-const ROWS: usize = 64 * 23;
+const COUNTERS: usize = 11;
+const ROWS: usize = 64 * 24;
 const HISTORIES: usize = 16 * 6;
 const ORDER: usize = 64;
 const ANSWER: usize = 8;
@@ -39,7 +39,7 @@ mod linked {
             counters: &mut [u64; COUNTERS],
             log: *const u8,
             log_bytes: usize,
-            rows: &[u64; ROWS],
+            rows: &mut [u64; ROWS],
             order: &mut [u8; ORDER],
             histories: &mut [u64; HISTORIES],
             kept: usize,
@@ -98,7 +98,7 @@ mod linked {
             log: *const u8,
             log_bytes: usize,
             rows: &[u64; ROWS],
-            order: &[u8; ORDER],
+            order: &mut [u8; ORDER],
             histories: &mut [u64; HISTORIES],
             numbers: &mut [u64; NUMBERS],
             answer: &mut [u64; ANSWER],
@@ -107,10 +107,10 @@ mod linked {
 
         pub fn fl_stable_parts(
             counters: &mut [u64; COUNTERS],
-            log: *const u8,
+            log: *mut u8,
             log_bytes: usize,
             rows: &[u64; ROWS],
-            order: &mut [u8; ORDER],
+            order: &[u8; ORDER],
             histories: &mut [u64; HISTORIES],
             numbers: &mut [u64; NUMBERS],
             answer: &mut [u64; ANSWER],
@@ -137,6 +137,8 @@ mod linked {
             histories: &[u64; HISTORIES],
             history: u64,
         ) -> u64;
+
+        pub fn fl_upgrade(log: *mut u8, log_bytes: usize, kept: usize, used: &mut usize) -> u64;
     }
 }
 
@@ -253,7 +255,7 @@ impl<'log> Site<'log> {
                 &mut site.counters,
                 site.log.as_ptr(),
                 site.log.len(),
-                &site.rows,
+                &mut site.rows,
                 &mut site.order,
                 &mut site.histories,
                 kept,
@@ -349,7 +351,8 @@ impl<'log> Site<'log> {
         accepted(code, reply)
     }
 
-    /// Makes log numbers up to n persistent.
+    /// Makes log numbers up to n persistent: operations leave the table that a stable line before did line n, or before the report of
+    /// all that is done, made stable.
     pub fn persistent(&mut self, n: u64) -> Result<Reply, Refusal> {
         let mut reply = blank_reply();
         // SAFETY: see above.
@@ -359,7 +362,7 @@ impl<'log> Site<'log> {
                 self.log.as_ptr(),
                 self.log.len(),
                 &self.rows,
-                &self.order,
+                &mut self.order,
                 &mut self.histories,
                 &mut reply.numbers,
                 &mut reply.answer,
@@ -369,17 +372,17 @@ impl<'log> Site<'log> {
         accepted(code, reply)
     }
 
-    /// Makes log numbers up to n stable.
+    /// Makes log numbers up to n stable: a line of the log says so, which is to be stored too.
     pub fn stable(&mut self, n: u64) -> Result<Reply, Refusal> {
         let mut reply = blank_reply();
         // SAFETY: see above.
         let code = unsafe {
             linked::fl_stable_parts(
                 &mut self.counters,
-                self.log.as_ptr(),
+                self.log.as_mut_ptr(),
                 self.log.len(),
                 &self.rows,
-                &mut self.order,
+                &self.order,
                 &mut self.histories,
                 &mut reply.numbers,
                 &mut reply.answer,
@@ -428,6 +431,14 @@ impl<'log> Site<'log> {
             refusal => Err(Refusal(refusal)),
         }
     }
+}
+
+/// Gives the log in the first `kept` bytes, if it is from before stable lines, its stable line. Gives the bytes that are the log then.
+pub fn upgrade(log: &mut [u8], kept: usize) -> Result<usize, Refusal> {
+    let mut used = 0;
+    // SAFETY: the buffer and the number are borrowed by nobody else until it returns, and it keeps neither.
+    let code = unsafe { linked::fl_upgrade(log.as_mut_ptr(), log.len(), kept, &mut used) };
+    accepted(code, used)
 }
 
 fn blank_reply() -> Reply {

@@ -43,7 +43,16 @@ fn refused(Refusal(number): Refusal) -> io::Error {
     io::Error::other(format!("refused {number}"))
 }
 
-/// Operation i: a part of a history's profile gets a new value. Once its line is stored it is persistent, and stable.
+/// The first n operations are stored: they are persistent, and stable. They leave the table once the line that says so is stored too.
+fn settle(site: &mut Site, store: &mut Store, n: u64) -> io::Result<()> {
+    site.persistent(n).map_err(refused)?;
+    site.stable(n).map_err(refused)?;
+    store.append(site.log())?;
+    site.persistent(n).map_err(refused)?;
+    Ok(())
+}
+
+/// Operation i: a part of a history's profile gets a new value.
 fn operate(site: &mut Site, store: &mut Store, i: u64) -> io::Result<()> {
     let operand = i % 8 * 256 + i * 11 % 256;
     let update =
@@ -51,9 +60,7 @@ fn operate(site: &mut Site, store: &mut Store, i: u64) -> io::Result<()> {
     site.add(i, &[update]).map_err(refused)?;
     site.finish(i).map_err(refused)?;
     store.append(site.log())?;
-    site.persistent(i + 1).map_err(refused)?;
-    site.stable(i + 1).map_err(refused)?;
-    Ok(())
+    settle(site, store, i + 1)
 }
 
 fn main() -> io::Result<()> {
@@ -78,7 +85,9 @@ fn main() -> io::Result<()> {
         Site::start(&mut bytes, HISTORIES).map_err(refused)?
     };
     store.append(site.log())?;
-    let done = site.log().iter().filter(|&&byte| byte == b'\n').count() as u64 - 1;
+    let lines = site.log().split(|&byte| byte == b'\n');
+    let done = lines.filter(|line| line.starts_with(b"(did ")).count() as u64;
+    settle(&mut site, &mut store, done)?;
     for i in done..OPERATIONS {
         operate(&mut site, &mut store, i)?;
     }

@@ -5,24 +5,29 @@
 
 use std::ops::Range;
 
-use second::forms::{Answer, Command, Reply};
+use second::forms::Command;
 use second::program::Program;
-use second::reader;
-use second::rules::Rules;
-use second::session::Session;
 use second::site::Site;
 
+use crate::book::{histories_of, id_of, numbers, Book};
+use crate::made_up;
+use crate::mood::Mood;
 use crate::random::Random;
-use crate::scribe::{Mood, Scribe};
+use crate::resending::Resending;
+use crate::scribe::Scribe;
 use crate::trial::{shown_lines, without, Played, Trial};
+use crate::watch::{command_of, is_did, is_stable, line_of, Law, Watch};
 
 /// A session with a picked cut in it.
 #[derive(Clone)]
 pub struct ClaimTrial {
-    pieces: Vec<Vec<u8>>,
-    room: usize,
+    pub pieces: Vec<Vec<u8>>,
+    pub room: usize,
     /// Which line is the picked cut, while it is there.
-    picked: Option<usize>,
+    pub picked: Option<usize>,
+    pub law: Law,
+    /// The log from which the site is restarted first, if it is not opened.
+    pub start: Option<Vec<u8>>,
 }
 
 impl ClaimTrial {
@@ -42,7 +47,84 @@ impl ClaimTrial {
             scribe.write(lines);
         }
         let pieces = scribe.pieces;
-        Resending::after(pieces, mood.room, random)
+        Resending::new(random, Watch::new(mood.room, Law::PAPER)).list(pieces)
+    }
+
+    /// A list in which marks come often and ids come again, then some work without them, under a law.
+    pub fn with_marks(random: &mut Random, most: usize, law: Law) -> ClaimTrial {
+        let mood = Mood::settling(random);
+        let (lines, more) = (random.between(most / 2, most), random.between(0, 12));
+        let mut scribe = Scribe::by(law.rules, random, mood);
+        scribe.write(lines);
+        scribe.work(more);
+        let pieces = scribe.pieces;
+        Resending::new(random, Watch::new(mood.room, law)).list(pieces)
+    }
+
+    /// A list that starts at a site restarted from a log, perhaps one that was changed over.
+    pub fn from_log(random: &mut Random, most: usize) -> ClaimTrial {
+        let start = made_up::log_to_start_from(random);
+        let room = start.len() + random.between(40, 2000);
+        let watch = || Watch::after(&start, room, Law::PAPER);
+        let histories = watch().session.site().map_or(1, Site::count);
+        let mood = Mood { room, histories, ..Mood::settling(random) };
+        let (lines, more) = (random.between(most / 2, most), random.between(0, 12));
+        let mut scribe = Scribe::going_on(random, mood, watch());
+        scribe.write(lines);
+        scribe.work(more);
+        let pieces = scribe.pieces;
+        let list = Resending::new(random, watch()).list(pieces);
+        ClaimTrial { start: Some(start), ..list }
+    }
+
+    /// A session by the law that begins as the list does.
+    fn watch(&self) -> Watch {
+        match &self.start {
+            Some(start) => Watch::after(start, self.room, self.law),
+            None => Watch::new(self.room, self.law),
+        }
+    }
+
+    /// Whether the picked cut loses a stable line.
+    pub fn loses_stable_lines(&self) -> bool {
+        Claim::of(self).is_some_and(|claim| claim.lost_marks > 0)
+    }
+
+    /// Whether the picked cut keeps a stable line.
+    pub fn keeps_stable_lines(&self) -> bool {
+        Claim::of(self).is_some_and(|claim| claim.kept.iter().any(|line| is_stable(line)))
+    }
+
+    /// Whether the picked cut keeps a did line behind the last stable line and loses another.
+    pub fn has_lines_live_again(&self) -> bool {
+        Claim::of(self).is_some_and(|claim| {
+            let marks = claim.kept.iter().rev().find(|line| is_stable(line));
+            let stable = marks.map_or(0, |line| numbers(line)[0]);
+            let dids = claim.kept.iter().filter(|line| is_did(line)).count() as u64;
+            dids > stable && !claim.lost.is_empty()
+        })
+    }
+
+    /// Whether a lost line has the id of a kept one.
+    pub fn uses_an_id_again(&self) -> bool {
+        Claim::of(self).is_some_and(|claim| {
+            let kept: Vec<&String> = claim.kept.iter().filter(|line| is_did(line)).collect();
+            claim.lost.iter().any(|lost| kept.iter().any(|kept| id_of(kept) == id_of(lost)))
+        })
+    }
+
+    /// The same list up to its picked cut, and all that is lost in every order, if it is little.
+    pub fn every_order(&self) -> Vec<ClaimTrial> {
+        let Some(claim) = Claim::of(self).filter(|claim| claim.lost.len() <= 4) else {
+            return Vec::new();
+        };
+        let start = &self.pieces[..=claim.picked];
+        let list = |order: Vec<&String>| {
+            let redo = |line: &&String| format!("(redo {})\n", line.trim_end()).into_bytes();
+            let pieces = start.iter().cloned().chain(order.iter().map(redo)).collect();
+            ClaimTrial { pieces, ..self.clone() }
+        };
+        orders(&claim.lost.iter().collect::<Vec<_>>()).into_iter().map(list).collect()
     }
 
     /// How many lines were lost, and how many of them were chosen, if the claim speaks of
@@ -64,7 +146,7 @@ impl Trial for ClaimTrial {
             Some(picked) if picked >= steps.end => Some(picked - steps.len()),
             picked => picked,
         };
-        ClaimTrial { pieces: without(&self.pieces, steps), room: self.room, picked }
+        ClaimTrial { pieces: without(&self.pieces, steps), picked, ..self.clone() }
     }
 
     fn shown(&self) -> String {
@@ -83,152 +165,10 @@ impl Trial for ClaimTrial {
     }
 }
 
-/// A session that counts what is persistent.
-struct Watch {
-    session: Session,
-    log: Vec<u8>,
-    /// The log number up to which did lines are counted persistent.
-    counted: u64,
-}
-
-impl Watch {
-    fn new(room: usize) -> Watch {
-        Watch { session: Session::new(Rules::PAPER), log: vec![0; room], counted: 0 }
-    }
-
-    fn answer(&mut self, piece: &[u8]) -> Answer {
-        let answer = self.session.answer(line_of(piece), &mut self.log);
-        match (command_of(piece), &answer) {
-            (Some(Command::Persistent(n)), Ok(_)) => self.counted = self.counted.max(n),
-            (_, Ok(Reply::Restarted { lines, .. })) => self.counted = *lines,
-            _ => {}
-        }
-        answer
-    }
-
-    /// The log in use.
-    fn text(&self) -> &str {
-        let used = self.session.site().map_or(0, Site::used);
-        std::str::from_utf8(&self.log[..used]).expect("a log is plain text")
-    }
-
-    /// The fewest bytes that a fair cut keeps.
-    fn fewest(&self) -> usize {
-        self.text().split_inclusive('\n').take(1 + self.counted as usize).map(str::len).sum()
-    }
-}
-
-fn line_of(piece: &[u8]) -> &[u8] {
-    piece.strip_suffix(b"\n").unwrap_or(piece)
-}
-
-fn command_of(piece: &[u8]) -> Option<Command> {
-    reader::command(line_of(piece), Rules::PAPER)
-}
-
 /// The did line that a redo brings, with its end.
 fn brought(piece: &[u8]) -> Option<String> {
     let line = line_of(piece).strip_prefix(b"(redo ")?.strip_suffix(b")")?;
     Some(format!("{}\n", std::str::from_utf8(line).ok()?))
-}
-
-/// Writes the second half of a list: the picked cut and what comes after it.
-struct Resending<'r> {
-    random: &'r mut Random,
-    watch: Watch,
-    pieces: Vec<Vec<u8>>,
-    /// The lost lines that come again.
-    chosen: Vec<String>,
-}
-
-impl Resending<'_> {
-    fn after(pieces: Vec<Vec<u8>>, room: usize, random: &mut Random) -> ClaimTrial {
-        let mut watch = Watch::new(room);
-        for piece in &pieces {
-            let _ = watch.answer(piece);
-        }
-        let picked = Some(pieces.len());
-        let mut resending = Resending { random, watch, pieces, chosen: Vec::new() };
-        resending.pick();
-        for _ in 0..resending.random.below(3) {
-            let deliveries = resending.random.between(0, 2 * resending.chosen.len());
-            resending.deliver_some(deliveries);
-            resending.cut_fairly();
-        }
-        resending.deliver_all();
-        ClaimTrial { pieces: resending.pieces, room, picked }
-    }
-
-    fn say(&mut self, line: &str) {
-        let piece = format!("{line}\n").into_bytes();
-        let _ = self.watch.answer(&piece);
-        self.pieces.push(piece);
-    }
-
-    /// Makes the picked cut and chooses from the lines that it loses.
-    fn pick(&mut self) {
-        let first = self.watch.text().to_string();
-        self.cut_fairly();
-        let lost = first[self.watch.text().len()..].lines();
-        let chance = self.random.pick(&[100, 100, 90, 50]);
-        self.chosen = lost.map(str::to_string).collect();
-        self.chosen.retain(|_| self.random.percent(chance));
-    }
-
-    fn cut_fairly(&mut self) {
-        let (fewest, used) = (self.watch.fewest(), self.watch.text().len());
-        let kept = if self.random.percent(35) { fewest } else { self.random.between(fewest, used) };
-        self.say(&format!("(cut {kept})"));
-    }
-
-    fn deliver_some(&mut self, deliveries: usize) {
-        for _ in 0..deliveries {
-            let at = self.random.index(self.chosen.len());
-            self.deliver(at);
-        }
-    }
-
-    /// Delivers each chosen line at least once, in any order.
-    fn deliver_all(&mut self) {
-        let mut order: Vec<usize> = (0..self.chosen.len()).collect();
-        self.random.shuffle(&mut order);
-        for at in order {
-            self.deliver(at);
-            if self.random.percent(15) {
-                self.deliver_some(1);
-            }
-        }
-    }
-
-    fn deliver(&mut self, at: usize) {
-        self.say(&format!("(redo {})", self.chosen[at]));
-        if self.random.percent(12) {
-            self.aside(at);
-        }
-    }
-
-    /// Makes a call that the claim allows beside the redo lines.
-    fn aside(&mut self, at: usize) {
-        let site = self.watch.session.site().expect("the site was cut");
-        let (done, persistent) = (site.done(), site.persistent_mark());
-        let used = self.watch.text().len();
-        let line = match self.random.below(10) {
-            0 => format!("(persistent {})", self.random.below(done + 2)),
-            1 => format!("(stable {})", self.random.below(persistent + 2)),
-            2 => "(show 0)".to_string(),
-            3 => format!("(cut {})", used + 1),
-            4 => "(cut 3)".to_string(),
-            5 => "(add 5 (inc 0 1 0))".to_string(),
-            6 => "(finish 5)".to_string(),
-            7 => "(withdraw 5)".to_string(),
-            8 => format!("(redo {}", self.chosen[at]),
-            _ => {
-                let lines: Vec<&str> = self.watch.text().lines().collect();
-                format!("(redo {})", self.random.pick(&lines))
-            }
-        };
-        self.say(&line);
-    }
 }
 
 /// A list for which everything holds that the claim asks for.
@@ -236,9 +176,11 @@ struct Claim<'t> {
     trial: &'t ClaimTrial,
     picked: usize,
     histories: u64,
-    /// The lines that the picked cut kept, and those it lost, in first order.
+    /// The lines that the picked cut kept, and the did lines that it lost, in first order.
     kept: Vec<String>,
     lost: Vec<String>,
+    /// How many stable lines it lost.
+    lost_marks: usize,
     /// Whether each lost line was chosen.
     chosen: Vec<bool>,
     /// What came after the last accepted cut.
@@ -250,7 +192,7 @@ impl<'t> Claim<'t> {
     /// brings a lost line that comes after the last accepted cut, and that no end is accepted.
     fn of(trial: &'t ClaimTrial) -> Option<Claim<'t>> {
         let picked = trial.picked?;
-        let mut watch = Watch::new(trial.room);
+        let mut watch = trial.watch();
         for piece in &trial.pieces[..picked] {
             let _ = watch.answer(piece);
         }
@@ -284,14 +226,15 @@ impl<'t> Claim<'t> {
                 kept = watch.text().lines().count();
             }
         }
-        let lost = first[kept..].to_vec();
+        let lost: Vec<String> = first[kept..].iter().filter(|line| is_did(line)).cloned().collect();
         let chosen: Vec<bool> = lost.iter().map(|line| came.contains(line)).collect();
         let is_chosen = |line| lost.iter().zip(&chosen).any(|(lost, &yes)| yes && lost == line);
         if !accepted.iter().all(is_chosen) {
             return None;
         }
+        let lost_marks = first.len() - kept - lost.len();
         let kept = first[..kept].to_vec();
-        Some(Claim { trial, picked, histories, kept, lost, chosen, came })
+        Some(Claim { trial, picked, histories, kept, lost, lost_marks, chosen, came })
     }
 
     /// What the claim says and the program does not do.
@@ -339,7 +282,7 @@ impl<'t> Claim<'t> {
         if !log.starts_with(&kept) || behind != run {
             return Some(format!("the log should be {kept}{}, and is {log}\n", run.concat()));
         }
-        let lines = self.kept.len() - 1 + run.len();
+        let lines = self.kept.iter().filter(|line| is_did(line)).count() + run.len();
         for (bytes, expected) in
             [(length, format!("(ok {lines} {length})")), (length + 1, "(refused 13)".to_string())]
         {
@@ -393,70 +336,14 @@ impl<'t> Claim<'t> {
     }
 }
 
-/// The book: profile, version and place of each history, from did lines only.
-struct Book {
-    parts: Vec<[u64; 8]>,
-    versions: Vec<u64>,
-    places: Vec<u64>,
-}
-
-impl Book {
-    /// The book that is fed the did lines of a log.
-    fn of(log: &[String], histories: u64) -> Book {
-        let count = histories as usize;
-        let mut book =
-            Book { parts: vec![[0; 8]; count], versions: vec![0; count], places: vec![0; count] };
-        for line in log.iter().skip(1) {
-            for (rule, fields) in entries(line) {
-                book.take(rule, &fields);
-            }
-        }
-        book
+/// A list in each of its orders.
+fn orders<T: Copy>(list: &[T]) -> Vec<Vec<T>> {
+    if list.is_empty() {
+        return vec![Vec::new()];
     }
-
-    /// Takes one (RULE H V P O).
-    fn take(&mut self, rule: &str, fields: &[u64]) {
-        let (history, version, operand) = (fields[0] as usize, fields[1], fields[3]);
-        match rule {
-            "inc" => self.parts[history][operand as usize / 256] = operand % 256,
-            "set" => {
-                let mut rest = operand;
-                for part in &mut self.parts[history] {
-                    *part = rest % 256;
-                    rest /= 256;
-                }
-            }
-            _ => {}
-        }
-        if rule != "not" {
-            self.versions[history] = version;
-        }
-        self.places[history] += 1;
-    }
-
-    /// Version, place and profile of each history.
-    fn shown(&self) -> Vec<[u64; 3]> {
-        let profile = |parts: &[u64; 8]| parts.iter().rev().fold(0, |sum, part| sum * 256 + part);
-        (0..self.parts.len())
-            .map(|at| [self.versions[at], self.places[at], profile(&self.parts[at])])
-            .collect()
-    }
-}
-
-/// The numbers of a form.
-fn numbers(text: &str) -> Vec<u64> {
-    text.split([' ', '(', ')']).filter_map(|word| word.parse().ok()).collect()
-}
-
-/// The rules and numbers of a did line's updates.
-fn entries(line: &str) -> impl Iterator<Item = (&str, Vec<u64>)> {
-    line.split('(').skip(2).map(|entry| (entry.split(' ').next().unwrap_or(""), numbers(entry)))
-}
-
-fn histories_of(line: &str) -> Vec<u64> {
-    entries(line).map(|(_, fields)| fields[0]).collect()
-}
-
-fn id_of(line: &str) -> u64 {
-    numbers(line)[0]
+    let first = |at: usize| {
+        let behind = orders(&without(list, at..at + 1));
+        behind.into_iter().map(move |order| [&[list[at]], order.as_slice()].concat())
+    };
+    (0..list.len()).flat_map(first).collect()
 }

@@ -1,24 +1,111 @@
 //! What holds of every session of this program after every line, whatever it was.
 
+use std::collections::BTreeSet;
+
 use second::forms::{Answer, Operation, Reply, Update};
+use second::program::Second;
+use second::refusal::Refusal;
 use second::rules::{Rules, Timing};
 use second::session::Session;
 use second::site::Site;
 
-use crate::trial::SessionTrial;
+use crate::book::{id_of, numbers, Book};
+use crate::trial::{RestartTrial, SessionTrial, UpgradeTrial};
+use crate::watch::{is_did, is_stable, up_to_did, Law, Watch};
 
 /// Runs a session and checks it after every line.
 pub fn check(trial: &SessionTrial) {
-    let mut session = Session::new(Rules::PAPER);
-    let mut log = vec![0; trial.room];
+    let mut watch = Watch::new(trial.room, Law::PAPER);
     for piece in &trial.pieces {
-        let before = (session.clone(), log.clone());
-        let line = piece.strip_suffix(b"\n").unwrap_or(piece);
-        let answer = session.answer(line, &mut log);
-        check_change(&before, (&session, &log), &answer);
-        if let Some(site) = session.site() {
-            check_site(site, &log);
+        let before = (watch.session.clone(), watch.log.clone());
+        let answer = watch.answer(piece);
+        check_change(&before, (&watch.session, &watch.log), &answer);
+        if let Some(site) = watch.session.site() {
+            check_site(site, &watch.log);
+            check_fewest(site, &watch);
         }
+    }
+}
+
+/// A restart from the fewest bytes of a fair cut, or from all, calls as much stable as has left the
+/// table, or more; what it keeps and what it loses behind that were live before.
+fn check_fewest(site: &Site, watch: &Watch) {
+    for kept in [watch.fewest(), site.used()] {
+        let restarted = Site::restart(&watch.log, kept as u64, Rules::PAPER).expect("a fair cut");
+        assert!(restarted.done() >= site.persistent_mark());
+        assert!(restarted.left_mark() >= site.left_mark());
+        assert_eq!(restarted.left_mark(), restarted.stable_mark());
+        assert_eq!(restarted.live() as u64, restarted.done() - restarted.stable_mark());
+    }
+}
+
+/// A restart is accepted if the log without its stable lines was one before there were any, they
+/// rise and stay below the did lines, and what is live after it fits the table; and it shows what the
+/// log's text says.
+pub fn check_restart(trial: &RestartTrial) {
+    let log = [trial.kept.as_slice(), &trial.rest].concat();
+    if trial.above > 0 || log.len() > Site::LONGEST_LOG {
+        return;
+    }
+    let whole = trial.kept.iter().rposition(|&byte| byte == b'\n').map_or(0, |end| end + 1);
+    let text = String::from_utf8_lossy(&log[..whole]);
+    let restarted = Site::restart(&log, trial.kept.len() as u64, Rules::PAPER);
+    let lines: Vec<String> = text.split_inclusive('\n').map(str::to_string).collect();
+    let dids: Vec<String> = lines.iter().filter(|line| !is_stable(line)).cloned().collect();
+    let older = dids.concat().into_bytes();
+    let reads = Site::upgrade(&mut older.clone(), older.len() as u64, Rules::PAPER);
+    let mark = mark_of(&lines).filter(|_| reads != Err(Refusal::BadLog));
+    let live = mark.map(|mark| dids.iter().skip(1 + mark as usize).map(|line| id_of(line)));
+    let live: Option<Vec<u64>> = live.map(Iterator::collect);
+    let fits =
+        |ids: &Vec<u64>| ids.len() <= 64 && ids.iter().collect::<BTreeSet<_>>().len() == ids.len();
+    assert_eq!(restarted.is_ok(), live.as_ref().is_some_and(fits), "{text}");
+    let (Ok(site), Some(mark)) = (restarted, mark) else { return };
+    let done = dids.len() as u64 - 1;
+    assert_eq!((site.used(), site.done(), site.persistent_mark()), (whole, done, done));
+    assert_eq!((site.stable_mark(), site.left_mark()), (mark, mark));
+    assert_eq!(site.live() as u64, done - mark);
+    let now = Book::of(&dids, site.count()).shown();
+    let then = Book::of(&dids[..=mark as usize], site.count()).shown();
+    for number in 0..site.count() {
+        let shown = site.show(number).expect("the history exists");
+        let (now, then) = (now[number as usize], then[number as usize]);
+        assert_eq!([shown.version, shown.place, shown.profile], now);
+        assert_eq!([shown.persistent, shown.stable], [now[0], then[0]]);
+    }
+}
+
+/// What the last stable line of a log says, or 0; nothing if one of them is no line of a log, does not
+/// rise or is above the did lines before it.
+fn mark_of(lines: &[String]) -> Option<u64> {
+    let (mut mark, mut dids) = (0, 0);
+    for line in lines {
+        dids += u64::from(is_did(line));
+        if is_stable(line) {
+            let n = *numbers(line).first().unwrap_or(&0);
+            if *line != format!("(stable {n})\n") || n <= mark || n > dids {
+                return None;
+            }
+            mark = n;
+        }
+    }
+    Some(mark)
+}
+
+/// A log that was changed over restarts with the same did lines, all of them stable, none live.
+pub fn check_changeover(trial: &UpgradeTrial) {
+    let (outcome, buffer) = trial.outcome(&Second::from_paper());
+    let Ok(used) = outcome else { return };
+    let text = std::str::from_utf8(&buffer[..used]).expect("a log is plain text");
+    let lines: Vec<String> = text.lines().map(str::to_string).collect();
+    let site = Site::restart(&buffer, used as u64, Rules::PAPER).expect("a log restarts");
+    let dids = lines.iter().filter(|line| is_did(line)).count() as u64;
+    assert_eq!((site.used(), site.done(), site.stable_mark()), (used, dids, dids));
+    assert_eq!((site.live(), site.left_mark()), (0, dids));
+    for (number, told) in Book::of(&lines, site.count()).shown().into_iter().enumerate() {
+        let shown = site.show(number as u64).expect("the history exists");
+        assert_eq!([shown.version, shown.place, shown.profile], told);
+        assert_eq!([shown.persistent, shown.stable], [shown.version; 2]);
     }
 }
 
@@ -56,10 +143,11 @@ fn check_change(before: &(Session, Vec<u8>), after: (&Session, &Vec<u8>), answer
 /// The log says all that the site shows, and the limits hold.
 fn check_site(site: &Site, log: &[u8]) {
     let (done, persistent, stable) = (site.done(), site.persistent_mark(), site.stable_mark());
-    assert!(stable <= persistent && persistent <= done);
+    assert!(site.left_mark() <= stable && stable <= persistent && persistent <= done);
     assert!(site.live() <= 64);
+    let all = Site::restart(log, site.used() as u64, Rules::PAPER).expect("a log restarts");
+    assert_eq!((all.done(), all.stable_mark(), all.used()), (done, stable, site.used()));
     let whole = after_lines(site, log, done);
-    assert_eq!(whole.used(), site.used());
     let (at_persistent, at_stable) =
         (after_lines(site, log, persistent), after_lines(site, log, stable));
     for number in 0..site.count() {
@@ -77,8 +165,8 @@ fn check_site(site: &Site, log: &[u8]) {
 
 /// The site that the log gives after this many operations.
 fn after_lines(site: &Site, log: &[u8], operations: u64) -> Site {
-    let lines = log[..site.used()].split_inclusive(|&byte| byte == b'\n');
-    let kept: usize = lines.take(1 + operations as usize).map(<[u8]>::len).sum();
+    let text = std::str::from_utf8(&log[..site.used()]).expect("a log is plain text");
+    let kept = up_to_did(text, operations);
     let restarted = Site::restart(log, kept as u64, Rules::PAPER).expect("a log restarts");
     assert_eq!(restarted.done(), operations);
     restarted

@@ -1,25 +1,36 @@
 //! Random trials: this program beside the proved library where that is linked, and beside
 //! itself with a rule broken on purpose, so that the comparison is known to notice.
 
+mod book;
 mod claim;
 mod damage;
+mod kept;
+mod kinds;
 mod laws;
+#[cfg(feature = "library")]
+mod library;
 mod made_up;
+mod mood;
 mod random;
 mod recorded;
+mod resending;
 mod rounds;
 mod scribe;
 mod trial;
+mod watch;
 
 use std::collections::BTreeMap;
 use std::sync::LazyLock;
 
+use second::forms::Reply;
 use second::program::{Program, Second, NO_KEEPER, NO_RECORDS};
 use second::rules::{Flaw, Rules};
 
 use claim::ClaimTrial;
+use kinds::{kind_of, KINDS};
 use rounds::ROUNDS;
 use trial::{Comparison, Mismatch, SessionTrial};
+use watch::{Counting, Law, Watch};
 
 static SESSIONS: LazyLock<Vec<Vec<SessionTrial>>> = LazyLock::new(|| every(rounds::sessions));
 static CLAIMS: LazyLock<Vec<Vec<ClaimTrial>>> = LazyLock::new(|| every(rounds::claims));
@@ -42,7 +53,7 @@ fn claims() -> impl Iterator<Item = &'static dyn Comparison> {
     CLAIMS.iter().flat_map(|trials| as_comparisons(trials))
 }
 
-/// Restarts, keepers, records and sessions, round by round.
+/// Restarts, changeovers, keepers, records and sessions, round by round.
 fn trials() -> impl Iterator<Item = &'static dyn Comparison> {
     let rounds = OTHERS.iter().zip(SESSIONS.iter());
     rounds.flat_map(|(others, sessions)| {
@@ -86,106 +97,6 @@ fn assert_notices_every_flaw(program: &dyn Program) {
     for &flaw in Flaw::ALL {
         let steps = mismatch_by(flaw, trials(), program).steps;
         assert!(steps <= 66, "{flaw:?} is shown by {steps} steps");
-    }
-}
-
-#[cfg(feature = "library")]
-mod library {
-    use super::*;
-    use second::library::Library;
-    use second::program::SPARE;
-    use trial::{polled, used_buffer, Played};
-
-    #[test]
-    fn its_sessions_agree() {
-        assert_agrees(sessions(), &Library);
-    }
-
-    #[test]
-    fn its_restarts_keepers_and_records_agree() {
-        assert_agrees(OTHERS.iter().flatten().map(Box::as_ref), &Library);
-    }
-
-    #[test]
-    fn it_recovers() {
-        assert_agrees(claims(), &Library);
-    }
-
-    /// The switch once more: a broken rule differs from the library, not only from the paper.
-    #[test]
-    fn each_broken_rule_differs_from_it() {
-        assert_notices_every_flaw(&Library);
-    }
-
-    /// It asks for 2,741 free bytes before each line, and does not write past what is lent.
-    #[test]
-    fn it_says_when_the_replies_do_not_fit() {
-        let ends = |trial: &SessionTrial| trial.pieces.iter().all(|piece| piece.ends_with(b"\n"));
-        for trial in rounds::sessions(0).into_iter().filter(ends) {
-            let played = Played::by(&Library, &trial.pieces, trial.room);
-            let length = played.length.expect("there is room");
-            let last = played.replies().last().map_or(0, |reply| reply.len() + 1);
-            let enough = length - last + SPARE;
-            for room in [0, SPARE - 1, length, enough - 1, enough, enough + 1] {
-                let (mut log, mut out) = (used_buffer(trial.room), used_buffer(room));
-                let given = Library.session(&trial.pieces.concat(), &mut log, &mut out);
-                assert_eq!(given, (room >= enough).then_some(length));
-                if given.is_some() {
-                    assert_eq!((&log, &out[..]), (&played.log, &played.out[..room]));
-                }
-                let (mut log, mut out) = (used_buffer(trial.room), used_buffer(room));
-                let (input, mut polls) = (trial.pieces.concat(), polled());
-                assert_eq!(Library.session_polls(&input, &mut log, &mut out, &mut polls), given);
-                assert_eq!(polls == polled(), given.is_none());
-            }
-        }
-    }
-
-    #[test]
-    fn it_says_when_the_reply_of_a_restart_does_not_fit() {
-        for (log, reply) in [("(site 1)\n", "(ok 0 9)\n"), ("(site 0)\n", "(refused 15)\n")] {
-            for room in 0..20 {
-                let mut out = used_buffer(room);
-                let given = Library.restart(log.as_bytes(), log.len(), &mut out);
-                let mut expected = used_buffer(room);
-                if let Some(front) = expected.get_mut(..reply.len()) {
-                    front.copy_from_slice(reply.as_bytes());
-                }
-                assert_eq!(given, (room >= reply.len()).then_some(reply.len()));
-                assert_eq!(out, expected);
-            }
-        }
-    }
-
-    #[test]
-    fn it_asks_for_sixteen_places() {
-        let line = b"(did 5 (inc 0 1 1 513))\n";
-        for count in [0, 1, 15, 16, 17, 1000] {
-            for (used, number) in [(24, Library::NOT_SIXTEEN), (23, NO_KEEPER), (25, NO_KEEPER)] {
-                let mut out = used_buffer(30);
-                let given = Library.hand_out_above(line, used, &vec![0; count], &mut out);
-                if (count, used) == (16, 24) {
-                    assert_eq!((given, &out[..24]), (Ok(24), &line[..]));
-                } else {
-                    assert_eq!((given, out), (Err(number), used_buffer(30)));
-                }
-            }
-        }
-    }
-
-    /// A sample of everything, which the script `valgrind` runs.
-    #[test]
-    #[ignore = "its trials are among those above"]
-    fn a_sample_agrees() {
-        let paper = Second::from_paper();
-        let agree = |trial: &dyn Comparison| {
-            assert!(trial.mismatch_at_end(&paper, &Library).is_none());
-        };
-        as_comparisons(&rounds::sessions(0)).for_each(agree);
-        as_comparisons(&rounds::claims(0)).for_each(agree);
-        for round in [0, 1, 11] {
-            rounds::others(round).iter().map(Box::as_ref).for_each(agree);
-        }
     }
 }
 
@@ -246,9 +157,91 @@ fn the_recovery_claim_notices_broken_rules() {
     }
 }
 
+/// Lists in which marks come often, under a law.
+fn claims_with_marks(law: Law) -> Vec<ClaimTrial> {
+    (0..ROUNDS).flat_map(|round| rounds::claims_with_marks(round, law)).collect()
+}
+
+/// The claim holds where stable lines are lost and kept, lines are live again and ids come again.
+#[test]
+fn the_recovery_claim_holds_with_stable_lines() {
+    let lists = claims_with_marks(Law::PAPER);
+    let count = |met: fn(&ClaimTrial) -> bool| lists.iter().filter(|list| met(list)).count();
+    let (lost, kept) =
+        (count(ClaimTrial::loses_stable_lines), count(ClaimTrial::keeps_stable_lines));
+    let (live, again) =
+        (count(ClaimTrial::has_lines_live_again), count(ClaimTrial::uses_an_id_again));
+    println!("stable lines lost {lost}, kept {kept}, live again {live}, ids again {again}");
+    assert!(lost >= 200 && kept >= 500 && live >= 500 && again >= 200);
+    assert_recovers_with_marks(&Second::from_paper());
+}
+
+/// The claim holds of a program for lists in which marks come often, and for every order in which
+/// few lost lines come again.
+fn assert_recovers_with_marks(program: &dyn Program) {
+    let lists = claims_with_marks(Law::PAPER);
+    let orders: Vec<ClaimTrial> = lists.iter().flat_map(ClaimTrial::every_order).collect();
+    println!("{} lists, {} orders", lists.len(), orders.len());
+    assert!(orders.len() >= 10_000);
+    for trial in as_comparisons(&lists).chain(as_comparisons(&orders)) {
+        if let Some(mismatch) = trial.mismatch(program, program) {
+            panic!("{}", mismatch.report);
+        }
+    }
+}
+
+/// The claim holds where the list starts at a site restarted from a log, also one with more than 64
+/// did lines that was changed over.
+#[test]
+fn the_recovery_claim_holds_from_any_log() {
+    let (mut lost, mut long) = (0, 0);
+    for trial in (0..ROUNDS).flat_map(rounds::claims_from_logs) {
+        let start = trial.start.as_deref().unwrap_or_default();
+        lost += trial.size().expect("the claim speaks of the list").0;
+        long += usize::from(start.iter().filter(|&&byte| byte == b'\n').count() > 66);
+        let program = Second::from_paper().starting_from(start);
+        if let Some(mismatch) = trial.mismatch(&program, &program) {
+            panic!("{}", mismatch.report);
+        }
+    }
+    println!("{lost} lines lost, {long} lists from long logs");
+    assert!(lost >= 1000 && long >= 100);
+}
+
+/// None of these rules can be spared: where one is weakened, there is a list, fair by what is left,
+/// after which the claim does not hold.
+#[test]
+fn the_recovery_claim_needs_the_rules_of_stable_lines() {
+    for law in [
+        Law::broken(Flaw::StableLeavesAtOnce),
+        Law::broken(Flaw::CoveredByTheLineBefore),
+        Law::broken(Flaw::StableWhileRestoring),
+        Law::counting(Counting::NotCovered),
+        Law::counting(Counting::NotKept),
+    ] {
+        let program = Second::new(&format!("{law:?}"), law.rules);
+        let lists = claims_with_marks(law);
+        let broken = as_comparisons(&lists).filter_map(|list| list.mismatch(&program, &program));
+        let shortest = broken.min_by_key(|mismatch| mismatch.steps);
+        let mismatch = shortest.unwrap_or_else(|| panic!("nothing shows {law:?}"));
+        println!("{} steps: {}", mismatch.steps, mismatch.report);
+        assert!(mismatch.steps <= 20, "{law:?} is shown by {} steps", mismatch.steps);
+    }
+}
+
 #[test]
 fn the_laws_hold_after_every_line() {
     SESSIONS.iter().flatten().step_by(4).for_each(laws::check);
+}
+
+#[test]
+fn restarts_show_what_the_log_says() {
+    (0..ROUNDS).flat_map(rounds::restarts).for_each(|trial| laws::check_restart(&trial));
+}
+
+#[test]
+fn changed_over_logs_restart() {
+    (0..ROUNDS).flat_map(rounds::upgrades).for_each(|trial| laws::check_changeover(&trial));
 }
 
 /// The trials are many, and they meet every refusal and every kind of reply.
@@ -271,6 +264,7 @@ fn the_trials_reach_everything() {
             .chain([17])
             .map(|number| format!("(refused {number})"))
             .chain(refusals("poll ", &[3, 14]))
+            .chain(refusals("upgrade ", &[12, 13, 15]))
             .chain(refusals("keep ", &[1, 2, 3, 4, 5, 8, 12, 13, 20, NO_KEEPER]))
             .chain(refusals("drop ", &[3, 13, NO_KEEPER]))
             .chain(refusals("hand out ", &[12, 13, NO_KEEPER]))
@@ -283,6 +277,30 @@ fn the_trials_reach_everything() {
         let times = met.get(&kind).copied().unwrap_or(0);
         assert!(times >= 10, "{kind} is met {times} times");
     }
+}
+
+/// Stable lines are written often, reports cover them, and cuts keep them with live lines behind.
+#[test]
+fn the_trials_make_stable() {
+    let (mut written, mut covered, mut kept) = (0, 0, 0);
+    for trial in SESSIONS.iter().flatten() {
+        let mut watch = Watch::new(trial.room, Law::PAPER);
+        let mut marks = (0, 0);
+        for piece in &trial.pieces {
+            let answer = watch.answer(piece);
+            let Some(site) = watch.session.site() else { continue };
+            let now = (site.stable_mark(), site.left_mark());
+            if let Ok(Reply::Restarted { .. }) = answer {
+                kept += usize::from(now.0 > 0 && site.live() > 0);
+            } else {
+                written += usize::from(now.0 > marks.0);
+                covered += usize::from(now.1 > marks.1);
+            }
+            marks = now;
+        }
+    }
+    println!("{written} stable lines, {covered} reports that cover, {kept} cuts that keep some");
+    assert!(written >= 5000 && covered >= 2000 && kept >= 2000);
 }
 
 /// Operations are overtaken often: one, several, and several whose ids do not rise.
@@ -299,67 +317,4 @@ fn the_trials_overtake() {
     }
     println!("{finishes} finishes, {some} overtake, {several} several, {falling} not rising");
     assert!(some >= 5000 && several >= 1000 && falling >= 500);
-}
-
-/// Replies to a redo that are kept as they are: no log has so few bytes that a cut replies them.
-const LOOKS: [&str; 5] = ["(ok 0 1)", "(ok 0 2)", "(ok 1 1)", "(ok 1 3)", "(ok 2 3)"];
-
-/// The kinds of replies, refusals aside.
-const KINDS: [&str; 38] = [
-    "(ok)",
-    "(ok (ready N))",
-    "(ok (ready))",
-    "(ok N (values N)(ready N)(overtaken N))",
-    "(ok N (values N)(ready N)(overtaken))",
-    "(ok N (values N)(ready)(overtaken N))",
-    "(ok N (values N)(ready)(overtaken))",
-    "(ok (dry N))",
-    "(ok (dry))",
-    "(ok (histories N)(dry N))",
-    "(ok (histories N)(dry))",
-    "(ok (histories)(dry N))",
-    "(ok (histories)(dry))",
-    "(ok (histories N))",
-    "(ok (histories))",
-    "(ok N N)",
-    "(ok 0 1)",
-    "(ok 0 2)",
-    "(ok 1 1)",
-    "(ok 1 3)",
-    "(ok 2 3)",
-    "(ok (waiting N))",
-    "(ok (waiting))",
-    "(history N)",
-    "poll dry",
-    "poll not dry",
-    "restart (ok N N)",
-    "restart (refused 13)",
-    "restart (refused 15)",
-    "keep ok",
-    "drop ok",
-    "hand out ok",
-    "record ok",
-    "report persistent",
-    "report not persistent",
-    "question persistent",
-    "question not persistent",
-    "forget ok",
-];
-
-/// A reply with N for its numbers and lists of them, but for refusals and few lines run.
-fn kind_of(reply: &str) -> String {
-    if reply.contains("refused ") || LOOKS.contains(&reply) {
-        return reply.to_string();
-    }
-    let mut kind = String::new();
-    for letter in reply.chars() {
-        let letter = if letter.is_ascii_digit() { 'N' } else { letter };
-        if letter != 'N' || !kind.ends_with('N') {
-            kind.push(letter);
-        }
-    }
-    while !kind.ends_with("(ok N N)") && kind.contains("N N") {
-        kind = kind.replace("N N", "N");
-    }
-    kind
 }

@@ -5,24 +5,26 @@ use second::site::Site;
 
 use crate::claim::ClaimTrial;
 use crate::damage;
+use crate::kept::{KeeperCall, KeeperTrial, Kept};
 use crate::made_up::{self, Care, Now};
+use crate::mood::{Habit, Mood};
 use crate::random::Random;
 use crate::recorded;
-use crate::scribe::{Mood, Scribe};
-use crate::trial::{
-    used_buffer, Comparison, KeeperCall, KeeperTrial, Kept, RestartTrial, SessionTrial,
-};
+use crate::scribe::Scribe;
+use crate::trial::{used_buffer, Comparison, RestartTrial, SessionTrial, UpgradeTrial};
+use crate::watch::{is_did, Law};
 
 /// All rounds together make well over 200,000 calls.
 pub const ROUNDS: u64 = 160;
 
-/// The restarts, keepers and records of a round.
+/// The restarts, changeovers, keepers and records of a round.
 pub fn others(round: u64) -> Vec<Box<dyn Comparison>> {
     let restarts = restarts(round).into_iter().map(boxed);
+    let upgrades = upgrades(round).into_iter().map(boxed);
     let keepers = keepers(round).into_iter().map(boxed);
     let mut random = seeded(5, round);
     let records = (0..12).map(|_| boxed(recorded::any(&mut random)));
-    restarts.chain(keepers).chain(records).collect()
+    restarts.chain(upgrades).chain(keepers).chain(records).collect()
 }
 
 fn boxed<T: Comparison + 'static>(trial: T) -> Box<dyn Comparison> {
@@ -66,7 +68,8 @@ fn full_log_mood() -> Mood {
         room: Site::LONGEST_LOG,
         care: Care { fits: 98, edges: 0 },
         damage: 1,
-        hoards: false,
+        repeats: 5,
+        habit: Habit::Plain,
     }
 }
 
@@ -79,16 +82,16 @@ fn session(random: &mut Random, mood: Mood, lines: usize) -> SessionTrial {
     SessionTrial::new(scribe.pieces, mood.room)
 }
 
-/// A session that logs some lines and is not restoring, with its log.
+/// A session that logs some lines, stable ones among them, and is not restoring, with its log.
 fn sample(random: &mut Random, lines: usize) -> (Vec<Vec<u8>>, Vec<u8>, u64) {
     loop {
         let mut mood = Mood::careful(random);
-        (mood.hoards, mood.care.edges) = (false, 3);
+        (mood.habit, mood.care.edges) = (random.pick(&[Habit::Plain, Habit::Settles]), 3);
         let mut scribe = Scribe::new(random, mood);
         scribe.write(lines);
         let log = scribe.log[..scribe.used()].to_vec();
         if let Some(site) = scribe.session.site() {
-            if site.done() > 4 && !site.is_restoring() {
+            if site.done() > 4 && site.stable_mark() > 0 && !site.is_restoring() {
                 return (scribe.pieces, log, site.count());
             }
         }
@@ -100,7 +103,7 @@ fn sample(random: &mut Random, lines: usize) -> (Vec<Vec<u8>>, Vec<u8>, u64) {
 fn cuts_at_every_byte(random: &mut Random) -> Vec<SessionTrial> {
     let (pieces, log, histories) = sample(random, 22);
     let text = String::from_utf8_lossy(&log);
-    let lines: Vec<&str> = text.lines().skip(1).collect();
+    let lines: Vec<&str> = text.lines().filter(|line| is_did(line)).collect();
     let mut trials = Vec::new();
     for kept in 0..=log.len() + 1 {
         let (mut pieces, unwatched) = (pieces.clone(), pieces.len());
@@ -122,13 +125,17 @@ fn cuts_at_every_byte(random: &mut Random) -> Vec<SessionTrial> {
     trials
 }
 
-/// Restarts: from made-up logs; now and then from a log damaged at every byte and line and cut
+/// Restarts: from made-up logs, some of them with about 64 live lines; now and then from a log damaged at every byte and line and cut
 /// everywhere, and from long ones.
-fn restarts(round: u64) -> Vec<RestartTrial> {
+pub fn restarts(round: u64) -> Vec<RestartTrial> {
     let mut random = seeded(2, round);
     let mut trials = Vec::new();
     for _ in 0..40 {
         let kept = made_up::log(&mut random);
+        trials.push(RestartTrial { kept, rest: used_buffer(random.index(30)), above: 0 });
+    }
+    for _ in 0..4 {
+        let kept = made_up::long_log(&mut random);
         trials.push(RestartTrial { kept, rest: used_buffer(random.index(30)), above: 0 });
     }
     if round % 16 == 1 {
@@ -146,6 +153,38 @@ fn restarts(round: u64) -> Vec<RestartTrial> {
     }
     if round % 16 == 9 {
         trials.extend(long_restarts(&mut random));
+    }
+    trials
+}
+
+/// Changeovers: of made-up logs, older and newer ones, with and without room for the stable line;
+/// now and then of a log damaged at every byte and line and cut everywhere.
+pub fn upgrades(round: u64) -> Vec<UpgradeTrial> {
+    let mut random = seeded(6, round);
+    let mut trials = Vec::new();
+    for _ in 0..30 {
+        let log = match random.below(6) {
+            0 => made_up::log(&mut random),
+            1 => made_up::without_marks(&made_up::long_log(&mut random)),
+            _ => made_up::without_marks(&made_up::log(&mut random)),
+        };
+        let kept = if random.percent(30) { random.between(0, log.len()) } else { log.len() };
+        let rest = match random.below(12) {
+            0 => Site::LONGEST_LOG + 1 - kept.min(Site::LONGEST_LOG),
+            1 => Site::LONGEST_LOG - kept.min(Site::LONGEST_LOG),
+            _ => random.between(0, 30),
+        };
+        let above = if random.percent(5) { rest + random.pick(&[1, 2, 1000]) } else { 0 };
+        let (kept, rest) = (log[..kept].to_vec(), used_buffer(rest));
+        trials.push(UpgradeTrial { kept, rest, above });
+    }
+    if round % 16 == 13 {
+        let log = made_up::without_marks(&sample(&mut random, 16).1);
+        let mut damaged = [damage::every_byte(&log), damage::every_line(&log)].concat();
+        damaged.extend((0..=log.len()).map(|kept| log[..kept].to_vec()));
+        for kept in damaged {
+            trials.push(UpgradeTrial { kept, rest: used_buffer(random.index(20)), above: 0 });
+        }
     }
     trials
 }
@@ -339,4 +378,18 @@ pub fn claims(round: u64) -> Vec<ClaimTrial> {
     let mut random = seeded(4, round);
     let lists = [5, 10, 15, 20, 40, 80, 160, 320];
     lists.into_iter().map(|most| ClaimTrial::any(&mut random, most)).collect()
+}
+
+/// Lists for the recovery claim in which marks come often, under a law.
+pub fn claims_with_marks(round: u64, law: Law) -> Vec<ClaimTrial> {
+    let mut random = seeded(7, round);
+    let lists = [8, 12, 16, 20, 30, 60].repeat(6);
+    lists.into_iter().map(|most| ClaimTrial::with_marks(&mut random, most, law)).collect()
+}
+
+/// Lists for the recovery claim that start at a site restarted from a log.
+pub fn claims_from_logs(round: u64) -> Vec<ClaimTrial> {
+    let mut random = seeded(8, round);
+    let lists = [8, 16, 30, 60, 120];
+    lists.into_iter().map(|most| ClaimTrial::from_log(&mut random, most)).collect()
 }

@@ -6,49 +6,12 @@ use second::rules::Rules;
 use second::session::Session;
 use second::site::{History, Site};
 
+use crate::book::id_of;
 use crate::damage;
-use crate::made_up::{self, Care, Now};
+use crate::made_up::{self, Now};
+use crate::mood::{Habit, Mood};
 use crate::random::{Random, EDGES};
-
-/// What a session is like.
-#[derive(Clone, Copy)]
-pub struct Mood {
-    pub histories: u64,
-    /// The bytes of the log buffer.
-    pub room: usize,
-    pub care: Care,
-    /// How often, in a hundred, a line is damaged.
-    pub damage: u64,
-    /// Whether operations stay live and the table fills up.
-    pub hoards: bool,
-}
-
-impl Mood {
-    pub fn any(random: &mut Random) -> Mood {
-        let room = match random.below(20) {
-            0 => random.between(0, 40),
-            1..=7 => random.between(40, 400),
-            8..=13 => random.between(500, 3500),
-            14 => random.between(65_530, 65_540),
-            _ => Site::LONGEST_LOG,
-        };
-        Mood {
-            histories: random.pick(&[1, 1, 2, 2, 3, 4, 8, 16, 16]),
-            room,
-            care: Care { fits: random.pick(&[60, 80, 90, 97]), edges: random.pick(&[0, 0, 4, 20]) },
-            damage: random.pick(&[0, 0, 3, 12]),
-            hoards: random.percent(25),
-        }
-    }
-
-    /// A mood in which much gets done.
-    pub fn careful(random: &mut Random) -> Mood {
-        let histories = random.pick(&[1, 2, 3, 4, 6, 16]);
-        let hoards = random.percent(50);
-        let room = Site::LONGEST_LOG;
-        Mood { histories, room, care: Care { fits: 95, edges: 1 }, damage: 1, hoards }
-    }
-}
+use crate::watch::{is_did, Watch};
 
 #[derive(Clone, Copy, PartialEq)]
 enum Kind {
@@ -65,19 +28,20 @@ enum Kind {
     Long,
 }
 
-/// How often each kind of line comes while the site works, works and hoards, or restores.
-const KINDS: [(Kind, [u64; 3]); 11] = [
-    (Kind::Site, [1, 0, 1]),
-    (Kind::Add, [36, 110, 2]),
-    (Kind::Finish, [34, 80, 1]),
-    (Kind::Withdraw, [5, 5, 1]),
-    (Kind::Persistent, [7, 2, 5]),
-    (Kind::Stable, [5, 1, 3]),
-    (Kind::Show, [4, 2, 4]),
-    (Kind::Cut, [3, 1, 5]),
-    (Kind::Redo, [1, 0, 70]),
-    (Kind::End, [1, 0, 5]),
-    (Kind::Long, [1, 0, 1]),
+/// How often each kind of line comes while the site works, hoards, settles, restores, or restores
+/// in order to settle.
+const KINDS: [(Kind, [u64; 5]); 11] = [
+    (Kind::Site, [1, 0, 0, 1, 0]),
+    (Kind::Add, [36, 110, 34, 2, 2]),
+    (Kind::Finish, [34, 80, 34, 1, 1]),
+    (Kind::Withdraw, [5, 5, 2, 1, 1]),
+    (Kind::Persistent, [7, 2, 24, 5, 5]),
+    (Kind::Stable, [5, 1, 14, 3, 5]),
+    (Kind::Show, [4, 2, 2, 4, 2]),
+    (Kind::Cut, [3, 1, 3, 5, 3]),
+    (Kind::Redo, [1, 0, 0, 70, 25]),
+    (Kind::End, [1, 0, 0, 5, 20]),
+    (Kind::Long, [1, 0, 0, 1, 0]),
 ];
 
 /// Writes a session line by line.
@@ -96,9 +60,21 @@ pub struct Scribe<'r> {
 
 impl<'r> Scribe<'r> {
     pub fn new(random: &'r mut Random, mood: Mood) -> Scribe<'r> {
+        Scribe::by(Rules::PAPER, random, mood)
+    }
+
+    /// One who goes on from where a session stands.
+    pub fn going_on(random: &'r mut Random, mood: Mood, watch: Watch) -> Scribe<'r> {
+        let ids = watch.text().lines().filter(|line| is_did(line)).map(id_of).collect();
+        let (session, log) = (watch.session.clone(), watch.log.clone());
+        Scribe { session, log, ids, ..Scribe::new(random, mood) }
+    }
+
+    /// One beside whom a session by these rules runs along.
+    pub fn by(rules: Rules, random: &'r mut Random, mood: Mood) -> Scribe<'r> {
         Scribe {
             random,
-            session: Session::new(Rules::PAPER),
+            session: Session::new(rules),
             log: vec![0; mood.room],
             pieces: Vec::new(),
             mood,
@@ -141,7 +117,7 @@ impl<'r> Scribe<'r> {
         let used = self.used();
         let _ = self.session.answer(line, &mut self.log);
         let lost = String::from_utf8_lossy(&self.log[self.used().min(used)..used]);
-        for line in lost.lines() {
+        for line in lost.lines().filter(|line| is_did(line)) {
             if !self.lost.iter().any(|known| known == line) {
                 self.lost.push(line.to_string());
             }
@@ -163,10 +139,13 @@ impl<'r> Scribe<'r> {
     }
 
     fn next_line(&mut self) -> Vec<u8> {
-        let column = match self.session.site() {
-            Some(site) if site.is_restoring() => 2,
-            Some(_) if self.mood.hoards => 1,
-            _ => 0,
+        let restoring = self.session.site().map(Site::is_restoring);
+        let column = match (restoring, self.mood.habit) {
+            (None, _) | (Some(false), Habit::Plain) => 0,
+            (Some(false), Habit::Hoards) => 1,
+            (Some(false), Habit::Settles) => 2,
+            (Some(true), Habit::Plain | Habit::Hoards) => 3,
+            (Some(true), Habit::Settles) => 4,
         };
         let kind = self.random.weighted(&KINDS.map(|(kind, weights)| (weights[column], kind)));
         let in_vain = kind == Kind::Finish && self.pending_ids(true).is_empty();
@@ -273,13 +252,25 @@ impl<'r> Scribe<'r> {
     /// An id: mostly a new one, above or below those before it.
     fn id(&mut self) -> u64 {
         let id = match self.random.below(100) {
-            0..=4 if !self.ids.is_empty() => self.random.pick(&self.ids),
-            5..=6 => self.random.pick(&EDGES),
-            7..=30 => 1_000_000 - self.ids.len() as u64,
+            again if again < self.mood.repeats && !self.ids.is_empty() => self.known_id(),
+            95..=96 => self.random.pick(&EDGES),
+            71..=94 => 1_000_000 - self.ids.len() as u64,
             _ => self.ids.len() as u64 + 5,
         };
         self.ids.push(id);
         id
+    }
+
+    /// An id that came before; where much gets stable, mostly one that has left the table.
+    fn known_id(&mut self) -> u64 {
+        let left = self.session.site().map_or(0, Site::left_mark) as usize;
+        let log = String::from_utf8_lossy(&self.log[..self.used()]);
+        let gone: Vec<u64> =
+            log.lines().filter(|line| is_did(line)).take(left).map(id_of).collect();
+        if gone.is_empty() || self.mood.habit != Habit::Settles || self.random.percent(20) {
+            return self.random.pick(&self.ids);
+        }
+        self.random.pick(&gone)
     }
 
     fn version(&mut self, rule: Rule, history: u64) -> u64 {
@@ -336,9 +327,9 @@ impl<'r> Scribe<'r> {
     fn mark(&mut self, reached: u64, most: u64) -> u64 {
         match self.random.below(20) {
             0 => most + 1,
-            1 => reached,
-            2 => self.random.pick(&EDGES),
-            3..=9 => most,
+            1..=4 => reached,
+            5 => self.random.pick(&EDGES),
+            6..=12 => most,
             _ => reached + self.random.below(most - reached + 1),
         }
     }

@@ -5,7 +5,6 @@ use std::fmt::Write;
 use std::ops::Range;
 use std::sync::LazyLock;
 
-use second::keeper::Places;
 use second::program::{Outcome, Program, BUSY, DRY, SPARE};
 use second::site::Site;
 
@@ -131,7 +130,7 @@ pub fn used_buffer(length: usize) -> Vec<u8> {
 }
 
 /// The lines of some bytes, each with its end but perhaps the last.
-fn lines_of(bytes: &[u8]) -> Vec<Vec<u8>> {
+pub fn lines_of(bytes: &[u8]) -> Vec<Vec<u8>> {
     bytes.split_inclusive(|&byte| byte == b'\n').map(<[u8]>::to_vec).collect()
 }
 
@@ -341,128 +340,57 @@ impl Trial for RestartTrial {
     }
 }
 
-/// A call of a keeper.
-#[derive(Clone, Debug)]
-pub enum KeeperCall {
-    Keep(Vec<u8>),
-    Drop { history: u64, place: u64 },
-    HandOut { kept: Places, room: usize },
-}
-
-impl KeeperCall {
-    fn word(&self) -> &'static str {
-        match self {
-            KeeperCall::Keep(_) => "keep",
-            KeeperCall::Drop { .. } => "drop",
-            KeeperCall::HandOut { .. } => "hand out",
-        }
-    }
-}
-
-/// Calls of one keeper with a buffer of some length.
+/// The changeover of an older log in the first bytes of a buffer.
 #[derive(Clone)]
-pub struct KeeperTrial {
-    /// The bytes that are said to be in use before the calls, perhaps more than the buffer's.
-    pub start: Vec<u8>,
-    pub calls: Vec<KeeperCall>,
-    pub room: usize,
+pub struct UpgradeTrial {
+    /// The bytes that are the log.
+    pub kept: Vec<u8>,
+    /// The bytes of the buffer behind them.
+    pub rest: Vec<u8>,
+    /// How far the number of bytes that are the log is above those that are.
+    pub above: usize,
 }
 
-impl KeeperTrial {
-    /// The keeper of a program before the calls.
-    pub fn kept<'p>(&self, program: &'p dyn Program) -> Kept<'p> {
-        let mut kept = Kept::new(program, self.room);
-        let length = self.start.len().min(self.room);
-        kept.buffer[..length].copy_from_slice(&self.start[..length]);
-        kept.used = self.start.len();
-        kept
+impl UpgradeTrial {
+    /// What a program gives, and the buffer after it.
+    pub fn outcome(&self, program: &dyn Program) -> (Outcome, Vec<u8>) {
+        let mut buffer = [self.kept.as_slice(), &self.rest].concat();
+        (program.upgrade(&mut buffer, self.kept.len() + self.above), buffer)
     }
 }
 
-/// A keeper of one program with its buffer.
-pub struct Kept<'p> {
-    program: &'p dyn Program,
-    pub buffer: Vec<u8>,
-    pub used: usize,
-}
-
-impl<'p> Kept<'p> {
-    pub fn new(program: &'p dyn Program, room: usize) -> Kept<'p> {
-        Kept { program, buffer: used_buffer(room), used: 0 }
-    }
-
-    /// Makes a call; gives its outcome and the second buffer.
-    pub fn call(&mut self, call: &KeeperCall) -> (Outcome, Vec<u8>) {
-        let (program, buffer, used) = (self.program, &mut self.buffer, self.used);
-        let outcome = match call {
-            KeeperCall::Keep(line) => program.keep(buffer, used, line),
-            KeeperCall::Drop { history, place } => {
-                program.drop_up_to(buffer, used, *history, *place)
-            }
-            KeeperCall::HandOut { kept, room } => {
-                let mut out = used_buffer(*room);
-                return (program.hand_out(buffer, used, kept, &mut out), out);
-            }
-        };
-        self.used = outcome.unwrap_or(self.used);
-        (outcome, Vec::new())
-    }
-}
-
-impl Trial for KeeperTrial {
-    /// The calls, then the lines that are there before them.
+impl Trial for UpgradeTrial {
     fn steps(&self) -> usize {
-        self.calls.len() + lines_of(&self.start).len()
+        lines_of(&self.kept).len()
     }
 
-    fn without(&self, steps: Range<usize>) -> KeeperTrial {
-        let calls = self.calls.len();
-        let part = |from: usize, to: usize| steps.start.clamp(from, to)..steps.end.clamp(from, to);
-        let (from_calls, lines) = (part(0, calls), part(calls, self.steps()));
-        let start =
-            without(&lines_of(&self.start), lines.start - calls..lines.end - calls).concat();
-        KeeperTrial { start, calls: without(&self.calls, from_calls), room: self.room }
+    fn without(&self, steps: Range<usize>) -> UpgradeTrial {
+        UpgradeTrial { kept: without(&lines_of(&self.kept), steps).concat(), ..self.clone() }
     }
 
     fn shown(&self) -> String {
-        let mut shown = format!("keeper with a buffer of {} bytes:\n", self.room);
-        shown.push_str(&shown_lines(lines_of(&self.start).iter()));
-        for call in &self.calls {
-            let line = match call {
-                KeeperCall::Keep(line) => format!("    keep {}\n", line.escape_ascii()),
-                other => format!("    {other:?}\n"),
-            };
-            shown.push_str(&line);
-        }
-        shown
+        let lines = shown_lines(lines_of(&self.kept).iter());
+        let (rest, above) = (self.rest.len(), self.above);
+        format!("changeover, {rest} bytes behind, {above} bytes above:\n{lines}")
     }
 
     fn calls(&self) -> usize {
-        self.calls.len()
+        1
     }
 
     fn replies(&self, program: &dyn Program) -> Vec<String> {
-        let mut kept = self.kept(program);
-        let reply = |call| match kept.call(call).0 {
-            Ok(_) => format!("{} ok", call.word()),
-            Err(number) => format!("{} refused {number}", call.word()),
-        };
-        self.calls.iter().map(reply).collect()
+        vec![match self.outcome(program).0 {
+            Ok(_) => "upgrade ok".to_string(),
+            Err(number) => format!("upgrade refused {number}"),
+        }]
     }
 
     fn difference(&self, left: &dyn Program, right: &dyn Program) -> Option<String> {
-        let (mut left, mut right) = (self.kept(left), self.kept(right));
-        self.calls.iter().enumerate().find_map(|(at, call)| {
-            let ((first, out), (second, other_out)) = (left.call(call), right.call(call));
-            let what = if first != second {
-                format!("gives {first:?}, or {second:?}")
-            } else if let Some(byte) = first_difference(&left.buffer, &right.buffer) {
-                format!("leaves byte {byte} of the buffer different")
-            } else {
-                let byte = first_difference(&out, &other_out)?;
-                format!("leaves byte {byte} of the second buffer different")
-            };
-            Some(format!("call {} {what}\n", at + 1))
-        })
+        let ((first, buffer), (second, other)) = (self.outcome(left), self.outcome(right));
+        if first != second {
+            return Some(format!("the outcomes are {first:?} and {second:?}\n"));
+        }
+        let byte = first_difference(&buffer, &other)?;
+        Some(format!("byte {byte} of the buffer differs\n"))
     }
 }

@@ -1,0 +1,194 @@
+//! The rules of the papers that can be broken on purpose, so that a comparison of programs can be
+//! shown to notice it.
+
+/// Lists the flaws as an enum and as an array.
+macro_rules! flaws {
+    ($($(#[$words:meta])* $name:ident,)*) => {
+        /// A rule of the paper, broken on purpose.
+        #[derive(Clone, Copy, Debug, PartialEq, Eq)]
+        pub enum Flaw {
+            $($(#[$words])* $name,)*
+        }
+
+        impl Flaw {
+            pub const ALL: &'static [Flaw] = &[$(Flaw::$name,)*];
+        }
+    };
+}
+
+flaws! {
+    /// A number may have leading zeros.
+    LeadingZeros,
+    /// A number above 2^64 - 1 is read as 0.
+    LargeNumberIsZero,
+    /// A line of 1,024 bytes is too long.
+    LineLimitCountsItsEnd,
+    /// Updates after the fourth are forgotten.
+    FifthUpdateForgotten,
+    /// `unk` is a word of a log.
+    UnkInTheLog,
+    /// The last refusal that applies is given, not the first.
+    RefusalsFalling,
+    /// U < C is asked for "already executed", not U ≤ C.
+    EqualVersionIsNew,
+    /// `set` may run at the version that the history has.
+    SetRunsAgain,
+    /// `set` at the version that the history has waits.
+    EqualSetWaits,
+    /// `inc` follows 2^64 - 1 by 0.
+    IncAfterTheLastVersion,
+    /// `unk` may run at version 2^64 - 1.
+    UnkAtTheLastVersion,
+    /// `unk` waits at version 2^64 - 1.
+    UnkWaitsAtTheLastVersion,
+    /// An added `unk` is not refused at version 2^64 - 1.
+    UnkAddedAtTheLastVersion,
+    /// Readers block each other.
+    ReadersBlockReaders,
+    /// A reader in progress does not block a writer.
+    WritersPassReaders,
+    /// Part 0 is the byte worth most.
+    PartsFromTheTop,
+    /// A part above 3 is out of range, as it was before 02 (c).
+    FourParts,
+    /// The parts above 3 stay as they are when a profile is set.
+    SetKeepsUpperParts,
+    /// Only strong updates raise the place.
+    PlaceForStrongOnly,
+    /// 64 live operations are one too many.
+    TableFullOneEarly,
+    /// The log is full one byte early.
+    LogFullOneByteEarly,
+    /// A refused finish leaves its line in the log buffer.
+    WritesWhenRefused,
+    /// A logged line changes the byte behind it.
+    WritesPastTheLine,
+    /// An operation in progress can be withdrawn.
+    WithdrawsRunning,
+    /// An overtaken operation waits until it is withdrawn, as it did before 02 (b).
+    KeepsOvertaken,
+    /// A finish drops operations in progress too.
+    DropsRunning,
+    /// A finish names the operations that it drops by their ids.
+    OvertakenById,
+    /// A finish without room in the log drops what it would have overtaken.
+    DropsWhenRefused,
+    /// A waiting redo line that can never run is dropped.
+    DropsWaiting,
+    /// A volatile update keeps no history from being dry.
+    DryWhileVolatile,
+    /// All dry histories are named, not only those that became dry.
+    NamesAllDry,
+    /// A `not` keeps no history from being dry.
+    DryWhileRead,
+    /// A waiting redo keeps its histories from being dry.
+    WetWhileWaiting,
+    /// A poll of a history that is not there calls it dry.
+    PollsPastTheLast,
+    /// A poll is refused while restoring.
+    PollsAfterRestoring,
+    /// A history counts as risen when it was only read.
+    ReadingRaises,
+    /// "Stable n" stays below what is persistent.
+    StableBelowPersistent,
+    /// Restart counts a torn last line.
+    TornLineCounted,
+    /// Restart does not look at the places.
+    RestartIgnoresPlaces,
+    /// After a restart the persistent and stable versions are 0.
+    RestartForgetsMarks,
+    /// A stable operation leaves the table at the stable call.
+    StableLeavesAtOnce,
+    /// A stable line is covered by a report of the did line before it too.
+    CoveredByTheLineBefore,
+    /// Only a report of a did line after it covers a stable line.
+    CoveredByLaterLinesOnly,
+    /// A report of a number that was reached before covers nothing.
+    CoveredByNewReportsOnly,
+    /// A stable call is accepted while restoring.
+    StableWhileRestoring,
+    /// A stable call that is not above the mark is refused while restoring.
+    ReachedStableRefused,
+    /// A stable call at the mark writes its line again.
+    ReachedStableWritten,
+    /// A stable call without room in the log is refused 13 before 12.
+    StableLimitBeforeRoom,
+    /// Restart calls every kept line stable, as it did before 02 (g).
+    RestartAllStable,
+    /// Restart takes a first stable line of 0.
+    StableZeroKept,
+    /// Restart takes a stable line that says what the last one says.
+    StableTwiceKept,
+    /// Restart takes a stable line above the did lines before it.
+    StableAboveDidsKept,
+    /// Restart takes 65 live lines.
+    KeepsOneLiveMore,
+    /// Restart refuses 64 live lines.
+    KeepsOneLiveLess,
+    /// Restart takes two live lines of one id.
+    KeepsIdsTwice,
+    /// Restart asks for room in the table before it knows the last stable line.
+    TableAskedEarly,
+    /// The changeover writes its stable line behind a torn rest.
+    UpgradesBehindTheRest,
+    /// The changeover gives a log without did lines a stable line.
+    UpgradesBareLogs,
+    /// The changeover reads stable lines.
+    UpgradesNewLogs,
+    /// The changeover refuses what restart would have no table for.
+    UpgradesSmallLogsOnly,
+    /// Redo goes by the version alone.
+    RedoByVersionAlone,
+    /// Only one waiting line runs after a delivery.
+    DrainsOnce,
+    /// Of the waiting lines that can run, the latest delivered goes first.
+    DrainsLatestFirst,
+    /// Redo counts the lines that waited, not how often it looked at them.
+    ExaminesEachLineOnce,
+    /// Redo counts its examinations from the new line back.
+    ExaminesTheNewLineFirst,
+    /// Redo counts an examination where no line waits any more.
+    ExaminesWhenNoneWaits,
+    /// Waiting lines hold their room in the log twice.
+    WaitingHoldsTwice,
+    /// `end` names the waiting lines in the order of their ids.
+    EndNamesById,
+    /// An unended rest of input gets no reply.
+    RestIgnored,
+    /// The keeper takes a line that it holds.
+    KeeperTakesCopies,
+    /// The keeper takes a line in conflict with one that it holds.
+    KeeperTakesConflicts,
+    /// Lines whose updates stand in another order are in no conflict.
+    ConflictsInOrderOnly,
+    /// Lines of one id are in conflict at other places too.
+    ConflictsById,
+    /// Lines that differ in a rule, version or operand are in no conflict.
+    ConflictsByOrderOnly,
+    /// A full keeper refuses a line in conflict with 12.
+    ConflictsAfterFull,
+    /// The keeper is full one byte early.
+    KeeperFullOneByteEarly,
+    /// The keeper does not drop the line at the place that it is told.
+    KeeperDropsBelowOnly,
+    /// The keeper clears the bytes of dropped lines.
+    KeeperClearsDropped,
+    /// The keeper hands out the line at the kept place too.
+    KeeperHandsOutKept,
+    /// The keeper hands out the latest arrival first.
+    KeeperHandsOutBackwards,
+    /// The keeper takes bytes for its own that end in the middle of a line.
+    KeeperKeepsTornLine,
+    /// Reports of copies without details count too.
+    BareCopiesCount,
+    /// A report that comes twice takes the first one back.
+    ReportsTakenBack,
+    /// More full copies than the threshold says must report.
+    AboveTheThreshold,
+    /// A 65th record is accepted.
+    RecordsOneMore,
+    /// A new record has the reports of the forgotten one in whose place it stands.
+    ReportsOutliveRecords,
+    /// A full copy at a site not sent to is asked about before the threshold.
+    ThresholdAskedLast,
+}
