@@ -12,3 +12,5 @@ pub mod Polls
 pub mod PollCallLaws
 pub mod Changeovers
 pub mod ChangeoverLaws
+pub mod Trims
+pub mod TrimLaws

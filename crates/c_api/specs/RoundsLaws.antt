@@ -20,7 +20,7 @@ use Rattle.site.specs.declared.CallResult.{CallResult}
 use Rattle.site.specs.Representation.{Sound}
 use Rattle.site.specs.Model.{Lent, view, Valid, Does, Opens}
 use Rattle.site.specs.OpenLaws.{blankSite}
-use Rattle.site.specs.Trim.{padded, updatesHeld}
+use Rattle.site.specs.Trim.{updatesHeld}
 use Rattle.stream.specs.Logging.{overlaid}
 use Rattle.stream.specs.LoggingLaws.{over-site}
 use Rattle.c_api.specs.Rounds.{written, Reaches, incOf, roundCalls, roundsCalls, markedIf, workCalls, Rounds}
@@ -155,5 +155,4 @@ rounds-stand (ok st a) n id old c mid t new d e same r =
 
 -- One update is held of one that is counted.
 pub held-one : (h v : ℕ) → (xs : List Asked) → updatesHeld (record { count = 1; first = asAsked (incOf h v) ∷ xs }) ≡ incOf h v ∷ []
-unfolding padded
 held-one h v xs = refl

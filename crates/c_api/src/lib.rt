@@ -5,4 +5,5 @@ pub mod polls;
 pub mod record_calls;
 pub mod restart;
 pub mod rounds;
+pub mod trims;
 pub mod upgrade;

@@ -13,7 +13,7 @@ use Rattle.forms.specs.ListLaws.{T-true, true-T, false-T, and-intro, and-left, 
 use Rattle.forms.specs.Forms.{Did, didText, Answer}
 use Rattle.forms.specs.declared.Refusal.the-variants.{OutOfTurn, TableFull}
 use Rattle.rules.specs.State.{State, Reply, refused, ok, settle, live}
-use Rattle.rules.specs.Calls.{Call, Add, Finish, Withdraw, Persistent, Stable, Show, Cut, Redo, End, step}
+use Rattle.rules.specs.Calls.{Call, Add, Finish, Withdraw, Persistent, Stable, Show, Cut, Changeover, Redo, End, step}
 use Rattle.rules.specs.When.{stepWhen}
 use Rattle.rules.specs.WhenLaws.{step-ten}
 use Rattle.rules.specs.CheckLaws.{unless-check, or-false-right}
@@ -142,6 +142,7 @@ call-promise (Persistent n) s out A = omega arith
 call-promise (Stable n) s out A = omega arith
 call-promise (Show h) s out A = omega arith
 call-promise (Cut k room) s out A = A .more
+call-promise (Changeover n room) s out A = A .more
 call-promise (Redo line) s out A = omega arith
 call-promise End s out A = absurd (out refl)
 

@@ -10,16 +10,17 @@ use Rattle.forms.specs.Decimal.{digitsWithin, digits, more, number}
 use Rattle.forms.specs.Forms.{Did, Answer, Restarted, fieldText, fieldsText, itemsText, tailText, listText, changeText, oneText}
 use Rattle.forms.specs.Forms.{siteText, didText, stableText, lineText}
 use Rattle.forms.specs.Reading as reading
-use Rattle.forms.specs.Reading.{readDid, readLine, readSite, readWhole}
+use Rattle.forms.specs.Reading.{readBase, readDid, readLine, readSite, readWhole}
 use Rattle.forms.specs.declared.DoneRule.the-variants.{DidInc}
 use Rattle.forms.specs.declared.Refusal.the-variants.{TableFull, AboveLimit, BadLog}
 use Rattle.rules.specs.Rules.{profileOf, replacedWith}
-use Rattle.rules.specs.Book.{enteredWith, enterWith, enterAllWith, cellFromWith, cellWith, touches, runsAt, canRunWith}
-use Rattle.rules.specs.Log.{stablesFrom, stablesAt, weaveFrom, markFrom, upToDid, reported, ended, didsText, linesText, logText, linesFrom}
+use Rattle.rules.specs.Book.{startCell, enteredWith, enterWith, enterAllWith, cellFromWith, cellWith, touches, runsAt, canRunWith}
+use Rattle.rules.specs.Log.{readSecond, baseFits, inOrder, headText, stablesFrom, stablesAt, weaveFrom, markFrom, upToDid, reported, ended}
+use Rattle.rules.specs.Log.{didsText, linesText, logText, linesFrom}
 use Rattle.rules.specs.Log.{restFrom, historiesFit, acceptsWith, rises, follows, liveIn, tableHolds, readLines, readFirst, readLog}
 use Rattle.rules.specs.Checks.{check, andThen, wrongCount, noSuchHistory, historyTwice, updateMisfits, changeMisfitsWith, formRefusal}
 use Rattle.rules.specs.Checks.{updatesRefusal, changesRefusalWith}
-use Rattle.rules.specs.Calls.{neverNow, holdsNever, overtaken, notOvertaken, overtakenIds, atHighest}
+use Rattle.rules.specs.Calls.{baseCut, neverNow, holdsNever, overtaken, notOvertaken, overtakenIds, atHighest}
 use Rattle.rules.specs.Calls.{Cut, unless, openFull, openRefusal, opened, openSite, blockedBy, blocked, mayRunNow, ready, attempt, tryFrom}
 use Rattle.rules.specs.Calls.{madeReady}
 use Rattle.rules.specs.Calls.{nothingOrders, idPending, idDone, alreadyDone, readOvertaken, tableFull, addRefusal, arrived, add, changeOf}
@@ -42,7 +43,18 @@ operations (suc n) = record { id = n; updates = []; running = false } ∷ operat
 -- a site with n operations live
 having : ℕ → Bool → State
 having n r =
-    record { histories = 1; room = 1000; log = []; stables = []; pending = operations n; waiting = []; persistentTo = 0; leftTo = 0; restoring = r }
+    record {
+      histories = 1;
+      room = 1000;
+      base = none;
+      log = [];
+      stables = [];
+      pending = operations n;
+      waiting = [];
+      persistentTo = 0;
+      leftTo = 0;
+      restoring = r;
+    }
 
 abbrev at : ℕ → Slot
 at n = record { site = some (having n false); promise = 16 }
@@ -120,6 +132,7 @@ forty =
     record {
       histories = 1;
       room = 65536;
+      base = none;
       log = dones 40;
       stables = record { behind = 40; upTo = 40 } ∷ [];
       pending = [];
@@ -146,5 +159,5 @@ record Forty : Type 0 where
   whole : answerTo (replyOf (At 0 (Cut 994 65536)) crowded) ≡ some (Restarted 40 994)
 
 forty-cut : Forty
-unfolding replacedWith profileOf enteredWith enterWith enterAllWith cellFromWith cellWith touches runsAt canRunWith unless openFull openRefusal opened openSite blockedBy blocked mayRunNow ready attempt tryFrom madeReady neverNow holdsNever overtaken notOvertaken overtakenIds nothingOrders idPending idDone alreadyDone readOvertaken atHighest tableFull addRefusal arrived add changeOf lineOf valuesAfter inProgress future without logFull finished finishFound finish withdrawRefusal withdraw persistent aboveMark stableFull stableRefusal stabled stable show restarted restartAs restart cutAbove cut stale redoRefusal behind pick drain delivered redoRead redo end writableUpdate writable perform step check andThen wrongCount noSuchHistory historyTwice updateMisfits changeMisfitsWith formRefusal updatesRefusal changesRefusalWith stablesFrom stablesAt weaveFrom markFrom upToDid reported ended didsText linesText logText linesFrom restFrom historiesFit acceptsWith rises follows liveIn tableHolds readLines readFirst readLog logBytes versionAt liveDone live asks dry becameDry rose lineBytes bytesOf settle below digitsWithin digits more number word fieldText fieldsText itemsText tailText listText changeText oneText siteText didText stableText lineText reading.field reading.doneRule reading.change reading.one reading.did reading.items reading.tail reading.line readWhole readDid readLine readSite addWhen redoReadWhen redoWhen lastly cutWhen performWhen stepWhen slotAt withSlot others liveOf lacks free taken uncovered meetsTen promisedAgain replyOf promiseOf nextOf operations having dones forty answerTo
+unfolding replacedWith profileOf enteredWith enterWith enterAllWith cellFromWith cellWith startCell touches runsAt canRunWith unless openFull openRefusal opened openSite blockedBy blocked mayRunNow ready attempt tryFrom madeReady neverNow holdsNever overtaken notOvertaken overtakenIds nothingOrders idPending idDone alreadyDone readOvertaken atHighest tableFull addRefusal arrived add changeOf lineOf valuesAfter inProgress future without logFull finished finishFound finish withdrawRefusal withdraw persistent aboveMark stableFull stableRefusal stabled stable show restarted restartAs restart cutAbove baseCut cut stale redoRefusal behind pick drain delivered redoRead redo end writableUpdate writable perform step check andThen wrongCount noSuchHistory historyTwice updateMisfits changeMisfitsWith formRefusal updatesRefusal changesRefusalWith stablesFrom stablesAt weaveFrom markFrom upToDid reported ended didsText linesText logText headText linesFrom restFrom historiesFit acceptsWith rises follows liveIn tableHolds inOrder baseFits readLines readSecond readFirst readLog logBytes versionAt liveDone live asks dry becameDry rose lineBytes bytesOf settle below digitsWithin digits more number word fieldText fieldsText itemsText tailText listText changeText oneText siteText didText stableText lineText reading.field reading.doneRule reading.change reading.one reading.did reading.items reading.tail reading.line readWhole readDid readLine reading.baseCell reading.base readBase readSite addWhen redoReadWhen redoWhen lastly cutWhen performWhen stepWhen slotAt withSlot others liveOf lacks free taken uncovered meetsTen promisedAgain replyOf promiseOf nextOf operations having dones forty answerTo
 forty-cut = record { ten = refl; above = refl; torn = refl; sixteen = refl; seventeen = refl; whole = refl }

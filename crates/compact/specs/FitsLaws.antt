@@ -17,14 +17,15 @@ use Rattle.rules.specs.Checks.{check}
 use Rattle.rules.specs.Log.{readLog}
 use Rattle.forms.specs.Limits.{liveLimit}
 use Rattle.rules.specs.State.{State, Reply, refused, ok, live, settle}
-use Rattle.rules.specs.Calls.{unless, tableFull, restart, Call, Add, Finish, Withdraw, Persistent, Stable, Show, Cut, Redo, End, step}
+use Rattle.rules.specs.Calls.{unless, tableFull, restart, Call, Add, Finish, Withdraw, Persistent, Stable, Show, Cut, Changeover, Redo, End}
+use Rattle.rules.specs.Calls.{step}
 use Rattle.rules.specs.When.{lastly, stepWhen, meets}
 use Rattle.rules.specs.WhenLaws.{when-ok, ten-why, ten-met, ten-exactly, lastly-ten, lastly-ok, lastly-why, restart-not-ten, unless-over}
 use Rattle.rules.specs.WhenLaws.{unless-not-ten, check-not-ten, none-not-ten, isTenth, differs, refused-same}
 use Rattle.rules.specs.Good.{Good}
 use Rattle.rules.specs.GoodLaws.{good-step, good-open, good-restart}
 use Rattle.rules.specs.CheckLaws.{refused-not-ok, unless-ok, unless-check, not-lt, or-false-left}
-use Rattle.rules.specs.LiveLaws.{takes, live-step, live-opened, restores, restoring-step, restoring-restarted}
+use Rattle.rules.specs.LiveLaws.{takes, live-step, live-changeover, live-opened, restores, restoring-step, restoring-restarted}
 use Rattle.compact.specs.Module.{slotLimit, entryLimit, least, Slot, Module, slotAt, withSlot, others, liveIn, restoringIn, openedIn}
 use Rattle.compact.specs.Module.{liveOf, taken, uncovered, keptLive, meetsTen, restartsSite, promisedAgain, promiseAfter, Move, At}
 use Rattle.compact.specs.Module.{Open, Restart, slotOf, callAt, replyOf, promiseOf, settleIn, nextOf, runAll}
@@ -135,6 +136,10 @@ module _ (i : ℕ) (m : Module) (F : Fits m) (st : State) (at : slotAt i m .site
         new-fits (promisedAgain (slotAt i m)) (slot-again .low) (slot-again .high) (λ off. absurd (true-false (e ∙ off)))
         (let c =
         covered i m F below (keptLive (step (Cut n room) st)) (T-false _ free) in omega (arith, slot-again .within, parted i m F below))
+    by-call (Changeover n room) le free e k =
+        new-fits (promisedAgain (slotAt i m)) (slot-again .low) (slot-again .high) (λ off. absurd (true-false (e ∙ off)))
+        (let c = covered i m F below (keptLive (step (Changeover n room) st)) (T-false _ free) in
+        omega (arith, slot-again .within, parted i m F below))
     by-call (Redo line) le free e k =
         stays 1 le (inl (room-left (T-false (taken i m) (λ t. free (or-left (taken i m) (tableFull st) t))))) e
     by-call End le free e k = new-fits least (omega arith) (omega arith) (λ off. refl) (omega (arith, part, slot-good .promised))
@@ -237,7 +242,7 @@ module _ (i : ℕ) (m : Module) (F : Fits m) (st : State) (at : slotAt i m .site
   unfolding tableFull
   not-own lt t = let le = leb→le liveLimit (live st) t in omega (arith, slot-good i m F st at .mayUse)
 
-  -- A cut that keeps no more live than the site had or is promised.
+  -- A cut or changeover that keeps no more live than the site had or is promised.
   not-again : (kept : ℕ) → kept ≤ max (live st) (slotAt i m .promise) → T (uncovered i kept m) → ⊥
   not-again kept le t = omega (arith, uncovered-is i m F (below i m F st at) kept t, part i m F st at)
 
@@ -255,6 +260,7 @@ module _ (i : ℕ) (m : Module) (F : Fits m) (st : State) (at : slotAt i m .site
   none-meets lt (Stable n) on t = t
   none-meets lt (Show h) on t = t
   none-meets lt (Cut k room) on t = true-false on
+  none-meets lt (Changeover n room) on t = true-false on
   none-meets lt (Redo line) on t = go (or-cases (taken i m) (tableFull st) t)
     where
       go : T (taken i m) ⊎ T (tableFull st) → ⊥
@@ -277,6 +283,17 @@ module _ (i : ℕ) (m : Module) (F : Fits m) (st : State) (at : slotAt i m .site
   cut-never k room le e =
       not-again (keptLive (step (Cut k room) st)) le
       (ten-why (meetsTen i (Cut k room) st m) (Cut k room) st (sym (call-is (Cut k room)) ∙ e))
+
+  -- A changeover is never refused 10, whatever the neighbours did: it leaves no more live than were.
+  pub changeover-never : (n room : ℕ) → replyOf (At i (Changeover n room)) m ≡ refused TableFull → ⊥
+  unfolding meetsTen
+  changeover-never n room e =
+      not-again (keptLive (step (Changeover n room) st)) (few (step (Changeover n room) st) refl)
+      (ten-why (meetsTen i (Changeover n room) st m) (Changeover n room) st (sym (call-is (Changeover n room)) ∙ e))
+    where
+      few : (x : Reply) → step (Changeover n room) st ≡ x → keptLive x ≤ max (live st) (slotAt i m .promise)
+      few (refused r) q = omega arith
+      few (ok after answer) q = omega (arith, live-changeover n room st after answer (slot-good i m F st at .good st at) q)
 
   -- "exactly": a cut that the site alone accepts is refused 10 exactly when its kept live lines and the others' claims exceed the table.
   pub cut-exactly : (k room : ℕ) (after : State) (answer : Answer) → step (Cut k room) st ≡ ok after answer →

@@ -10,7 +10,8 @@ use Rattle.forms.specs.Reading.{readDid}
 use Rattle.forms.specs.declared.Refusal.the-variants.{Unreadable, OutOfTurn}
 use Rattle.rules.specs.Checks.{check}
 use Rattle.rules.specs.State.{State, Reply, refused, ok, live}
-use Rattle.rules.specs.Calls.{unless, openSite, restart, Call, Add, Finish, Withdraw, Persistent, Stable, Show, Cut, Redo, End, writable, step}
+use Rattle.rules.specs.Calls.{unless, openSite, restart, Call, Add, Finish, Withdraw, Persistent, Stable, Show, Cut, Changeover, Redo, End}
+use Rattle.rules.specs.Calls.{writable, step}
 use Rattle.rules.specs.When.{lastly, stepWhen}
 
 -- ### The module
@@ -102,6 +103,7 @@ meetsTen i (Persistent n) st m = false
 meetsTen i (Stable n) st m = false
 meetsTen i (Show h) st m = false
 meetsTen i (Cut k room) st m = uncovered i (keptLive (step (Cut k room) st)) m
+meetsTen i (Changeover n room) st m = uncovered i (keptLive (step (Changeover n room) st)) m
 meetsTen i (Redo line) st m = taken i m
 meetsTen i End st m = false
 
@@ -114,6 +116,7 @@ restartsSite (Persistent n) = false
 restartsSite (Stable n) = false
 restartsSite (Show h) = false
 restartsSite (Cut k room) = true
+restartsSite (Changeover n room) = true
 restartsSite (Redo line) = false
 restartsSite End = false
 
@@ -132,6 +135,7 @@ promiseAfter (Persistent n) s = s .promise
 promiseAfter (Stable n) s = s .promise
 promiseAfter (Show h) s = s .promise
 promiseAfter (Cut k room) s = promisedAgain s
+promiseAfter (Changeover n room) s = promisedAgain s
 promiseAfter (Redo line) s = s .promise
 promiseAfter End s = least
 
@@ -159,6 +163,7 @@ readable (Persistent n) = writable (Persistent n)
 readable (Stable n) = writable (Stable n)
 readable (Show h) = writable (Show h)
 readable (Cut k room) = writable (Cut k room)
+readable (Changeover n room) = writable (Changeover n room)
 readable (Redo line) = elim (readDid line) [ got d rest ↦ true | bad ↦ false ]
 readable End = true
 

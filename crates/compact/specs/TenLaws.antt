@@ -17,7 +17,7 @@ use Rattle.rules.specs.Checks.{check}
 use Rattle.rules.specs.Log.{logText}
 use Rattle.forms.specs.Limits.{liveLimit, logLimit}
 use Rattle.rules.specs.State.{State, Reply, refused, ok, logBytes, linesIn, live}
-use Rattle.rules.specs.Calls.{unless, tableFull, restart, Call, Add, Finish, Withdraw, Persistent, Stable, Show, Cut, Redo, End}
+use Rattle.rules.specs.Calls.{unless, tableFull, restart, Call, Add, Finish, Withdraw, Persistent, Stable, Show, Cut, Changeover, Redo, End}
 use Rattle.rules.specs.When.{lastly, stepWhen}
 use Rattle.rules.specs.WhenExactly.{ComesToTen, takesEntry, entry-exactly}
 use Rattle.rules.specs.CheckLaws.{refused-not-ok, none-check, unless-none, le-not-lt}
@@ -46,6 +46,7 @@ module _ (i : ℕ) (m : Module) (F : Fits m) (st : State) (at : slotAt i m .site
   flag-is (Stable n) t = absurd (true-false (sym t))
   flag-is (Show h) t = absurd (true-false (sym t))
   flag-is (Cut k room) t = absurd (true-false (sym t))
+  flag-is (Changeover n room) t = absurd (true-false (sym t))
   flag-is (Redo line) t = refl
   flag-is End t = absurd (true-false (sym t))
 
@@ -131,7 +132,7 @@ module _ (i counts : ℕ) (start : Module) (F : Fits start) (site : State) (at :
   abbrev count : ℕ
   count = countedIn (inSlot i) counts xs start
 
-  module _ (k room : ℕ) (enough : length (logText (now .histories) (take count (linesIn now))) ≤ k)
+  module _ (k room : ℕ) (enough : length (logText (now .histories) (now .base) (take count (linesIn now))) ≤ k)
       (within : k ≤ length (logBytes now)) (fits : k ≤ room) (limit : room ≤ logLimit) (wide : now .room ≤ room) where
     -- A cut of at least the bytes of the lines counted persistent, in a buffer that is no shorter, is accepted, whatever the neighbours
     -- did.

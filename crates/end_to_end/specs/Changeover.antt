@@ -1,17 +1,18 @@
--- "At the changeover" (02, (g)): an older log, changed over by the code's `upgrade` and then restarted by its `Site::restart`, starts a list of
--- calls of the recovery claim (`SiteCallsClaim`), with its own did lines, all of them persistent and stable, and nothing live.
+-- "At the changeover" (02, (g)): an older log, changed over by the code's `upgrade` and then restarted by its `Site::restart`, starts a
+-- list of calls of the recovery claim (`SiteCallsClaim`), with its own did lines, all of them persistent and stable, and nothing live.
 use native.Mathlib.Omega.{arith}
-use mathlib.Core.Path.{_≡_, sym, ap, ap₂, _∙_, subst}
+use mathlib.Core.Path.{_≡_, refl, sym, ap, ap₂, _∙_, subst}
 use mathlib.Core.List.{List, _++_, map}
+use mathlib.Core.Option.{Option, none}
 use Prim.Native.Nat.{ℕ, _^_, _<_}
 use lib.ListN.{length, take, drop}
 use Rattle.forms.specs.Lists.{below}
-use Rattle.forms.specs.Forms.{Did, Line, didLine, Restarted}
-use Rattle.rules.specs.Book.{cell, cellWith}
-use Rattle.rules.specs.Log.{dids, journal, logText}
+use Rattle.forms.specs.Forms.{Base, Did, Line, didLine, Restarted}
+use Rattle.rules.specs.Book.{blankBase, cell, cellWith}
+use Rattle.rules.specs.Log.{dids, closing, journal, logText}
 use Rattle.rules.specs.State.{State, Reply, ok, linesIn, logBytes, stableTo, live}
 use Rattle.rules.specs.Calls.{restart, restarted}
-use Rattle.rules.specs.OldLog.{readOldWith, readOld, closing, Upgrade, notUpgraded, upgrade, upgraded}
+use Rattle.rules.specs.OldLog.{readOldWith, readOld, Upgrade, notUpgraded, upgrade, upgraded}
 use Rattle.rules.specs.OldLogLaws.{Upgraded, upgrade-holds, RestartsAs, upgraded-restarts}
 use Rattle.rules.specs.OlderLogs.{olderParts, read-alike}
 use Rattle.rules.specs.WeaveLaws.{dids-map}
@@ -34,10 +35,12 @@ pub record ChangedOver (old : List ℕ) (k used : ℕ) (x : Memory) : Type 0 whe
   -- the did lines of the older log, "read and refused as before"
   pub n : ℕ
   pub log : List Did
-  pub read : readOld (take k old) ≡ journal n (map didLine log)
+  pub read : readOld (take k old) ≡ journal n none (map didLine log)
   pub same : stateIn x .log ≡ log
+  -- it gets no base line
+  pub noBase : stateIn x .base ≡ none
   -- "is given a stable line of their number behind its whole lines"
-  pub bytes : logIn x ≡ logText n (map didLine log ++ closing (length log))
+  pub bytes : logIn x ≡ logText n none (map didLine log ++ closing 0 (length log))
   -- "the bytes used are replied"; the bytes past them are as they were
   pub inUse : x .site .used ≡ used
   pub past : drop used (x .lent .log) ≡ drop used old
@@ -46,11 +49,12 @@ pub record ChangedOver (old : List ℕ) (k used : ℕ) (x : Memory) : Type 0 whe
   pub stable : stableTo (stateIn x) ≡ length log
   pub nothing : live (stateIn x) ≡ 0
   -- of a log of four parts, each history has the profile, version and place that it had, the profile below 2^32
-  pub older : (m : ℕ) (lines : List Line) → readOldWith olderParts (take k old) ≡ journal m lines → (h : ℕ) →
-      (cell h (stateIn x .log) ≡ cellWith olderParts h (dids lines)) × (cell h (stateIn x .log) .profile < 2 ^ 32)
+  pub older : (m : ℕ) (lines : List Line) → readOldWith olderParts (take k old) ≡ journal m none lines → (h : ℕ) →
+      (cell blankBase h (stateIn x .log) ≡ cellWith olderParts blankBase h (dids lines))
+      × (cell blankBase h (stateIn x .log) .profile < 2 ^ 32)
 
--- For every older log that is changed over, whatever is lent beside its buffer: by the contracts of `upgrade`, which replies the bytes used and
--- leaves `buffer`, and of `Site::restart`.
+-- For every older log that is changed over, whatever is lent beside its buffer: by the contracts of `upgrade`, which replies the bytes
+-- used and leaves `buffer`, and of `Site::restart`.
 abbrev pub ChangeoverClaim : Type 0
 ChangeoverClaim =
     (old : List ℕ) (k : ℕ) (c : Changeover) (buffer : List ℕ) → Upgrades (upgrade old k) old c buffer → (used : ℕ) → c ≡ Used used →
@@ -58,11 +62,16 @@ ChangeoverClaim =
     ChangedOver old k used (memory (r .site) new)
 
 -- The log of a restarted site is the text of the lines that it was given.
-restarted-bytes : (room n : ℕ) (lines : List Line) → logBytes (restarted room n lines) ≡ logText n lines
+restarted-bytes : (room n : ℕ) (β : Option Base) (lines : List Line) → logBytes (restarted room n β lines) ≡ logText n β lines
 unfolding logBytes restarted
-restarted-bytes room n lines = ap (logText n) (lines-restarted room n lines)
+restarted-bytes room n β lines = ap (logText n β) (lines-restarted room n β lines)
 
-same-lines : (n m : ℕ) (a b : List Line) → journal n a ≡ journal m b → a ≡ b
+-- .. and its base line the one that it was given.
+restarted-base : (room n : ℕ) (β : Option Base) (lines : List Line) → restarted room n β lines .base ≡ β
+unfolding restarted
+restarted-base room n β lines = refl
+
+same-lines : (n m : ℕ) (a b : List Line) → journal n none a ≡ journal m none b → a ≡ b
 same-lines n m a b e = cc
 
 -- A changeover that replies the bytes used has written what the specification writes.
@@ -83,6 +92,7 @@ changeover old k c buffer over used replied m is r new opens =
       log = U .log;
       read = U .read;
       same = same-log;
+      noBase = ap (λ (s : State). s .base) (A .state) ∙ restarted-base (length buffer) (U .n) none _;
       bytes = text;
       inUse = in-use;
       past =
@@ -95,8 +105,8 @@ changeover old k c buffer over used replied m is r new opens =
           let log-is : dids lines ≡ x-log =
           ap dids (same-lines i (U .n) lines (map didLine (U .log)) (sym (alike .accepted) ∙ U .read)) ∙ dids-map (U .log)
           ∙ sym same-log in (
-            sym (ap (cell h) log-is) ∙ alike .book h,
-            subst (λ (l : List Did). cell h l .profile < 2 ^ 32) log-is (alike .low h),
+            sym (ap (cell blankBase h) log-is) ∙ alike .book h,
+            subst (λ (l : List Did). cell blankBase h l .profile < 2 ^ 32) log-is (alike .low h),
           );
     }
   where
@@ -104,7 +114,7 @@ changeover old k c buffer over used replied m is r new opens =
     U = upgrade-holds old k buffer used (written-by (upgrade old k) old c buffer over used replied)
 
     site : State
-    site = restarted (length buffer) (U .n) (map didLine (U .log) ++ closing (length (U .log)))
+    site = restarted (length buffer) (U .n) none (map didLine (U .log) ++ closing 0 (length (U .log)))
 
     S : RestartsAs buffer used (U .n) (U .log) site
     S = upgraded-restarts old buffer k used U
@@ -124,10 +134,10 @@ changeover old k c buffer over used replied m is r new opens =
     begins : StartsSite (length (linesIn (stateIn (memory (r .site) new)))) (memory (r .site) new)
     begins = site-calls.restarted used m r new site (Restarted (length (U .log)) used) opens accepted
 
-    text : logIn (memory (r .site) new) ≡ logText (U .n) (map didLine (U .log) ++ closing (length (U .log)))
+    text : logIn (memory (r .site) new) ≡ logText (U .n) none (map didLine (U .log) ++ closing 0 (length (U .log)))
     text =
         log-bytes (memory (r .site) new) (A .valid) ∙ ap logBytes (A .state)
-        ∙ restarted-bytes (length buffer) (U .n) (map didLine (U .log) ++ closing (length (U .log)))
+        ∙ restarted-bytes (length buffer) (U .n) none (map didLine (U .log) ++ closing 0 (length (U .log)))
 
     in-use : r .site .used ≡ used
     in-use = used-in (memory (r .site) new) (A .valid) ∙ ap length text ∙ sym (U .used-is)

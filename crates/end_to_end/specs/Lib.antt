@@ -12,8 +12,11 @@ pub mod Stations
 pub mod Code
 pub mod SiteCalls
 pub mod SiteCallsLaws
+pub mod TrimCalls
 pub mod Changeover
+pub mod SiteInstance
 pub mod SiteSample
+pub mod TrimSample
 pub mod RefusedReply
 pub mod OlderExamples
 pub mod BesideLines

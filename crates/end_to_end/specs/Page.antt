@@ -11,7 +11,7 @@ use Rattle.forms.specs.Decimal.{Step}
 use Rattle.forms.specs.Decimal.Step.{got, bad}
 use Rattle.forms.specs.Forms.{Command, Did, Answer, Shown, Ended, didText, commandText, answerText}
 use Rattle.forms.specs.Reading.{readCommand}
-use Rattle.rules.specs.Book.{Cell, cell}
+use Rattle.rules.specs.Book.{Cell, blankBase, cell}
 use Rattle.rules.specs.Log.{ended, linesOf, restOf, historiesFit}
 use Rattle.forms.specs.Limits.{logLimit}
 use Rattle.rules.specs.State.{State, ok, stableTo, versionAt}
@@ -99,12 +99,13 @@ pub record MarkedPaper
     Type 0 where
   -- the recovery claim of the paper's calls, all of it: what has run, the log's bytes, who waits, and what the book was fed
   pub recovered : Recovered before after (lostBy before after) chosen came final
-  -- "At the end `show` of each history gives the book's profile, version and place": the last line is the marking sheet
-  pub prints : (h : ℕ) → h < n → Prints room (cutFitting n first k later) h (cell h (after .log ++ recovered .fed)) final
+  -- "At the end `show` of each history gives the book's profile, version and place": the last line is the marking sheet. The book starts
+  -- from nothing: a session has no word for a trim, so its log has no base line
+  pub prints : (h : ℕ) → h < n → Prints room (cutFitting n first k later) h (cell blankBase h (after .log ++ recovered .fed)) final
   -- "if every lost line was chosen, also those just before the picked cut": what `(show H)` prints in the place of the cut
   pub printsFirst : ((d : Did) → Mem d (lostBy before after) → T (chosen d)) → (h : ℕ) → h < n →
-      Prints room (fitting n first) h (cell h (before .log)) before
-      × Prints room (cutFitting n first k later) h (cell h (before .log)) final
+      Prints room (fitting n first) h (cell blankBase h (before .log)) before
+      × Prints room (cutFitting n first k later) h (cell blankBase h (before .log)) final
   -- "`end` would name the other chosen lines in the order in which each first came after the last accepted cut."
   pub printsOthers : PrintsWaiting room (cutFitting n first k later) (didIds (recovered .others))
 

@@ -1,9 +1,8 @@
 -- The claim at the printed page, proved.
 use mathlib.Core.Path.{_≡_, refl, sym, ap, ap₂, _∙_, subst}
 use mathlib.Core.Bool.{Bool, false, not}
-use mathlib.Core.Option.{none, some}
-use mathlib.Core.List.{List, [], _∷_, _++_, append-assoc, append-nil}
-use mathlib.Core.List.{List·Memᴰ as Mem}
+use mathlib.Core.Option.{Option, none, some}
+use mathlib.Core.List.{List, [], _∷_, _++_, append-assoc, append-nil, List·Memᴰ as Mem}
 use Prim.Native.Nat.{ℕ, _≤_, _<_}
 use native.Mathlib.Omega.{arith}
 use lib.Dec.{T, leb, leb→le, ltb}
@@ -13,15 +12,15 @@ use Rattle.forms.specs.Decimal.Step.{got, bad}
 use Rattle.forms.specs.DecimalLaws.{digits-at-most}
 use Rattle.forms.specs.Words.{bytes}
 use Rattle.forms.specs.ListLaws.{true-T, T-true}
-use Rattle.forms.specs.Forms.{Command, Did, Answer, Outcome, Opened, Shown, Ended, oneText, siteText, didText, commandText, answerText}
-use Rattle.forms.specs.Forms.{outcomeText}
+use Rattle.forms.specs.Forms.{Base, Command, Did, Answer, Outcome, Opened, Shown, Ended, oneText, siteText, didText, commandText}
+use Rattle.forms.specs.Forms.{answerText, outcomeText}
 use Rattle.forms.specs.Reading.{readCommand}
 use Rattle.forms.specs.declared.Refusal.the-variants.{Unreadable, WrongCount, NoSuchHistory, NoRoom, AboveLimit}
 use Rattle.forms.specs.CommandLaws.{command-written}
-use Rattle.rules.specs.Book.{Cell, cell}
+use Rattle.rules.specs.Book.{Cell, blankBase, baseOf, cell}
 use Rattle.rules.specs.Log.{ended, historiesFit}
 use Rattle.forms.specs.Limits.{logLimit}
-use Rattle.rules.specs.State.{State, Reply, refused, ok, settle, stableTo, versionAt}
+use Rattle.rules.specs.State.{State, Reply, refused, ok, settle, startOf, stableTo, versionAt}
 use Rattle.rules.specs.Calls.{openFull, openRefusal, openSite, opened, Call, show, writable, perform, step}
 use Rattle.rules.specs.CheckLaws.{check-none, none-check, unless-none, le-not-lt, unless-ok, unless-check, not-false}
 use Rattle.rules.specs.LogLaws.{histories-most}
@@ -37,8 +36,8 @@ use Rattle.recovery.specs.Ending.{closed-every, just-all, just-one}
 use Rattle.recovery.specs.Recovery.{run-append, show-is, recovery}
 use Rattle.recovery.specs.Cuts.{ok-state}
 use Rattle.end_to_end.specs.FrameLaws.{Frame, frame-lines}
-use Rattle.end_to_end.specs.Page.{callOf, callRead, callsOf, Text, fitting, cutFitting, asking}
-use Rattle.end_to_end.specs.Page.{sheet, Prints, PrintsWaiting, PageClaim, ProgramClaim}
+use Rattle.end_to_end.specs.Page.{callOf, callRead, callsOf, Text, fitting, cutFitting, asking, sheet, Prints, PrintsWaiting}
+use Rattle.end_to_end.specs.Page.{PageClaim, ProgramClaim}
 
 -- ### A line of a session with a site
 
@@ -169,11 +168,12 @@ shown h st c (p, q, e) =
 -- If every lost line was chosen, each history shows at the end what the book of the first log holds.
 pub shows-first : (before after : State) (lost : List Did) (chosen : Did → Bool) (lines : List (List ℕ)) (final : State) →
     Recovered before after lost chosen lines final → ((d : Did) → Mem d lost → T (chosen d)) → (h : ℕ) → h < before .histories →
-    Shows final h (cell h (before .log))
+    Shows final h (cell (startOf before) h (before .log))
 shows-first before after lost chosen lines final R every h lt =
-    subst (λ (l : List Did). Shows final h (cell h l))
+    subst (λ (β : Option Base). Shows final h (cell (baseOf β) h (before .log))) (R .sameBase)
+    (subst (λ (l : List Did). Shows final h (cell (startOf after) h l))
     (ap (λ (l : List Did). after .log ++ l) (just-one (R .fedAre) lost (just-all lost (closed-every lost chosen every))) ∙ sym (R .first))
-    (R .shows h lt)
+    (R .shows h lt))
 
 -- A session that comes to the site st at its last line, a form that is a call which the site accepts.
 last-accepted : (room : ℕ) (lines : List (List ℕ)) (f : Command) (c : Call) (st after : State) (answer : Answer) →
@@ -230,34 +230,44 @@ module _
       ∙ lines-after room (first ++ commandText (Command.Cut k) ∷ later) s
       ∙ ap (λ (x : List Call). some (run x s)) calls-are
 
-  has : run (callsOf room first) s .histories ≡ n
-  has =
+  frame-first : Frame n room (run (callsOf room first) s)
+  frame-first =
       frame-lines n room first s (good-open n room s answer opening-ok)
-      (subst (Frame n room) (sym (opens room n s answer opening-ok .site)) (unfold opened in record { n-is = refl; room-is = refl })) .n-is
+      (subst (Frame n room) (sym (opens room n s answer opening-ok .site))
+      (unfold opened in record { n-is = refl; room-is = refl; base-is = refl }))
 
   at-first : (h : ℕ) → h < n → h < run (callsOf room first) s .histories
-  at-first h known = subst (λ (i : ℕ). h < i) (sym has) known
+  at-first h known = subst (λ (i : ℕ). h < i) (sym (frame-first .n-is)) known
+
+  -- The log of a session has no base line: the book starts from nothing.
+  pub starts-blank : startOf (run (callsOf room first) s) ≡ blankBase
+  starts-blank = ap baseOf (frame-first .base-is)
 
   low : (h : ℕ) → h < n → h ≤ top
   low h known = omega (arith, histories-most n (opens room n s answer opening-ok .fits))
 
   -- What `(show H)` prints in the place of the cut.
-  prints-first : (h : ℕ) → h < n → Prints room (fitting n first) h (cell h (run (callsOf room first) s .log)) (run (callsOf room first) s)
+  prints-first : (h : ℕ) → h < n →
+      Prints room (fitting n first) h (cell blankBase h (run (callsOf room first) s .log)) (run (callsOf room first) s)
   prints-first h known =
-      prints-at room (fitting n first) h (cell h (run (callsOf room first) s .log)) (run (callsOf room first) s) (low h known) to-cut
-      (show-is h (run (callsOf room first) s) (good-run (callsOf room first) s (good-open n room s answer opening-ok)) (at-first h known))
+      prints-at room (fitting n first) h (cell blankBase h (run (callsOf room first) s .log)) (run (callsOf room first) s) (low h known)
+      to-cut
+      (subst (λ (σ : Base). Shows (run (callsOf room first) s) h (cell σ h (run (callsOf room first) s .log))) starts-blank
+      (show-is h (run (callsOf room first) s) (good-run (callsOf room first) s (good-open n room s answer opening-ok)) (at-first h known)))
 
 -- The claim at the printed page.
 pub page : PageClaim
 page room n s answer e first k later after chosen fair asked =
     record {
       recovered = R;
-      prints = λ h known. prints-at room lines h (cell h (after .log ++ R .fed)) final (low′ h known) end-at
-          (R .shows h (at-first′ h known));
+      prints = λ h known. prints-at room lines h (cell blankBase h (after .log ++ R .fed)) final (low′ h known) end-at
+          (subst (λ (σ : Base). Shows final h (cell σ h (after .log ++ R .fed))) (ap baseOf (R .sameBase) ∙ blank)
+          (R .shows h (at-first′ h known)));
       printsFirst = λ every h known. (
         prints-first room n s answer e first k later after chosen fair h known,
-        prints-at room lines h (cell h (before .log)) final (low′ h known) end-at
-            (shows-first before after (lostBy before after) chosen _ final R every h (at-first′ h known)),
+        prints-at room lines h (cell blankBase h (before .log)) final (low′ h known) end-at
+            (subst (λ (σ : Base). Shows final h (cell σ h (before .log))) blank
+            (shows-first before after (lostBy before after) chosen _ final R every h (at-first′ h known))),
       );
       printsOthers = λ input text. waits-at room lines (didIds (R .others)) final end-at (R .named .0) (R .named .1) input text;
     }
@@ -279,6 +289,9 @@ page room n s answer e first k later after chosen fair asked =
 
     at-first′ : (h : ℕ) → h < n → h < before .histories
     at-first′ = at-first room n s answer e first k later after chosen fair
+
+    blank : startOf before ≡ blankBase
+    blank = starts-blank room n s answer e first k later after chosen fair
 
     low′ : (h : ℕ) → h < n → h ≤ top
     low′ = low room n s answer e first k later after chosen fair

@@ -1,24 +1,24 @@
--- Restart accepts the log of every reached state, whole, and gives the same book and the same stable mark.
+-- Restart accepts the log of every reached state, whole, with or without a base line, and gives the same book and the same marks.
 use mathlib.Core.Path.{_≡_, refl, ap, ap₂, _∙_, subst}
 use mathlib.Core.Bool.{false, not}
 use mathlib.Core.Option.{none}
 use mathlib.Core.List.{List, _++_}
-use Prim.Native.Nat.{ℕ, _≤_, _<_}
+use Prim.Native.Nat.{ℕ, _+_, _-_, _≤_, _<_}
 use native.Mathlib.Omega.{arith}
 use lib.Dec.{leb, le→leb}
-use lib.ListN.{length, take, drop, length-take}
+use lib.ListN.{length, take, drop, length-take, length-append}
 use lib.Seq.{take-append-seam, take-length}
 use Rattle.forms.specs.ListLaws.{T-true}
 use Rattle.forms.specs.Decimal.{top}
 use Rattle.forms.specs.Forms.{Did, Restarted}
-use Rattle.forms.specs.declared.Refusal.the-variants.{Unreadable, AboveLimit}
+use Rattle.forms.specs.declared.Refusal.the-variants.{Unreadable, AboveLimit, BadLog}
 use Rattle.rules.specs.Book.{cell}
-use Rattle.rules.specs.Log.{mark, journal, logText, readLog}
+use Rattle.rules.specs.Log.{mark, journal, headText, linesText, logText, readLog}
 use Rattle.rules.specs.WeaveLaws.{dids-weave}
 use Rattle.rules.specs.KeptLaws.{good-reads}
 use Rattle.forms.specs.Limits.{logLimit}
-use Rattle.rules.specs.State.{State, ok, linesIn, logBytes, stableTo, versionAt, liveDone}
-use Rattle.rules.specs.Calls.{restarted, restartAs, restart, cutAbove, cut, Call, writable, perform, step}
+use Rattle.rules.specs.State.{State, ok, linesIn, startOf, doneIn, logBytes, stableTo, versionAt, liveDone}
+use Rattle.rules.specs.Calls.{restarted, restartAs, restart, cutAbove, baseCut, cut, Call, writable, perform, step}
 use Rattle.rules.specs.CheckLaws.{unless-none, none-check, le-not-lt, or-false}
 use Rattle.rules.specs.Good.{Good}
 use Rattle.rules.specs.GoodLaws.{good-restart, good-run}
@@ -40,23 +40,27 @@ holds-log st rest h = record { within = h; bytes = take-append-seam (logBytes st
 -- the stable version that it showed: "Stable means stable after a restart too". "kept operations above it are live again".
 pub record Restarts (st : State) (buffer : List ℕ) : Type 0 where
   pub site : State
-  pub accepted : restart buffer (length (logBytes st)) ≡ ok site (Restarted (length (st .log)) (length (logBytes st)))
+  pub accepted : restart buffer (length (logBytes st)) ≡ ok site (Restarted (doneIn st) (length (logBytes st)))
   pub lines : linesIn site ≡ linesIn st
   pub log : site .log ≡ st .log
   pub bytes : logBytes site ≡ logBytes st
   pub histories : site .histories ≡ st .histories
-  pub shows : (h : ℕ) → h < st .histories → Shows st h (cell h (st .log)) × Shows site h (cell h (st .log))
+  pub base : site .base ≡ st .base
+  -- the log numbers go on behind the last did line, and all of them are persistent
+  pub done : doneIn site ≡ doneIn st
+  pub persistent : site .persistentTo ≡ doneIn st
+  pub shows : (h : ℕ) → h < st .histories → Shows st h (cell (startOf st) h (st .log)) × Shows site h (cell (startOf st) h (st .log))
   pub stable : stableTo site ≡ stableTo st
   pub stableVersion : (h : ℕ) → versionAt (stableTo site) h site ≡ versionAt (stableTo st) h st
-  pub liveAgain : liveDone site ≡ drop (stableTo st) (st .log)
+  pub liveAgain : liveDone site ≡ drop (stableTo st - startOf st .upTo) (st .log)
 
 -- The site that restart gives from the log of st, in a buffer of `room` bytes.
 module _ (st : State) (room : ℕ) where
   abbrev pub again : State
-  again = restarted room (st .histories) (linesIn st)
+  again = restarted room (st .histories) (st .base) (linesIn st)
 
   same-lines : linesIn again ≡ linesIn st
-  same-lines = lines-restarted room (st .histories) (linesIn st)
+  same-lines = lines-restarted room (st .histories) (st .base) (linesIn st)
 
   same-log : again .log ≡ st .log
   unfolding restarted
@@ -64,19 +68,20 @@ module _ (st : State) (room : ℕ) where
 
   same-bytes : logBytes again ≡ logBytes st
   unfolding logBytes restarted
-  same-bytes = ap (logText (st .histories)) same-lines
+  same-bytes = ap (logText (st .histories) (st .base)) same-lines
 
   -- What restart replies.
-  restarts-as : restartAs room (journal (st .histories) (linesIn st)) ≡ ok again (Restarted (length (st .log)) (length (logBytes st)))
+  restarts-as : restartAs room (journal (st .histories) (st .base) (linesIn st)) ≡ ok again (Restarted (doneIn st) (length (logBytes st)))
   unfolding restartAs
   restarts-as =
-      ap₂ (λ (i j : ℕ). ok again (Restarted i j)) (ap length (dids-weave (st .log) (st .stables))) (ap length same-bytes)
+      ap₂ (λ (i j : ℕ). ok again (Restarted (startOf st .upTo + i) j)) (ap length (dids-weave (st .log) (st .stables)))
+      (ap length same-bytes)
 
 module _ (st : State) (G : Good st) (buffer : List ℕ) (held : HoldsLog buffer st) where
   long : length (logBytes st) ≤ length buffer
   long = omega (arith, ap length (held .bytes), length-take (length (logBytes st)) buffer)
 
-  at-restart : restart buffer (length (logBytes st)) ≡ ok (again st (length buffer)) (Restarted (length (st .log)) (length (logBytes st)))
+  at-restart : restart buffer (length (logBytes st)) ≡ ok (again st (length buffer)) (Restarted (doneIn st) (length (logBytes st)))
   unfolding restart
   at-restart =
       unless-none _ _ (none-check _ AboveLimit none
@@ -96,28 +101,36 @@ module _ (st : State) (G : Good st) (buffer : List ℕ) (held : HoldsLog buffer 
         log = same-log st (length buffer);
         bytes = same-bytes st (length buffer);
         histories = refl;
+        base = refl;
+        done = ap (λ (l : List Did). startOf st .upTo + length l) (same-log st (length buffer));
+        persistent = ap (λ (l : List Did). startOf st .upTo + length l) (same-log st (length buffer));
         shows = λ h lt. (
           show-is h st G lt,
-          subst (λ (l : List Did). Shows (again st (length buffer)) h (cell h l)) (same-log st (length buffer))
+          subst (λ (l : List Did). Shows (again st (length buffer)) h (cell (startOf st) h l)) (same-log st (length buffer))
               (show-is h (again st (length buffer)) (good-restart buffer _ _ _ at-restart) lt),
         );
-        stable = ap mark (same-lines st (length buffer));
+        stable = ap (mark (startOf st)) (same-lines st (length buffer));
         stableVersion = λ h.
-            ap₂ (λ (i : ℕ) (l : List Did). cell h (take i l) .version) (ap mark (same-lines st (length buffer)))
+            ap₂ (λ (i : ℕ) (l : List Did). cell (startOf st) h (take (i - startOf st .upTo) l) .version)
+            (ap (mark (startOf st)) (same-lines st (length buffer)))
             (same-log st (length buffer));
-        liveAgain = ap (drop (stableTo st)) (same-log st (length buffer));
+        liveAgain = ap (drop (stableTo st - startOf st .upTo)) (same-log st (length buffer));
       }
+
+head-within : (st : State) → length (headText (st .histories) (st .base)) ≤ length (logBytes st)
+unfolding logBytes logText
+head-within st = omega (arith, length-append (headText (st .histories) (st .base)) (linesText (linesIn st)))
 
 -- The session's way: a cut at the last byte in use loses nothing.
 pub cut-whole : (st : State) (room : ℕ) → Good st → length (logBytes st) ≤ room → room ≤ logLimit →
-    step (Call.Cut (length (logBytes st)) room) st ≡ ok (again st room) (Restarted (length (st .log)) (length (logBytes st)))
-unfolding step writable perform cut cutAbove
+    step (Call.Cut (length (logBytes st)) room) st ≡ ok (again st room) (Restarted (doneIn st) (length (logBytes st)))
+unfolding step writable perform cut cutAbove baseCut
 cut-whole st room G fits limit =
     unless-none _ _ (none-check _ Unreadable none (le-not (length (logBytes st)) top (omega arith)) refl)
-    ∙ unless-none _ _ (none-check _ AboveLimit none
+    ∙ unless-none _ _ (none-check _ AboveLimit _
     (or-false _ _ (or-false _ _ (le-not-lt (length (logBytes st)) (length (logBytes st)) (omega arith))
     (le-not-lt room (length (logBytes st)) fits))
-    (le-not-lt logLimit room limit)) refl)
+    (le-not-lt logLimit room limit)) (none-check _ BadLog none (le-not-lt (length (logBytes st)) _ (head-within st)) refl))
     ∙ ap (λ (x : List ℕ). restartAs room (readLog x)) (take-length (logBytes st))
     ∙ ap (restartAs room) (good-reads st G)
     ∙ restarts-as st room

@@ -1,7 +1,9 @@
 -- "The calls are the site's own, not the session's": the recovery claim of what the code's site does, by its contracts alone.
 -- Proved in SiteCallsLaws.
 use mathlib.Core.Path.{_≡_}
+use mathlib.Core.Logic.{_⊎_}
 use mathlib.Core.Bool.{Bool}
+use mathlib.Core.Option as option
 use mathlib.Core.List.{List, [], _∷_, _++_}
 use mathlib.Core.List.{List·Memᴰ as Mem}
 use Prim.Native.Nat.{ℕ, _≤_, _<_}
@@ -11,8 +13,8 @@ use Rattle.forms.specs.Limits.{liveLimit}
 use Rattle.forms.specs.Forms.{Did, Line, Answer, Ended, Shown}
 use Rattle.rules.specs.Book.{Cell, cell}
 use Rattle.rules.specs.Log.{dids, didsText, logText}
-use Rattle.rules.specs.State.{State, Reply, refused, ok, linesIn}
-use Rattle.rules.specs.Calls.{openSite, restart, Call, Show, Cut, End}
+use Rattle.rules.specs.State.{State, Reply, refused, ok, startOf, linesIn}
+use Rattle.rules.specs.Calls.{openSite, restart, Call, Show, Cut, Changeover, End}
 use Rattle.rules.specs.Poll.{busy, poll}
 use Rattle.rules.specs.Run.{run}
 use Rattle.rules.specs.Good.{didIds}
@@ -26,6 +28,10 @@ use Rattle.table.specs.Tables.{liveNumbers, entryOf}
 use Rattle.site.specs.OpenLaws.{blankSite}
 use Rattle.site.specs.EntryOf.{EntryIs}
 use Rattle.site.specs.Polls.{polledOf, Polls}
+use Rattle.forms.specs.declared.Refusal.{Refusal}
+use Rattle.trim.specs.declared.Copied.{Copied}
+use Rattle.trim.specs.declared.Copied.the-variants.{Used, Refused}
+use Rattle.trim.specs.Model.{CopiesLog}
 use Rattle.site.specs.Model.{Lent, view, Valid, AcceptedAs, Opens, Steps}
 
 -- ### Calls of the code's site
@@ -54,14 +60,28 @@ abbrev pub goesOnFrom : Reply → Memory → Memory → Memory
 goesOnFrom (refused q) old new = old
 goesOnFrom (ok st a) old new = new
 
+-- 02 (h): "A cut without the whole base line is refused 15, since the site knows that its log has one. A restart from such bytes alone
+-- cannot know": only bytes with all of a base line are handed to `Site::restart`; without a base line any are.
+abbrev pub KeepsBase : Memory → ℕ → Type 0
+KeepsBase x k = (stateIn x .base ≡ option.none) ⊎ (x .site .head ≤ k)
+
 -- One call of the list, a transition: from the site and what is lent to it before the call, to those after it.
 pub data Transition (x : Memory) : Call → Memory → Type 0 where
   -- a call that keeps its contract: add, finish, withdraw, persistent, stable, show, redo, end, and a cut that goes on in the same buffer
   calls : (c : Call) (r : CallResult) (new : Lent) → Steps (x .site) (x .lent) c r new → Transition x c (memory (r .site) new)
   -- "A cut in the list is a restart from them": the first k bytes of the log stand in another buffer; `Site::restart` keeps its contract
-  restarts : (k : ℕ) (buffer : Lent) (r : CallResult) (new : Lent) → k ≤ x .site .used → take k (buffer .log) ≡ take k (x .lent .log) →
+  restarts : (k : ℕ) (buffer : Lent) (r : CallResult) (new : Lent) → KeepsBase x k → k ≤ x .site .used →
+      take k (buffer .log) ≡ take k (x .lent .log) →
       Opens blankSite buffer (restart (buffer .log) k) r new →
       Transition x (Cut k (length (buffer .log))) (goesOnFrom (restart (buffer .log) k) x (memory (r .site) new))
+  -- 02 (h): "A new call copies the log into a fresh lent buffer and replies the bytes used", and "the owner changes over, by a restart
+  -- from the whole fresh log": `trim` keeps its contract, and so does `Site::restart` with all bytes that it replied
+  changesOver : (n : ℕ) (fresh : List ℕ) (c : Copied) (copy : List ℕ) → CopiesLog (x .site) (x .lent .log) n fresh c copy →
+      (used : ℕ) → c ≡ Used used → (buffer : Lent) → buffer .log ≡ copy → (r : CallResult) (new : Lent) →
+      Opens blankSite buffer (restart (buffer .log) used) r new → Transition x (Changeover n (length fresh)) (memory (r .site) new)
+  -- .. and where `trim` refuses, there is nothing to restart from: site and log are as they were
+  staysWith : (n : ℕ) (fresh : List ℕ) (c : Copied) (copy : List ℕ) → CopiesLog (x .site) (x .lent .log) n fresh c copy →
+      (q : Refusal) → c ≡ Refused q → Transition x (Changeover n (length fresh)) x
 
 -- A list of calls, one after the other: an execution.
 pub data Execution : Memory → List Call → Memory → Type 0 where
@@ -69,7 +89,7 @@ pub data Execution : Memory → List Call → Memory → Type 0 where
   next : {x y z : Memory} {c : Call} {cs : List Call} → Transition x c y → Execution y cs z → Execution x (c ∷ cs) z
 
 -- "The list starts at a site just opened, or restarted from any log that restart accepts": by the contracts of `Site::open` and
--- `Site::restart`, with the number of lines behind the site line that count as persistent there, stable lines too.
+-- `Site::restart`, with the number of lines behind the site line and the base line that count as persistent there, stable lines too.
 pub data StartsSite : ℕ → Memory → Type 0 where
   opens : (n : ℕ) (old : Lent) (r : CallResult) (new : Lent) (st : State) (a : Answer) →
       Opens blankSite old (openSite n (length (old .log))) r new → openSite n (length (old .log)) ≡ ok st a →
@@ -99,20 +119,21 @@ pub record RecoveredIn (before after : Memory) (lost : List Did) (chosen : Did �
   -- lines among these, and stable lines that are gone stand between them
   pub gone : List Line
   pub goneAre : dids gone ≡ lost
-  pub firstBytes : logIn before ≡ logText (before .site .count) (linesIn (stateIn after) ++ gone)
+  pub firstBytes : logIn before ≡ logText (before .site .count) (stateIn before .base) (linesIn (stateIn after) ++ gone)
   -- (2) the bytes in use at the end are "the lines the picked cut kept, then each line that has run, once, byte for byte, and no more":
-  -- stable lines are among those kept
-  pub bytes : logIn final ≡ logText (before .site .count) (linesIn (stateIn after)) ++ didsText (claim .ran)
+  -- the base line and stable lines are among those kept
+  pub bytes : logIn final ≡ logText (before .site .count) (stateIn before .base) (linesIn (stateIn after)) ++ didsText (claim .ran)
   -- (3) "`end` would name the other chosen lines"
   pub names : AnswersCall final End (Ended (didIds (claim .others)))
-  -- (4) "`show` of each history gives the book's profile, version and place"
-  pub shows : (h : ℕ) → h < before .site .count → ShowsIn final h (cell h (stateIn after .log ++ claim .fed))
+  -- (4) "`show` of each history gives the book's profile, version and place"; 02 (h): "the book of 01 starts from its base line"
+  pub shows : (h : ℕ) → h < before .site .count → ShowsIn final h (cell (startOf (stateIn before)) h (stateIn after .log ++ claim .fed))
   -- (5) "if every lost line was chosen, also those just before the picked cut"
   pub showsFirst : ((d : Did) → Mem d lost → T (chosen d)) → (h : ℕ) → h < before .site .count →
       (c : Cell) × ShowsIn before h c × ShowsIn final h c
 
--- Whatever calls are made of the code's site, each keeping its contract: if they are as 01's claim asks, then at the end the bytes of its
--- log, what `show` replies and what `end` would reply are those that the claim says.
+-- Whatever calls are made of the code's site, each keeping its contract, changeovers too before the picked cut: if they are as 01's claim
+-- asks, with no changeover behind that cut, then at the end the bytes of its log, what `show` replies and what `end` would reply are those
+-- that the claim says.
 abbrev pub SiteCallsClaim : Type 0
 SiteCallsClaim =
     (m : ℕ) (start : Memory) → StartsSite m start →

@@ -1,18 +1,35 @@
 -- The recovery claim of the code's site, proved: a chain of calls that keep their contracts is `run` of the list of calls.
-use mathlib.Core.Path.{_≡_, refl, sym, ap, _∙_, subst}
-use mathlib.Core.Bool.{Bool}
+use mathlib.Core.Path.{_≡_, refl, sym, ap, ap₂, _∙_, subst}
+use mathlib.Core.Logic.{inl, inr}
+use mathlib.Core.Bool.{Bool, true, false, not, _||_}
+use mathlib.Core.Option.{Option}
+use mathlib.Core.Option as option
 use mathlib.Core.List.{List, _∷_, _++_}
 use Prim.Native.Nat.{ℕ, _≤_}
 use native.Mathlib.Omega.{arith}
-use lib.ListN.{length}
-use lib.Seq.{length-take-le}
+use lib.Dec.{leb, le→leb, ltb}
+use lib.ListN.{length, take}
+use lib.Seq.{length-take-le, take-take}
 use Rattle.forms.specs.Decimal.{top}
-use Rattle.forms.specs.Forms.{Did, Line, Answer}
+use Rattle.forms.specs.ListLaws.{T-true}
+use Rattle.forms.specs.Limits.{logLimit}
+use Rattle.forms.specs.Forms.{Base, Did, Line, Answer, Restarted}
+use Rattle.forms.specs.declared.Refusal.{Refusal}
+use Rattle.forms.specs.declared.Refusal.the-variants.{Unreadable, AboveLimit}
 use Rattle.forms.specs.Lists.{below}
-use Rattle.rules.specs.Book.{Cell}
-use Rattle.rules.specs.Log.{dids, logText}
-use Rattle.rules.specs.State.{State, Reply, refused, ok, settle, linesIn, logBytes}
-use Rattle.rules.specs.Calls.{restart, Call, Cut, step}
+use Rattle.rules.specs.Book.{Cell, baseOf, cell}
+use Rattle.rules.specs.Trim.{Trimmed, notTrimmed, trimmed, trimUnless, trimText, trimRefusal, trim}
+use Rattle.rules.specs.TrimLaws.{bounds, copied, changes-over}
+use Rattle.rules.specs.TrimShows.{Trims, trim-holds, trimmed-restarts}
+use Rattle.trim.specs.declared.Copied.{Copied}
+use Rattle.trim.specs.declared.Copied.the-variants.{Used, Refused}
+use Rattle.trim.specs.Model.{Copies, CopiesLog}
+use Rattle.rules.specs.Checks.{check}
+use Rattle.rules.specs.CheckLaws.{unless-none, none-check, le-not-lt}
+use Rattle.rules.specs.CutLaws.{cut-plain}
+use Rattle.rules.specs.Log.{dids, didsText, logText, readLog}
+use Rattle.rules.specs.State.{State, Reply, refused, ok, settle, linesIn, doneIn, logBytes}
+use Rattle.rules.specs.Calls.{unless, restartAs, restart, cutAbove, changeover, Call, Cut, Changeover, writable, perform, step}
 use Rattle.rules.specs.PollLaws.{busy-few}
 use Rattle.rules.specs.Good.{Good}
 use Rattle.rules.specs.Run.{run}
@@ -25,8 +42,8 @@ use Rattle.site.specs.OpenLaws.{blankSite}
 use Rattle.site.specs.EntryOf.{entry-is}
 use Rattle.site.specs.Model.{Lent, represented, AcceptedAs, Does, Opens}
 use Rattle.site.specs.RestartLaws.{cut-restarts, log-limit, used-limit}
-use Rattle.end_to_end.specs.SiteCalls.{EntryClaim, PollsAs, PollClaim, Memory, memory, stateIn, ValidIn, logIn, goesOnFrom}
-use Rattle.end_to_end.specs.SiteCalls.{Transition, calls, restarts}
+use Rattle.end_to_end.specs.SiteCalls.{EntryClaim, PollsAs, PollClaim, Memory, memory, stateIn, ValidIn, logIn, goesOnFrom, KeepsBase}
+use Rattle.end_to_end.specs.SiteCalls.{Transition, calls, restarts, changesOver, staysWith}
 use Rattle.end_to_end.specs.SiteCalls.{Execution, none, next}
 use Rattle.end_to_end.specs.SiteCalls.{StartsSite, opens, restarted, AnswersCall, ShowsIn, RecoveredIn, SiteCallsClaim}
 
@@ -34,6 +51,23 @@ use Rattle.end_to_end.specs.SiteCalls.{StartsSite, opens, restarted, Ans
 pub record RunsAs (x : Memory) (st : State) : Type 0 where
   pub valid : ValidIn x
   pub state : stateIn x ≡ st
+
+-- ### What the invariant says
+
+-- The bytes in use are the log's text.
+pub log-bytes : (x : Memory) → ValidIn x → logIn x ≡ logBytes (stateIn x)
+unfolding Sound
+log-bytes x v = v .sound .carries .text
+
+-- .. as many as the site says
+pub used-in : (x : Memory) → ValidIn x → x .site .used ≡ length (logIn x)
+unfolding Sound
+used-in x v = sym (length-take-le (x .site .used) (x .lent .log) (v .sound .carries .within))
+
+-- It is a state that calls reach.
+pub good-in : (x : Memory) → ValidIn x → Good (stateIn x)
+unfolding Sound
+good-in x v = v .sound .good
 
 -- ### One call
 
@@ -53,12 +87,115 @@ unfolding settle
 restart-runs x v (refused q) buffer r new d = record { valid = v; state = refl }
 restart-runs x v (ok st a) buffer r new d = record { valid = d .valid; state = d .state }
 
+-- Without a base line a restart from any of the first bytes is a cut.
+plain-restarts : (x : Memory) → ValidIn x → (buffer : List ℕ) (k : ℕ) → k ≤ top → stateIn x .base ≡ option.none → k ≤ x .site .used →
+    take k buffer ≡ take k (x .lent .log) → step (Cut k (length buffer)) (stateIn x) ≡ restart buffer k
+unfolding step writable perform cutAbove restart
+plain-restarts x v buffer k low e le same =
+    unless-none _ _ (none-check _ Unreadable option.none (ap not (T-true (leb k top) (le→leb k top low))) refl)
+    ∙ cut-plain k (length buffer) (stateIn x) e
+    ∙ (λ i.
+    unless (check (free i || ltb (length buffer) k || ltb logLimit (length buffer)) AboveLimit option.none)
+    (restartAs (length buffer) (readLog (bytes i))))
+  where
+    free : ltb (length (logBytes (stateIn x))) k ≡ false
+    free = le-not-lt (length (logBytes (stateIn x))) k (omega (arith, le, used-in x v, ap length (log-bytes x v)))
+
+    bytes : take k (logBytes (stateIn x)) ≡ take k buffer
+    bytes = ap (take k) (sym (log-bytes x v)) ∙ take-take k (x .site .used) (x .lent .log) le ∙ sym same
+
+-- ### Trim, and the changeover
+
+-- What the code's `trim` of a site does is what the specification says of its state.
+pub copies-state : (x : Memory) → ValidIn x → (n : ℕ) (fresh : List ℕ) (c : Copied) (copy : List ℕ) →
+    CopiesLog (x .site) (x .lent .log) n fresh c copy → Copies (trim n fresh (stateIn x)) fresh c copy
+copies-state x v n fresh c copy T = T (x .lent .rows) (x .lent .order) (x .lent .book) v
+
+-- A trim that replies the bytes used has made the copy.
+copied-by : (t : Trimmed) (fresh : List ℕ) (c : Copied) (copy : List ℕ) → Copies t fresh c copy → (used : ℕ) → c ≡ Used used →
+    t ≡ trimmed copy used
+copied-by (notTrimmed q) fresh c copy T used e =
+    let clash : Refused q ≡ Used used = sym (T .reply) ∙ e in let z : _≡_ {A = ℕ} 0 1 = cc in absurd (omega arith)
+copied-by (trimmed bytes n) fresh c copy T used e =
+    let same : Used n ≡ Used used = sym (T .reply) ∙ e in
+    let counts : n ≡ used = cc in ap₂ trimmed (sym (T .bytes)) counts
+
+pub copy-made : (x : Memory) → ValidIn x → (n : ℕ) (fresh : List ℕ) (c : Copied) (copy : List ℕ) →
+    CopiesLog (x .site) (x .lent .log) n fresh c copy → (used : ℕ) → c ≡ Used used → Trims n fresh (stateIn x) copy used
+copy-made x v n fresh c copy T used e =
+    trim-holds n fresh (stateIn x) copy used (copied-by (trim n fresh (stateIn x)) fresh c copy (copies-state x v n fresh c copy T) used e)
+
+-- A trim that is refused has this number by the specification, and leaves the fresh buffer as it was.
+pub record RefusedCopy (n : ℕ) (fresh : List ℕ) (st : State) (q : Refusal) (copy : List ℕ) : Type 0 where
+  pub number : trimRefusal n (length fresh) st ≡ option.some q
+  pub kept : copy ≡ fresh
+
+pub copy-refused : (x : Memory) → ValidIn x → (n : ℕ) (fresh : List ℕ) (c : Copied) (copy : List ℕ) →
+    CopiesLog (x .site) (x .lent .log) n fresh c copy → (q : Refusal) → c ≡ Refused q → RefusedCopy n fresh (stateIn x) q copy
+unfolding trim
+copy-refused x v n fresh c copy T q e = go (trimRefusal n (length fresh) (stateIn x)) refl (copies-state x v n fresh c copy T)
+  where
+    go : (o : Option Refusal) → trimRefusal n (length fresh) (stateIn x) ≡ o →
+        Copies (trimUnless o fresh (trimText n (stateIn x))) fresh c copy → RefusedCopy n fresh (stateIn x) q copy
+    go (option.some p) f C =
+        let clash : Refused p ≡ Refused q = sym (C .reply) ∙ e in
+        let same : p ≡ q = cc in record { number = f ∙ ap (λ (y : Refusal). option.some y) same; kept = C .bytes }
+    go option.none f C =
+        let clash : Used (length (trimText n (stateIn x))) ≡ Refused q = sym (C .reply) ∙ e in
+        let z : _≡_ {A = ℕ} 0 1 = cc in absurd (omega arith)
+
+-- A changeover that the specification does not refuse is a call with a number of 64 bits.
+changeover-step : (n room : ℕ) (st : State) → Good st → trimRefusal n room st ≡ option.none →
+    step (Changeover n room) st ≡ changeover n room st
+unfolding step writable perform
+changeover-step n room st G free =
+    unless-none _ _ (none-check _ Unreadable option.none (ap not (T-true (leb n top) (le→leb n top low))) refl)
+  where
+    low : n ≤ top
+    low = let b = bounds n room st G free .limit in omega arith
+
+-- .. and one that it refuses leaves the state as it is.
+changeover-stays : (n room : ℕ) (st : State) (q : Refusal) → trimRefusal n room st ≡ option.some q →
+    settle (step (Changeover n room) st) st ≡ st
+unfolding step writable perform changeover unless check settle
+changeover-stays n room st q e = go (leb n top)
+  where
+    go : (b : Bool) → settle (unless (check (not b) Unreadable option.none)
+        (unless (trimRefusal n room st) (restartAs room (readLog (trimText n st))))) st ≡ st
+    go false = refl
+    go true = ap (λ (o : Option Refusal). settle (unless o (restartAs room (readLog (trimText n st)))) st) e
+
+-- A restart from the whole copy is the changeover.
+changed-runs : (x : Memory) → ValidIn x → (n : ℕ) (fresh copy : List ℕ) (used : ℕ) → Trims n fresh (stateIn x) copy used →
+    (buffer : Lent) → buffer .log ≡ copy → (r : CallResult) (new : Lent) → Opens blankSite buffer (restart (buffer .log) used) r new →
+    RunsAs (memory (r .site) new) (settle (step (Changeover n (length fresh)) (stateIn x)) (stateIn x))
+unfolding settle
+changed-runs x v n fresh copy used t buffer is r new d =
+    record { valid = A .valid; state = A .state ∙ sym (ap (λ (reply : Reply). settle reply (stateIn x)) (stepped ∙ over)) }
+  where
+    G : Good (stateIn x)
+    G = good-in x v
+
+    after : State
+    after = copied n (length fresh) (stateIn x) G (t .free)
+
+    stepped : step (Changeover n (length fresh)) (stateIn x) ≡ changeover n (length fresh) (stateIn x)
+    stepped = changeover-step n (length fresh) (stateIn x) G (t .free)
+
+    over : changeover n (length fresh) (stateIn x) ≡ ok after (Restarted (doneIn (stateIn x)) (length (trimText n (stateIn x))))
+    over = changes-over n (length fresh) (stateIn x) G (t .free)
+
+    A : AcceptedAs (below 64) buffer after (Restarted (doneIn (stateIn x)) (length (trimText n (stateIn x)))) r new
+    A =
+        subst (λ (reply : Reply). Opens blankSite buffer reply r new)
+        (ap (λ (b : List ℕ). restart b used) is ∙ trimmed-restarts n fresh (stateIn x) G copy used t ∙ over) d
+
 -- One call of the list gives the next state.
 pub makes-runs : {x y : Memory} {c : Call} → ValidIn x → Transition x c y → RunsAs y (settle (step c (stateIn x)) (stateIn x))
 makes-runs {x} v (calls c r new d) = call-runs x v (step c (stateIn x)) r new d
-makes-runs {x} v (restarts k buffer r new le same d) =
+makes-runs {x} v (restarts k buffer r new whole le same d) =
     subst (λ (reply : Reply). RunsAs (goesOnFrom (restart (buffer .log) k) x (memory (r .site) new)) (settle reply (stateIn x)))
-    (sym (cut-restarts (represented (x .site) (x .lent)) (x .lent .log) (v .sound) (buffer .log) k low le same))
+    (sym (go whole))
     (restart-runs x v (restart (buffer .log) k) buffer r new d)
   where
     low : k ≤ top
@@ -66,6 +203,14 @@ makes-runs {x} v (restarts k buffer r new le same d) =
         let a = log-limit (represented (x .site) (x .lent)) (x .lent .log) (v .sound) in
         let b = used-limit (represented (x .site) (x .lent)) (x .lent .log) (v .sound) in
         omega (arith, le, a, b)
+
+    go : KeepsBase x k → step (Cut k (length (buffer .log))) (stateIn x) ≡ restart (buffer .log) k
+    go (inl none-of) = plain-restarts x v (buffer .log) k low none-of le same
+    go (inr h) = cut-restarts (represented (x .site) (x .lent)) (x .lent .log) (v .sound) (buffer .log) k low h le same
+makes-runs {x} v (changesOver n fresh c copy T used e buffer is r new d) =
+    changed-runs x v n fresh copy used (copy-made x v n fresh c copy T used e) buffer is r new d
+makes-runs {x} v (staysWith n fresh c copy T q e) =
+    record { valid = v; state = sym (changeover-stays n (length fresh) (stateIn x) q (copy-refused x v n fresh c copy T q e .number)) }
 
 -- ### A list of calls
 
@@ -89,22 +234,8 @@ starts-at (restarted k old r new st a d e) =
 
 -- ### What the site shows
 
--- The bytes in use are the log's text.
-pub log-bytes : (x : Memory) → ValidIn x → logIn x ≡ logBytes (stateIn x)
-unfolding Sound
-log-bytes x v = v .sound .carries .text
-
--- .. as many as the site says
-pub used-in : (x : Memory) → ValidIn x → x .site .used ≡ length (logIn x)
-unfolding Sound
-used-in x v = sym (length-take-le (x .site .used) (x .lent .log) (v .sound .carries .within))
-
--- It is a state that calls reach.
-good-in : (x : Memory) → ValidIn x → Good (stateIn x)
-unfolding Sound
-good-in x v = v .sound .good
-
-answers : (x : Memory) (c : Call) (st : State) (a : Answer) → step c (stateIn x) ≡ ok st a → AnswersCall x c a
+-- The reply that the specification gives a call is the one that its contract gives.
+pub answers : (x : Memory) (c : Call) (st : State) (a : Answer) → step c (stateIn x) ≡ ok st a → AnswersCall x c a
 answers x c st a e = λ r new d. (st, subst (λ (reply : Reply). Does (x .site) (x .lent) reply r new) e d)
 
 shows-in : (x : Memory) (h : ℕ) (c : Cell) → Shows (stateIn x) h c → ShowsIn x h c
@@ -122,10 +253,14 @@ recovered-in before after lost chosen lines final v w gone parts are R =
       valid = w;
       gone = gone;
       goneAre = are;
-      firstBytes = log-bytes before v ∙ ap (logText (before .site .count)) parts;
-      bytes = log-bytes final w ∙ R .bytes;
+      firstBytes = log-bytes before v ∙ ap (logText (before .site .count) (stateIn before .base)) parts;
+      bytes =
+          log-bytes final w ∙ R .bytes
+          ∙ ap (λ (β : Option Base). logText (before .site .count) β (linesIn (stateIn after)) ++ didsText (R .ran)) (R .sameBase);
       names = answers final _ (R .named .0) _ (R .named .1);
-      shows = λ h lt. shows-in final h _ (R .shows h lt);
+      shows = λ h lt.
+          subst (λ (β : Option Base). ShowsIn final h (cell (baseOf β) h (stateIn after .log ++ R .fed))) (R .sameBase)
+          (shows-in final h _ (R .shows h lt));
       showsFirst = λ every h lt.
           let q = R .showsFirst every h lt in
           (q .0, shows-in before h (q .0) (q .1), shows-in final h (q .0) (q .2));

@@ -24,6 +24,8 @@ session-words s = λ i.
           record {
             count = s .site .count;
             used = s .site .used;
+            head = s .site .head;
+            base = s .site .base;
             done = s .site .done;
             persistent = s .site .persistent;
             stable = s .site .stable;

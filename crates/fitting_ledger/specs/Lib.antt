@@ -10,3 +10,5 @@ pub mod AddingLaws
 pub mod Polls
 pub mod Changeovers
 pub mod ChangeoverLaws
+pub mod Trims
+pub mod TrimLaws

@@ -8,9 +8,10 @@ use session::Session;
 use site::Site;
 use table::Table;
 
-// How many words there are: whether a site is open; its histories, bytes of the log in use, operations done, persistent, stable and left;
-// whether it is restoring; the bytes that its waiting lines will take; operations done and still in the table, and not done (or waiting).
-pub const COUNTERS: usize = 11;
+// How many words there are: whether a site is open; its histories, bytes of the log in use, and of these those of its head; operations that
+// its base line stands for, and those done, persistent, stable and left; whether it is restoring; the bytes that its waiting lines will take;
+// operations done and still in the table, and not done (or waiting).
+pub const COUNTERS: usize = 13;
 
 pub type Counters = [u64; COUNTERS];
 
@@ -26,18 +27,20 @@ pub(crate) fn session_at(words: &Counters) -> Session
     ensures { λ r. ⌜ r ≡ sessionAt (was words) ⌝ }
 {
     let table = Table {
-        finished: words[9] as usize,
-        queue: words[10] as usize,
+        finished: words[11] as usize,
+        queue: words[12] as usize,
     };
     let site = Site {
         count: words[1] as usize,
         used: words[2] as usize,
-        done: LogNumber(words[3]),
-        persistent: LogNumber(words[4]),
-        stable: LogNumber(words[5]),
-        left: LogNumber(words[6]),
-        restoring: words[7] == 1,
-        reserved: words[8] as usize,
+        head: words[3] as usize,
+        base: LogNumber(words[4]),
+        done: LogNumber(words[5]),
+        persistent: LogNumber(words[6]),
+        stable: LogNumber(words[7]),
+        left: LogNumber(words[8]),
+        restoring: words[9] == 1,
+        reserved: words[10] as usize,
         table,
     };
     Session {
@@ -52,6 +55,7 @@ fn words_of(s: Session) -> Counters
 {
     let site = s.site;
     let table = site.table;
+    let base = site.base;
     let done = site.done;
     let persistent = site.persistent;
     let stable = site.stable;
@@ -60,6 +64,8 @@ fn words_of(s: Session) -> Counters
         bit(s.opened),
         site.count as u64,
         site.used as u64,
+        site.head as u64,
+        base.0,
         done.0,
         persistent.0,
         stable.0,

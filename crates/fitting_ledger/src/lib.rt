@@ -9,5 +9,6 @@ pub mod lines;
 pub mod plain_calls;
 pub mod polls;
 pub mod start;
+pub mod trims;
 pub mod upgrade;
 pub mod version;

@@ -6,12 +6,15 @@ use mathlib.Core.Bool.{true, false}
 use native.Mathlib.Omega.{arith}
 use Rattle.forms.specs.Decimal.{Step}
 use Rattle.forms.specs.Decimal.Step.{got, bad}
-use Rattle.forms.specs.Forms.{Update, Did, Command, SiteOf, Add, Finish, Withdraw, Persistent, Stable, Show, Cut, Redo, End}
-use Rattle.forms.specs.Reading.{readDid, readSite, readCommand}
+use Rattle.forms.specs.Forms.{Base, Update, Did, Command, SiteOf, Add, Finish, Withdraw, Persistent, Stable, Show, Cut, Redo, End}
+use Rattle.forms.specs.Reading.{readBase, readDid, readSite, readCommand}
 use Rattle.forms.specs.Held.{heldUpdates, heldDid}
 use Rattle.forms.specs.DidLaws.{readDid-read, readSite-read}
 use Rattle.forms.specs.CommandLaws.{command-read}
+use Rattle.forms.specs.BaseLaws.{readBase-read}
+use Rattle.forms.specs.BaseForms.{heldBase, baseAnswer}
 use Rattle.forms.specs.Read.{noDid, updatesIn, didIn, didAnswer, siteAnswer, commandAnswer}
+use Rattle.forms.specs.declared.base.BaseRead.{BaseRead}
 use Rattle.forms.specs.declared.reader.DidRead.{DidRead}
 use Rattle.forms.specs.declared.reader.SiteRead.{SiteRead}
 use Rattle.forms.specs.declared.reader.CommandForm.{CommandForm}
@@ -48,6 +51,41 @@ did-unsaid l r e k = go (readDid l) refl
     go : (x : Step Did) → readDid l ≡ x → readDid l ≡ bad
     go (got d rest) q =
         let t : r .ok ≡ true = ap (λ (z : DidRead). z .ok) (e ∙ ap didAnswer q) in
+        let y : _≡_ {A = ℕ} 0 1 = cc in
+        absurd (omega arith)
+    go bad q = q
+
+-- ### A base line
+
+-- The line reads as b, and the answer holds b.
+pub record BaseSaid (l : List ℕ) (r : BaseRead) : Type 0 where
+  pub b : Base
+  pub read : readBase l ≡ got b []
+  pub holds : r .base ≡ heldBase b
+
+pub base-said : (l : List ℕ) (r : BaseRead) → r ≡ baseAnswer (readBase l) → r .ok ≡ true → BaseSaid l r
+unfolding baseAnswer
+base-said l r e k = go (readBase l) refl
+  where
+    go : (x : Step Base) → readBase l ≡ x → BaseSaid l r
+    go (got b rest) q =
+        record {
+          b = b;
+          read = q ∙ ap (λ (m : List ℕ). got b m) (readBase-read l b rest q .1);
+          holds = ap (λ (z : BaseRead). z .base) (e ∙ ap baseAnswer q);
+        }
+    go bad q =
+        let t : r .ok ≡ false = ap (λ (z : BaseRead). z .ok) (e ∙ ap baseAnswer q) in
+        let y : _≡_ {A = ℕ} 0 1 = cc in
+        absurd (omega arith)
+
+pub base-unsaid : (l : List ℕ) (r : BaseRead) → r ≡ baseAnswer (readBase l) → r .ok ≡ false → readBase l ≡ bad
+unfolding baseAnswer
+base-unsaid l r e k = go (readBase l) refl
+  where
+    go : (x : Step Base) → readBase l ≡ x → readBase l ≡ bad
+    go (got b rest) q =
+        let t : r .ok ≡ true = ap (λ (z : BaseRead). z .ok) (e ∙ ap baseAnswer q) in
         let y : _≡_ {A = ℕ} 0 1 = cc in
         absurd (omega arith)
     go bad q = q

@@ -18,9 +18,12 @@ pub mod CommandLaws
 pub mod LengthLaws
 pub mod HeldLaws
 pub mod LineLaws
+pub mod BaseLaws
 pub mod Read
+pub mod BaseForms
 pub mod SeenLaws
 pub mod AtLaws
+pub mod EndLaws
 pub mod ByteLaws
 pub mod ItemLaws
 pub mod FromLaws
@@ -31,4 +34,6 @@ pub mod AnswerLaws
 pub mod Write
 pub mod WriteLaws
 pub mod TextLaws
+pub mod BaseHeldLaws
+pub mod BaseReadLaws
 pub mod RoundTrip

@@ -25,6 +25,14 @@ partLimit = 8
 abbrev pub didLimit : ℕ
 didLimit = 312
 
+-- 02 (h): "A base line may have 1,074 bytes with its end."
+abbrev pub baseLimit : ℕ
+baseLimit = 1074
+
+-- 02 (h): the N of a base line is refused above 2^63.
+abbrev pub baseTop : ℕ
+baseTop = 9223372036854775808
+
 -- "a log buffer at most 65,536"
 abbrev pub logLimit : ℕ
 logLimit = 65536

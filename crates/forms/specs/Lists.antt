@@ -25,6 +25,12 @@ module _ {A : Type 0} where
   find f [] = none
   find f (x ∷ xs) = cond (f x) (some x) (find f xs)
 
+  -- The first n elements, and blanks in the places behind them.
+  abbrev pub padded : A → ℕ → List A → List A
+  padded blank zero xs = []
+  padded blank (suc n) [] = blank ∷ padded blank n []
+  padded blank (suc n) (x ∷ xs) = x ∷ padded blank n xs
+
   abbrev pub sum : (A → ℕ) → List A → ℕ
   sum f [] = zero
   sum f (x ∷ xs) = f x + sum f xs

@@ -3,7 +3,7 @@ use mathlib.Core.List.{List}
 use mathlib.Core.List.{List·Memᴰ as Mem}
 use Prim.Native.Nat.{_≤_}
 use Rattle.forms.specs.Decimal.{top}
-use Rattle.forms.specs.Forms.{Update, Change, Did, Line, didLine, stableLine}
+use Rattle.forms.specs.Forms.{Update, Change, Did, Line, didLine, stableLine, BaseCell, Base}
 use Rattle.forms.specs.Forms.{Command, SiteOf, Add, Finish, Withdraw, Persistent, Stable, Show, Cut, Redo, End}
 
 pub record WritableUpdate (u : Update) : Type 0 where
@@ -24,6 +24,18 @@ Each {A} P xs = (x : A) → Mem x xs → P x
 pub record WritableDid (d : Did) : Type 0 where
   pub id : d .id ≤ top
   pub changes : Each WritableChange (d .changes)
+
+-- the numbers of a history in a base line
+pub record WritableBaseCell (x : BaseCell) : Type 0 where
+  pub history : x .history ≤ top
+  pub version : x .version ≤ top
+  pub place : x .place ≤ top
+  pub profile : x .profile ≤ top
+
+-- the numbers of a base line
+pub record WritableBase (b : Base) : Type 0 where
+  pub upTo : b .upTo ≤ top
+  pub cells : Each WritableBaseCell (b .cells)
 
 -- the numbers of a line of a log
 abbrev pub WritableLine : Line → Type 0

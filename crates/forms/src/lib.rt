@@ -1,5 +1,6 @@
 // The line forms, the lowest part: the values that the lines of document 01 carry, and the refusals; `reader` reads lines and `writer`
 // writes them. How each is printed and what each line means is said in specs/.
+pub mod base;
 mod lengths;
 pub mod limits;
 pub mod line;
@@ -9,6 +10,7 @@ mod tokens;
 mod updates;
 pub mod writer;
 
+use limits::HISTORIES;
 use limits::LIVE;
 use limits::UPDATES;
 
@@ -76,6 +78,26 @@ pub struct DoneHeld {
 pub struct DidLine {
     pub id: u64,
     pub held: DoneHeld,
+}
+
+// A history of a base line, (H V P O): its number, and its version, place and profile.
+pub struct BaseHistory {
+    pub history: u64,
+    pub version: Version,
+    pub place: Place,
+    pub profile: u64,
+}
+
+// The first sixteen histories of a base line, and how many it has.
+pub struct BaseHeld {
+    pub count: usize,
+    pub first: [BaseHistory; HISTORIES],
+}
+
+// A base line, `(base N (H V P O)...)`: its N, and what is held of its histories.
+pub struct BaseLine {
+    pub number: u64,
+    pub held: BaseHeld,
 }
 
 // Why a call is refused. The papers' numbers are given by `numberOf` in specs/Refusals.antt.

@@ -18,6 +18,9 @@ pub const PARTS: u64 = 8;
 // 02 (c): "A did line has at most 312 bytes", its end among them.
 pub const DID_BYTES: usize = 312;
 
+// 02 (h): "A base line may have 1,074 bytes with its end."
+pub const BASE_BYTES: usize = 1074;
+
 // "a log buffer at most 65,536"
 pub const LOG_BYTES: usize = 65536;
 

@@ -46,7 +46,7 @@ pub(crate) fn write_number(buf: &mut [u8], at: usize, x: u64) -> usize
 }
 
 // Writes a space and a number.
-fn write_field(buf: &mut [u8], at: usize, x: u64) -> usize
+pub(crate) fn write_field(buf: &mut [u8], at: usize, x: u64) -> usize
     requires { ⌜ at + length (fieldText x) ≤ length (now buf) ⌝ }
     ensures { λ n. ⌜ Wrote (now (buf .entry)) at (fieldText x) n (now (buf .exit)) ⌝ }
 {

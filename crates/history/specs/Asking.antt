@@ -52,7 +52,8 @@ changeUpdate x = record { rule = ruleOf (x .rule); history = x .history; version
 
 -- The items that stand for an update and for a change.
 abbrev pub updateItem : Update → Item
-updateItem u = record { rule = u .rule; history = u .history; version = record { 0 = u .version }; place = record { 0 = 0 }; operand = u .operand }
+updateItem u =
+    record { rule = u .rule; history = u .history; version = record { 0 = u .version }; place = record { 0 = 0 }; operand = u .operand }
 
 abbrev pub changeItem : Change → Item
 changeItem x =

@@ -12,7 +12,8 @@ use lib.ListN.{length, getD, take, drop, length-map, List·getD-map}
 use lib.Seq.{take-suc}
 use Rattle.forms.specs.Lists.{any}
 use Rattle.forms.specs.Forms.{Update, Change, Did}
-use Rattle.forms.specs.Held.{asUpdate, asAsked, asChange, asDone, noUpdate, noChange, firstFour, heldUpdates, heldChanges, heldDid, updatesOf, changesOf, didOf}
+use Rattle.forms.specs.Held.{asUpdate, asAsked, asChange, asDone, noUpdate, noChange, firstFour, heldUpdates, heldChanges, heldDid}
+use Rattle.forms.specs.Held.{updatesOf, changesOf, didOf}
 use Rattle.forms.specs.declared.Asked.{Asked}
 use Rattle.forms.specs.declared.Done.{Done}
 use Rattle.forms.specs.declared.AskedHeld.{AskedHeld}
@@ -29,7 +30,8 @@ use Rattle.rules.specs.Calls.{nothingOrders}
 use Rattle.history.specs.declared.Item.{Item}
 use Rattle.history.specs.declared.AskedTest.the-variants.{Absent, In, Misfits, Strong, Orders}
 use Rattle.history.specs.declared.Verdict.the-variants.{Passes, Refused}
-use Rattle.history.specs.Asking.{verdictOf, askedTest, askedPasses, noAsked, noDoneUpdate, changeUpdate, updateItem, changeItem, UsableUpdate, UsableHeld, UsableDid, Enters, EntersDid}
+use Rattle.history.specs.Asking.{verdictOf, askedTest, askedPasses, noAsked, noDoneUpdate, changeUpdate, updateItem, changeItem}
+use Rattle.history.specs.Asking.{UsableUpdate, UsableHeld, UsableDid, Enters, EntersDid}
 use Rattle.history.specs.Entries.{itemUpdate, itemChange, operationOf, didOfEntry, UsableItem}
 use Rattle.history.specs.EntryLaws.{usable-four, items-four}
 use Rattle.history.specs.Tests.{or-false-parts, any-get, length-part, part-in, part-out, four-at, any-snoc}
@@ -78,17 +80,20 @@ module _ (first : List Asked) (i : ℕ) where
       more : historiesTo (i + 1) first ≡ historiesTo i first ++ (getD first i noAsked .history ∷ [])
       more = rw (add-one, take-suc first i noAsked h, map-append)
 
-  pub twice-hit : (b : Bool) → b ≡ any (askedPasses (In (getD first i noAsked .history))) (take i first) → b ≡ true → (n : ℕ) → i < n → n ≤ length first
+  pub twice-hit : (b : Bool) → b ≡ any (askedPasses (In (getD first i noAsked .history))) (take i first) → b ≡ true → (n : ℕ) → i < n →
+      n ≤ length first
       → historyTwice (historiesTo n first) ≡ true
   twice-hit b e f n h g =
       ap historyTwice (ap (map (λ (a : Asked). a .history)) (take-split first noAsked i n h g)
       ∙ map-append (λ (a : Asked). a .history) (take i first) (getD first i noAsked ∷ drop (suc i) (take n first)))
-      ∙ twice-mid (historiesTo i first) (getD first i noAsked .history) (map (λ (a : Asked). a .history) (drop (suc i) (take n first))) (in-is b e true f)
+      ∙ twice-mid (historiesTo i first) (getD first i noAsked .history) (map (λ (a : Asked). a .history) (drop (suc i) (take n first)))
+      (in-is b e true f)
 
 -- ### Nothing orders
 
-pub orders-by : (held : AskedHeld)
-    → nothingOrders (updatesOf held) ≡ (any (askedPasses Strong) (take (held .count) (held .first)) && not (any (askedPasses Orders) (take (held .count) (held .first))))
+pub orders-by : (held : AskedHeld) →
+    nothingOrders (updatesOf held) ≡
+    (any (askedPasses Strong) (take (held .count) (held .first)) && not (any (askedPasses Orders) (take (held .count) (held .first))))
 unfolding nothingOrders updatesOf askedTest
 orders-by held =
     let l = take (held .count) (held .first) in
@@ -109,10 +114,12 @@ module _ (n : ℕ) (held : AskedHeld) (us : List Update) (e : held ≡ heldUpdat
   -- the verdict, by what the four checks found
   verdict : (w a t m : Bool) → wrongCount us ≡ w → noSuchHistory n (map (λ (u : Update). u .history) us) ≡ a
       → historyTwice (map (λ (u : Update). u .history) us) ≡ t
-      → any updateMisfits us ≡ m
-      → verdictOf (updatesRefusal n us) ≡ verdictOf (check w WrongCount (check a NoSuchHistory (check t HistoryTwice (check m OperandRange none))))
+      → any updateMisfits us ≡ m →
+      verdictOf (updatesRefusal n us)
+      ≡ verdictOf (check w WrongCount (check a NoSuchHistory (check t HistoryTwice (check m OperandRange none))))
   unfolding updatesRefusal formRefusal
-  verdict w a t m p q r s = λ i. verdictOf (check (p i) WrongCount (check (q i) NoSuchHistory (check (r i) HistoryTwice (check (s i) OperandRange none))))
+  verdict w a t m p q r s =
+      λ i. verdictOf (check (p i) WrongCount (check (q i) NoSuchHistory (check (r i) HistoryTwice (check (s i) OperandRange none))))
 
   pub refused-none : held .count < 1 → Refused WrongCount ≡ verdictOf (updatesRefusal n us)
   unfolding verdictOf check wrongCount
@@ -176,11 +183,13 @@ module _ (n : ℕ) (a : Asked) where
   unfolding verdictOf check
   one-absent e = sym (one-verdict true (askedPasses Misfits a) e refl)
 
-  pub one-misfits : askedPasses (Absent n) a ≡ false → askedPasses Misfits a ≡ true → Refused OperandRange ≡ verdictOf (updatesRefusal n (asUpdate a ∷ []))
+  pub one-misfits : askedPasses (Absent n) a ≡ false → askedPasses Misfits a ≡ true →
+      Refused OperandRange ≡ verdictOf (updatesRefusal n (asUpdate a ∷ []))
   unfolding verdictOf check
   one-misfits e f = sym (one-verdict false true e f)
 
-  pub one-passes : askedPasses (Absent n) a ≡ false → askedPasses Misfits a ≡ false → Passes ≡ verdictOf (updatesRefusal n (asUpdate a ∷ []))
+  pub one-passes : askedPasses (Absent n) a ≡ false → askedPasses Misfits a ≡ false →
+      Passes ≡ verdictOf (updatesRefusal n (asUpdate a ∷ []))
   unfolding verdictOf check
   one-passes e f = sym (one-verdict false false e f)
 
@@ -204,12 +213,15 @@ changes-refusal n xs = sym (form-map changeUpdate (λ (u : Update). u .history) 
 
 -- what is held of the changes, as held updates
 pub held-changes : (held : DoneHeld) (xs : List Change) → held ≡ heldChanges xs → {a b c d : Asked}
-    → a ≡ asAsked (changeUpdate (asChange (getD (held .first) 0 noDoneUpdate))) → b ≡ asAsked (changeUpdate (asChange (getD (held .first) 1 noDoneUpdate)))
-    → c ≡ asAsked (changeUpdate (asChange (getD (held .first) 2 noDoneUpdate))) → d ≡ asAsked (changeUpdate (asChange (getD (held .first) 3 noDoneUpdate)))
+    → a ≡ asAsked (changeUpdate (asChange (getD (held .first) 0 noDoneUpdate))) →
+    b ≡ asAsked (changeUpdate (asChange (getD (held .first) 1 noDoneUpdate)))
+    → c ≡ asAsked (changeUpdate (asChange (getD (held .first) 2 noDoneUpdate))) →
+    d ≡ asAsked (changeUpdate (asChange (getD (held .first) 3 noDoneUpdate)))
     → _≡_ {A = AskedHeld} (record { count = held .count; first = a ∷ b ∷ c ∷ d ∷ [] }) (heldUpdates (map changeUpdate xs))
 unfolding heldUpdates heldChanges
 held-changes held xs e p q r s =
-    ap₂ {C = AskedHeld} (λ (n : ℕ) (l : List Asked). record { count = n; first = l }) (ap (λ (h : DoneHeld). h .count) e ∙ sym (length-map xs changeUpdate))
+    ap₂ {C = AskedHeld} (λ (n : ℕ) (l : List Asked). record { count = n; first = l })
+    (ap (λ (h : DoneHeld). h .count) e ∙ sym (length-map xs changeUpdate))
     (four-eq (p ∙ at 0) (q ∙ at 1) (r ∙ at 2) (s ∙ at 3) ∙ four-map changeUpdate asAsked noChange xs)
   where
     at : (i : ℕ) → asAsked (changeUpdate (asChange (getD (held .first) i noDoneUpdate)))
@@ -245,7 +257,9 @@ module _ {A : Type 0} (f : A → Update) (n : ℕ) (xs : List A) where
         once = c .0;
         each = λ most d i h.
             record {
-              history = below most d i h (any-get (λ (x : A). leb n (f x .history)) xs d i h (sym (any-map (λ (x : A). f x .history) (leb n) xs) ∙ b .0));
+              history =
+                  below most d i h (any-get (λ (x : A). leb n (f x .history)) xs d i h
+                  (sym (any-map (λ (x : A). f x .history) (leb n) xs) ∙ b .0));
               operand = not-false (operandFits (f (getD xs i d) .rule) (f (getD xs i d) .version) (f (getD xs i d) .operand))
                   (any-get (λ (x : A). updateMisfits (f x)) xs d i h (m .0));
             };
@@ -274,7 +288,8 @@ usable-held n us most e =
     record {
       few = p .few;
       long = refl;
-      each = λ i h. subst (λ (a : Asked). UsableUpdate (asUpdate a)) (sym (four-at asAsked noUpdate us i noAsked (omega (arith, h, p .few))))
+      each =
+          λ i h. subst (λ (a : Asked). UsableUpdate (asUpdate a)) (sym (four-at asAsked noUpdate us i noAsked (omega (arith, h, p .few))))
           (p .each most noUpdate i h);
     }
 
@@ -296,10 +311,12 @@ held-long held us e = ap (λ (h : AskedHeld). length (h .first)) e
 pub updates-held : (us : List Update) → length us ≤ 4 → updatesOf (heldUpdates us) ≡ us
 unfolding updatesOf heldUpdates
 updates-held us h =
-    ap (map asUpdate) (four-held asAsked noUpdate us h) ∙ map-map asAsked asUpdate us ∙ map-same (λ (u : Update). asUpdate (asAsked u)) us (λ u. refl)
+    ap (map asUpdate) (four-held asAsked noUpdate us h) ∙ map-map asAsked asUpdate us
+    ∙ map-same (λ (u : Update). asUpdate (asAsked u)) us (λ u. refl)
 
 -- the only update that is held
-pub only-update : (held : AskedHeld) (us : List Update) → held ≡ heldUpdates us → held .count ≡ 1 → asUpdate (getD (held .first) 0 noAsked) ∷ [] ≡ us
+pub only-update : (held : AskedHeld) (us : List Update) → held ≡ heldUpdates us → held .count ≡ 1 →
+    asUpdate (getD (held .first) 0 noAsked) ∷ [] ≡ us
 unfolding updatesOf
 only-update held us e one =
     let long = held-long held us e in
@@ -318,8 +335,9 @@ module _ {A B : Type 0} (f : A → B) (n : ℕ) (l : List A) (i : ℕ) (d : A) w
   pub mapped-out : n ≤ i → f d ≡ getD (map f (take n l)) i (f d)
   mapped-out h = ap f (part-out n l i d h) ∙ sym (List·getD-map f (take n l) i d)
 
-pub enters : (id : ℕ) (held : AskedHeld) → UsableHeld held → (items : List Item) → items ≡ firstFour updateItem noUpdate (updatesOf held)
-    → Enters (record { id = id; updates = updatesOf held; running = false }) (record { id = id; running = false; count = held .count; items = items })
+pub enters : (id : ℕ) (held : AskedHeld) → UsableHeld held → (items : List Item) → items ≡ firstFour updateItem noUpdate (updatesOf held) →
+    Enters (record { id = id; updates = updatesOf held; running = false })
+    (record { id = id; running = false; count = held .count; items = items })
 unfolding operationOf updatesOf
 enters id held u items q =
     record {
@@ -372,9 +390,12 @@ enters-did line u items q =
 
     ok : (i : ℕ) → i < held .count → UsableItem (changeItem (getD xs i noChange))
     ok i h =
-        let x = subst (λ (y : Change). UsableUpdate (changeUpdate y)) (mapped-in asChange (held .count) (held .first) i noDoneUpdate h) (u .each i h) in
+        let x =
+        subst (λ (y : Change). UsableUpdate (changeUpdate y)) (mapped-in asChange (held .count) (held .first) i noDoneUpdate h)
+        (u .each i h) in
         record { history = x .history; operand = x .operand }
 
     same : (x : Change) → itemChange (changeItem x) ≡ x
     same x = ap {B = Change}
-        (λ (r : DoneRule). record { rule = r; history = x .history; version = x .version; place = x .place; operand = x .operand }) (logged-rule (x .rule))
+        (λ (r : DoneRule). record { rule = r; history = x .history; version = x .version; place = x .place; operand = x .operand })
+        (logged-rule (x .rule))

@@ -1,5 +1,5 @@
 -- Laws of tests and effects on cells: from arrays to the log, and from one book to another.
-use Prim.Native.Nat.{ℕ, _+_, _≤_, _<_, _^_}
+use Prim.Native.Nat.{ℕ, _+_, _≤_, _<_}
 use mathlib.Core.Path.{_≡_, refl, sym, ap, ap₂, _∙_}
 use mathlib.Core.Bool.{Bool, true, false, cond, _&&_, not}
 use mathlib.Core.List.{List, [], _∷_, _++_, map, map-append}
@@ -11,62 +11,65 @@ use lib.ListN.{length, getD, take, set, length-map, length-take}
 use lib.Seq.{take-suc, getD-set-same, getD-set-other}
 use Rattle.forms.specs.Decimal.{top}
 use Rattle.forms.specs.Lists.{any}
-use Rattle.forms.specs.Forms.{Update, Change, Did}
+use Rattle.forms.specs.Forms.{Base, Update, Change, Did}
 use Rattle.forms.specs.declared.Rule.{Rule}
 use Rattle.forms.specs.declared.Rule.the-variants.{Inc, Set, Not, Unk}
 use Rattle.forms.specs.declared.DoneRule.{DoneRule}
 use Rattle.forms.specs.declared.DoneRule.the-variants.{DidInc, DidSet, DidNot}
 use Rattle.rules.specs.Rules.{strong, ordered, loggedAs, profileAfter}
 use Rattle.rules.specs.Book.{Cell, cell, entered, enter, enterAll, runsAt, canRun}
-use Rattle.rules.specs.State.{Operation, State}
+use Rattle.rules.specs.State.{Operation, State, startOf}
 use Rattle.rules.specs.Calls.{mayRunNow, stale, alreadyDone, readOvertaken, changeOf, lineOf, valuesAfter}
 use Rattle.history.specs.declared.History.{History}
 use Rattle.history.specs.declared.Item.{Item}
 use Rattle.history.specs.declared.Entry.{Entry}
 use Rattle.history.specs.declared.ItemTest.the-variants.{Waits, Stale, Ran, Overtaken, Highest}
-use Rattle.history.specs.Entries.{noHistory, cellOf, cellsOf, noItem, itemUpdate, itemChange, itemsOf, operationOf, didOfEntry, canRunIn, mayRunIn}
+use Rattle.history.specs.Entries.{noHistory, cellOf, cellsOf, noItem, itemUpdate, itemChange, itemsOf, operationOf, didOfEntry}
+use Rattle.history.specs.Entries.{canRunIn, mayRunIn}
 use Rattle.history.specs.Cells.{itemTest, testIn, staleIn, alreadyDoneIn, readOvertakenIn, atHighestIn, changeIn, lineIn, valuesIn}
+use Rattle.history.specs.Cells.{LowPlace}
 use Rattle.history.specs.Tests.{none-fails, all-map, any-map}
 use Rattle.rules.specs.Book.{canRunWith, enterAllWith, enterWith, enteredWith}
 
 -- ### The book of a log
 
--- the cells that a log gives
-abbrev pub logCells : List Did → ℕ → Cell
-logCells log h = cell h log
+-- the cells that a log gives behind its base
+abbrev pub logCells : (σ : Base) → List Did → ℕ → Cell
+logCells σ log h = cell σ h log
 
-pub can-run-log : (log : List Did) (d : Did) → canRunIn (logCells log) d ≡ canRun log d
+pub can-run-log : (σ : Base) (log : List Did) (d : Did) → canRunIn (logCells σ log) d ≡ canRun σ log d
 unfolding canRunIn canRunWith
-can-run-log log d = refl
+can-run-log σ log d = refl
 
-pub may-run-log : (log : List Did) (u : Update) → mayRunIn (logCells log) u ≡ mayRunNow log u
+pub may-run-log : (σ : Base) (log : List Did) (u : Update) → mayRunIn (logCells σ log) u ≡ mayRunNow σ log u
 unfolding mayRunIn mayRunNow
-may-run-log log u = refl
+may-run-log σ log u = refl
 
-pub stale-log : (st : State) (x : Change) → staleIn (logCells (st .log)) x ≡ stale st x
+pub stale-log : (st : State) (x : Change) → staleIn (logCells (startOf st) (st .log)) x ≡ stale st x
 unfolding staleIn stale
 stale-log st x = refl
 
-pub already-done-log : (st : State) (u : Update) → alreadyDoneIn (logCells (st .log)) u ≡ alreadyDone st u
+pub already-done-log : (st : State) (u : Update) → alreadyDoneIn (logCells (startOf st) (st .log)) u ≡ alreadyDone st u
 unfolding alreadyDoneIn alreadyDone
 already-done-log st u = refl
 
-pub read-overtaken-log : (st : State) (u : Update) → readOvertakenIn (logCells (st .log)) u ≡ readOvertaken st u
+pub read-overtaken-log : (st : State) (u : Update) → readOvertakenIn (logCells (startOf st) (st .log)) u ≡ readOvertaken st u
 unfolding readOvertakenIn readOvertaken
 read-overtaken-log st u = refl
 
-pub line-log : (log : List Did) (x : Operation) → lineIn (logCells log) x ≡ lineOf log x
+pub line-log : (σ : Base) (log : List Did) (x : Operation) → lineIn (logCells σ log) x ≡ lineOf σ log x
 unfolding lineIn lineOf changeIn changeOf
-line-log log x = refl
+line-log σ log x = refl
 
-pub values-log : (log : List Did) (us : List Update) → valuesIn (logCells log) us ≡ valuesAfter log us
+pub values-log : (σ : Base) (log : List Did) (us : List Update) → valuesIn (logCells σ log) us ≡ valuesAfter σ log us
 unfolding valuesIn valuesAfter
-values-log log us = refl
+values-log σ log us = refl
 
 -- ### A change does to a history what the book says
 
-pub entered-by : (r : Rule) (v o : ℕ) (c : Cell)
-    → entered (loggedAs r) v o c ≡ record { profile = profileAfter r o (c .profile); version = cond (strong r) v (c .version); place = c .place + 1 }
+pub entered-by : (r : Rule) (v o : ℕ) (c : Cell) →
+    entered (loggedAs r) v o c
+    ≡ record { profile = profileAfter r o (c .profile); version = cond (strong r) v (c .version); place = c .place + 1 }
 unfolding enteredWith
 entered-by Inc v o c = refl
 entered-by Set v o c = refl
@@ -166,21 +169,24 @@ module _ (hs₀ hs : List History) (items : List Item) (i : ℕ) where
   Entered = (h : ℕ) → h < 16 → cellsOf hs h ≡ enterAll h (changesTo i items) (cellsOf hs₀ h)
 
 module _ (hs₀ hs : List History) (items : List Item) (i : ℕ) (inv : Entered hs₀ hs items i) where
-  pub low-place : (h : ℕ) → h < 16 → cellsOf hs₀ h .place < 2 ^ 63 → i ≤ 4 → cellsOf hs h .place < 18446744073709551615
+  pub low-place : (h : ℕ) → h < 16 → LowPlace (cellsOf hs₀ h) → i ≤ 4 → cellsOf hs h .place < 18446744073709551615
   low-place h lt low le =
-      let p : cellsOf hs h .place ≤ cellsOf hs₀ h .place + length (changesTo i items) = rw (inv h lt) (place-rises h (changesTo i items) (cellsOf hs₀ h)) in
+      let p : cellsOf hs h .place ≤ cellsOf hs₀ h .place + length (changesTo i items) =
+      rw (inv h lt) (place-rises h (changesTo i items) (cellsOf hs₀ h)) in
       omega (arith, low, length-map (take i items) itemChange, length-take i items)
 
   module _ (y : History) (inside : i < length items) (long : length hs ≡ 16) (below : getD items i noItem .history < 16) where
     abbrev pub itemNow : Item
     itemNow = getD items i noItem
 
-    pub entered-next : cellOf y ≡ entered (loggedAs (itemNow .rule)) (itemNow .version .0) (itemNow .operand) (cellsOf hs (itemNow .history))
+    pub entered-next : cellOf y ≡ entered (loggedAs (itemNow .rule)) (itemNow .version .0) (itemNow .operand)
+        (cellsOf hs (itemNow .history))
         → Entered hs₀ (set hs (itemNow .history) y) items (i + 1)
     unfolding enterWith
     entered-next e h lt =
         go (eqb t h) refl
-        ∙ sym (ap (λ (l : List Change). enterAll h l (cellsOf hs₀ h)) more ∙ enter-all-snoc h (changesTo i items) (itemChange itemNow) (cellsOf hs₀ h))
+        ∙ sym (ap (λ (l : List Change). enterAll h l (cellsOf hs₀ h)) more ∙ enter-all-snoc h (changesTo i items) (itemChange itemNow)
+        (cellsOf hs₀ h))
       where
         t : ℕ
         t = itemNow .history

@@ -1,11 +1,12 @@
 -- What the specification asks of the book of a log, asked of the cells of an array of histories.
-use Prim.Native.Nat.{ℕ, _+_, _<_, _^_}
+use Prim.Native.Nat.{ℕ, _+_, _≤_, _<_}
 use mathlib.Core.Path.{_≡_}
 use mathlib.Core.Bool.{Bool, false, _&&_, not}
 use mathlib.Core.List.{List, map}
 use lib.Dec.{leb, ltb}
 use lib.ListN.{length, getD}
 use Rattle.forms.specs.Decimal.{top}
+use Rattle.forms.specs.Limits.{baseTop, logLimit}
 use Rattle.forms.specs.Lists.{any}
 use Rattle.forms.specs.Forms.{Update, Change, Did}
 use Rattle.rules.specs.Rules.{timing, isNever, strong, ordered, ruleOf, loggedAs, versionAfter}
@@ -98,10 +99,14 @@ valuesIn cells us = map (λ (u : Update). cells (u .history) .profile) us
 
 -- ### Performing
 
--- Places that can rise, as a log has far fewer changes: those of the histories of an entry, and of history 0, which blank items name.
+-- A place that can rise: at most the highest N of a base line, and one more for each change, which takes bytes of the log.
+abbrev pub LowPlace : Cell → Type 0
+LowPlace c = c .place ≤ baseTop + logLimit
+
+-- Those of the histories of an entry are, and that of history 0, which blank items name.
 pub record LowPlaces (hs : List History) (e : Entry) : Type 0 where
-  pub first : cellsOf hs 0 .place < 2 ^ 63
-  pub each : (i : ℕ) → i < e .count → cellsOf hs (getD (e .items) i noItem .history) .place < 2 ^ 63
+  pub first : LowPlace (cellsOf hs 0)
+  pub each : (i : ℕ) → i < e .count → LowPlace (cellsOf hs (getD (e .items) i noItem .history))
 
 -- The histories after the changes of a line are what the book makes of them.
 pub record Applies (hs : List History) (e : Entry) (after : List History) : Type 0 where

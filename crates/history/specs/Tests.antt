@@ -130,10 +130,12 @@ module _ {A : Type 0} (n : ℕ) (l : List A) (i : ℕ) (d : A) where
   part-out h = sym (List·getD-eq-default (take n l) d {n = i} (omega (arith, length-take n l)))
 
 module _ {A : Type 0} where
-  pub four-eq : {a a′ b b′ c c′ e e′ : A} → a ≡ a′ → b ≡ b′ → c ≡ c′ → e ≡ e′ → _≡_ {A = List A} (a ∷ b ∷ c ∷ e ∷ []) (a′ ∷ b′ ∷ c′ ∷ e′ ∷ [])
+  pub four-eq : {a a′ b b′ c c′ e e′ : A} → a ≡ a′ → b ≡ b′ → c ≡ c′ → e ≡ e′ →
+      _≡_ {A = List A} (a ∷ b ∷ c ∷ e ∷ []) (a′ ∷ b′ ∷ c′ ∷ e′ ∷ [])
   four-eq p q r s = ap₂ (λ (f g : List A). f ++ g) (ap₂ (λ (x y : A). x ∷ y ∷ []) p q) (ap₂ (λ (x y : A). x ∷ y ∷ []) r s)
 
-pub four-map : {A B C : Type 0} (f : A → B) (g : B → C) (d : A) (l : List A) → firstFour (λ (x : A). g (f x)) d l ≡ firstFour g (f d) (map f l)
+pub four-map : {A B C : Type 0} (f : A → B) (g : B → C) (d : A) (l : List A) →
+    firstFour (λ (x : A). g (f x)) d l ≡ firstFour g (f d) (map f l)
 four-map {A} {B} {C} f g d l = four-eq (one 0) (one 1) (one 2) (one 3)
   where
     one : (i : ℕ) → g (f (getD l i d)) ≡ g (getD (map f l) i (f d))

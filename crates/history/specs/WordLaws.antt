@@ -12,7 +12,8 @@ use lib.Seq.{ext-getD, getD-at, getD-set-same, getD-set-other, drop-set-lt}
 use Rattle.forms.specs.Lists.{below}
 use Rattle.history.specs.declared.History.{History}
 use Rattle.history.specs.Entries.{noHistory}
-use Rattle.history.specs.Words.{within, UnchangedOutside, width, bookLength, historyFrom, historiesIn, columnFrom, PastKept, MarksKept, PutHistory, PutColumn, PutFirst}
+use Rattle.history.specs.Words.{within, UnchangedOutside, width, bookLength, historyFrom, historiesIn, columnFrom, PastKept}
+use Rattle.history.specs.Words.{MarksKept, PutHistory, PutColumn, PutFirst}
 
 -- a number below the limit
 pub within-of : (limit n : ℕ) → n < limit → within limit n ≡ n
@@ -38,13 +39,15 @@ module _ {A : Type 0} (f : ℕ → A) where
       ap (λ (l : List A). getD l i d) (map-append f (below n) (n ∷ [])) ∙ go (ltb i n) refl (λ g. made-at n i d g)
     where
       go : (b : Bool) → ltb i n ≡ b → (i < n → getD (map f (below n)) i d ≡ f i) → getD (map f (below n) ++ (f n ∷ [])) i d ≡ f i
-      go true e more = List·getD-append (map f (below n)) (f n ∷ []) d i (omega (arith, ltb-true i n e, made-long n)) ∙ more (ltb-true i n e)
+      go true e more =
+          List·getD-append (map f (below n)) (f n ∷ []) d i (omega (arith, ltb-true i n e, made-long n)) ∙ more (ltb-true i n e)
       go false e more =
           let q : i ≡ n = omega (arith, ltb-false i n e) in
           getD-at (map f (below n)) (f n) [] d i (made-long n ∙ sym q) ∙ ap f (sym q)
 
 -- A list made by index is one that has these elements.
-pub made-is : {A : Type 0} (f : ℕ → A) (n : ℕ) (d : A) (l : List A) → length l ≡ n → ((i : ℕ) → i < n → f i ≡ getD l i d) → map f (below n) ≡ l
+pub made-is : {A : Type 0} (f : ℕ → A) (n : ℕ) (d : A) (l : List A) → length l ≡ n → ((i : ℕ) → i < n → f i ≡ getD l i d) →
+    map f (below n) ≡ l
 made-is f n d l long same =
     ext-getD d (map f (below n)) l (made-long f n ∙ sym long)
     (λ i h. let k : i < n = omega (arith, made-long f n) in made-at f n i d k ∙ same i k)
@@ -83,7 +86,8 @@ pub kept-same : (at n : ℕ) {a w : ℕ} {old new : List ℕ} → UnchangedOutsi
 kept-same at n q (inl h) k l m = q .before k (omega arith)
 kept-same at n q (inr h) k l m = q .behind k (omega arith)
 
-pub kept-wide : (at n : ℕ) {a w : ℕ} {old new : List ℕ} → UnchangedOutside a w old new → at ≤ a → a + w ≤ at + n → UnchangedOutside at n old new
+pub kept-wide : (at n : ℕ) {a w : ℕ} {old new : List ℕ} → UnchangedOutside a w old new → at ≤ a → a + w ≤ at + n →
+    UnchangedOutside at n old new
 kept-wide at n q h g = record { before = λ k l. q .before k (omega arith); behind = λ k l. q .behind k (omega arith) }
 
 pub kept-then : {at n : ℕ} {x y z : List ℕ} → UnchangedOutside at n x y → UnchangedOutside at n y z → UnchangedOutside at n x z
@@ -100,7 +104,8 @@ kept-set ws at v =
 abbrev pub Filled : (ℕ → ℕ) → (ℕ → ℕ) → ℕ → List ℕ → Type 0
 Filled place f n ws = (k : ℕ) → k < n → getD ws (place k) 0 ≡ f k
 
-pub filled-next : (place f : ℕ → ℕ) (n : ℕ) (ws : List ℕ) → ((k : ℕ) → k < n → place k < place n) → place n < length ws → Filled place f n ws
+pub filled-next : (place f : ℕ → ℕ) (n : ℕ) (ws : List ℕ) → ((k : ℕ) → k < n → place k < place n) → place n < length ws →
+    Filled place f n ws
     → Filled place f (n + 1) (set ws (place n) (f n))
 filled-next place f n ws rises room so k h = go (ltb k n) refl
   where
@@ -131,15 +136,18 @@ unfolding historyFrom
 history-read ws i = refl
 
 -- the first three numbers of history i are the same
-pub history-same : (old new : List ℕ) (i : ℕ) → ((f : ℕ) → f < 3 → getD new (width * i + f) 0 ≡ getD old (width * i + f) 0) → historyFrom new i ≡ historyFrom old i
+pub history-same : (old new : List ℕ) (i : ℕ) → ((f : ℕ) → f < 3 → getD new (width * i + f) 0 ≡ getD old (width * i + f) 0) →
+    historyFrom new i ≡ historyFrom old i
 unfolding historyFrom
 history-same old new i s =
     let first : width * i + 0 ≡ width * i = omega arith in
-    let profile : getD new (width * i) 0 ≡ getD old (width * i) 0 = subst (λ (k : ℕ). getD new k 0 ≡ getD old k 0) first (s 0 (omega arith)) in
+    let profile : getD new (width * i) 0 ≡ getD old (width * i) 0 =
+    subst (λ (k : ℕ). getD new k 0 ≡ getD old k 0) first (s 0 (omega arith)) in
     rw (profile, s 1 (omega arith), s 2 (omega arith))
 
 -- .. of each history
-pub histories-same : (old new : List ℕ) → ((i f : ℕ) → i < 16 → f < 3 → getD new (width * i + f) 0 ≡ getD old (width * i + f) 0) → historiesIn new ≡ historiesIn old
+pub histories-same : (old new : List ℕ) → ((i f : ℕ) → i < 16 → f < 3 → getD new (width * i + f) 0 ≡ getD old (width * i + f) 0) →
+    historiesIn new ≡ historiesIn old
 unfolding historiesIn
 histories-same old new s =
     made-is (historyFrom new) 16 noHistory (map (historyFrom old) (below 16)) (made-long (historyFrom old) 16)
@@ -161,7 +169,8 @@ unfolding columnFrom
 column-is f ws l long same = made-is (λ (i : ℕ). getD ws (width * i + f) 0) 16 0 l long same
 
 -- words that agree there have the same column
-pub column-same : (f : ℕ) (old new : List ℕ) → ((i : ℕ) → i < 16 → getD new (width * i + f) 0 ≡ getD old (width * i + f) 0) → columnFrom f new ≡ columnFrom f old
+pub column-same : (f : ℕ) (old new : List ℕ) → ((i : ℕ) → i < 16 → getD new (width * i + f) 0 ≡ getD old (width * i + f) 0) →
+    columnFrom f new ≡ columnFrom f old
 column-same f old new s = column-is f new (columnFrom f old) (column-long f old) (λ i h. s i h ∙ sym (column-in f old i h))
 
 -- the versions of the histories are a column
@@ -242,7 +251,8 @@ module _ (ws : List ℕ) (i : ℕ) (h : History) (low : i < 16) (long : length w
         past =
             λ n l.
             past-set n ws second (width * i + 2) (h .place .0) (omega (arith, l))
-            (past-set n ws first (width * i + 1) (h .version .0) (omega (arith, l)) (past-set n ws ws (width * i) (h .profile) (omega (arith, l)) refl));
+            (past-set n ws first (width * i + 1) (h .version .0) (omega (arith, l))
+            (past-set n ws ws (width * i) (h .profile) (omega (arith, l)) refl));
       }
 
 -- A column stored number after number: the first m are those of the row, and nothing else has changed.
@@ -256,15 +266,18 @@ pub stored-none : (f : ℕ) (row ws : List ℕ) → length ws ≡ bookLength →
 stored-none f row ws long =
     record { long = long; done = λ h l. absurd (let z : h < 0 = l in omega arith); rest = λ g h l ne. refl; past = λ n l. refl }
 
-pub stored-next : (f m : ℕ) (row old ws : List ℕ) → f < width → m < 16 → Stored f m row old ws → Stored f (m + 1) row old (set ws (width * m + f) (getD row m 0))
+pub stored-next : (f m : ℕ) (row old ws : List ℕ) → f < width → m < 16 → Stored f m row old ws →
+    Stored f (m + 1) row old (set ws (width * m + f) (getD row m 0))
 stored-next f m row old ws few low s =
     record {
       long = length-set ws (width * m + f) (getD row m 0) ∙ s .long;
       done =
-          filled-next (λ (h : ℕ). width * h + f) (λ (h : ℕ). getD row h 0) m ws (λ h l. omega (arith, l)) (omega (arith, few, low, s .long)) (s .done);
+          filled-next (λ (h : ℕ). width * h + f) (λ (h : ℕ). getD row h 0) m ws (λ h l. omega (arith, l))
+          (omega (arith, few, low, s .long)) (s .done);
       rest =
           λ g h l ne.
-          getD-set-other ws (width * m + f) (width * h + g) (getD row m 0) 0 (λ (e : width * h + g ≡ width * m + f). ne (omega (arith, e, l, few)))
+          getD-set-other ws (width * m + f) (width * h + g) (getD row m 0) 0
+          (λ (e : width * h + g ≡ width * m + f). ne (omega (arith, e, l, few)))
           ∙ s .rest g h l ne;
       past = λ n l. past-set n old ws (width * m + f) (getD row m 0) (omega (arith, l, few)) (s .past n (omega (arith, l)));
     }
@@ -287,7 +300,8 @@ pub record FirstStored (n : ℕ) (f : ℕ → ℕ) (i : ℕ) (old ws : List ℕ)
 pub first-none : (n : ℕ) (f : ℕ → ℕ) (ws : List ℕ) → length ws ≡ bookLength → FirstStored n f 0 ws ws
 first-none n f ws long = record { long = long; done = λ k h. absurd (let z : k < 0 = h in omega arith); past = refl }
 
-pub first-next : (n : ℕ) (f : ℕ → ℕ) (i : ℕ) (old ws : List ℕ) → i < width * n → n ≤ 16 → FirstStored n f i old ws → FirstStored n f (i + 1) old (set ws i (f i))
+pub first-next : (n : ℕ) (f : ℕ → ℕ) (i : ℕ) (old ws : List ℕ) → i < width * n → n ≤ 16 → FirstStored n f i old ws →
+    FirstStored n f (i + 1) old (set ws i (f i))
 first-next n f i old ws l le s =
     record {
       long = length-set ws i (f i) ∙ s .long;
@@ -303,13 +317,16 @@ first-all n f i old ws le s = record { words = λ k h. s .done k (omega arith); 
 -- the first histories have the numbers stored there
 pub first-history : (n : ℕ) (f : ℕ → ℕ) (old new from : List ℕ) → PutFirst n f old new → ((k : ℕ) → f k ≡ getD from k 0)
     → (i : ℕ) → i < n → historyFrom new i ≡ historyFrom from i
-first-history n f old new from p same i l = history-same from new i (λ g m. p .words (width * i + g) (omega (arith, l, m)) ∙ same (width * i + g))
+first-history n f old new from p same i l =
+    history-same from new i (λ g m. p .words (width * i + g) (omega (arith, l, m)) ∙ same (width * i + g))
 
-pub first-column : (n : ℕ) (f : ℕ → ℕ) (old new : List ℕ) → PutFirst n f old new → (g i : ℕ) → g < width → i < n → n ≤ 16 → getD (columnFrom g new) i 0 ≡ f (width * i + g)
+pub first-column : (n : ℕ) (f : ℕ → ℕ) (old new : List ℕ) → PutFirst n f old new → (g i : ℕ) → g < width → i < n → n ≤ 16 →
+    getD (columnFrom g new) i 0 ≡ f (width * i + g)
 first-column n f old new p g i l h le = column-in g new i (omega arith) ∙ p .words (width * i + g) (omega (arith, h, l))
 
 -- a cleared history
-pub cleared-history : (n : ℕ) (old new : List ℕ) → PutFirst n (λ (k : ℕ). 0) old new → (i : ℕ) → i < n → n ≤ 16 → getD (historiesIn new) i noHistory ≡ noHistory
+pub cleared-history : (n : ℕ) (old new : List ℕ) → PutFirst n (λ (k : ℕ). 0) old new → (i : ℕ) → i < n → n ≤ 16 →
+    getD (historiesIn new) i noHistory ≡ noHistory
 unfolding historyFrom
 cleared-history n old new p i l le =
     history-in new i (omega arith) ∙ first-history n (λ (k : ℕ). 0) old new [] p (λ k. refl) i l

@@ -1,4 +1,4 @@
--- Histories in words: how the histories of a site, and their persistent and stable versions, stand in the array of numbers that is lent to it.
+-- Histories in words: how the histories of a site, and their persistent and stable versions, stand in the numbers that are lent to it.
 use Prim.Native.Nat.{ℕ, _+_, _*_, _≤_, _<_}
 use mathlib.Core.Path.{_≡_}
 use mathlib.Core.Bool.{cond}
@@ -97,8 +97,8 @@ Cleared n old new = PutFirst n (λ (k : ℕ). 0) old new
 abbrev pub Copied : ℕ → List ℕ → List ℕ → List ℕ → Type 0
 Copied n from old new = PutFirst n (λ (k : ℕ). getD from k 0) old new
 
--- The histories after the changes of a line are what the book makes of them; the persistent and stable versions are as they were, and so are the
--- words past the first n histories, if the line's are among these.
+-- The histories after the changes of a line are what the book makes of them; the persistent and stable versions are as they were, and so
+-- are the words past the first n histories, if the line's are among these.
 pub record AppliesIn (e : Entry) (old new : List ℕ) : Type 0 where
   pub applies : Applies (historiesIn old) e (historiesIn new)
   pub marks : MarksKept old new

@@ -14,7 +14,7 @@ use Rattle.forms.specs.ListLaws.{Nodup, nodup-mid, nodup-right, mem-split, mem-
 use Rattle.forms.specs.Forms.{Did, didText}
 use Rattle.rules.specs.Book.{touches}
 use Rattle.rules.specs.BookLaws.{proj, proj-mid}
-use Rattle.rules.specs.State.{State, linesIn}
+use Rattle.rules.specs.State.{startOf, State, linesIn}
 use Rattle.rules.specs.Calls.{Cut}
 use Rattle.rules.specs.Run.{run}
 use Rattle.recovery.specs.Claim.{lostBy, shares, Closed, Comes, came}
@@ -115,14 +115,15 @@ work-on a b c S R = same-work a c (perm-trans (S .rearranged) (R .rearranged)) (
 
 -- The end of a list, as Recovery's `ending` has it, where every line was chosen.
 pub work-done : (room : ℕ) (before after : State) (C : Cutting room before after) (lines : List (List ℕ)) (final : State) →
-    Site (before .histories) (linesIn after) (after .log) (lostBy before after) every lines final →
+    Site (before .histories) (after .base) (linesIn after) (after .log) (lostBy before after) every lines final →
     ((d : Did) → Mem d (lostBy before after) → T (every d) → Comes lines d) → SameWork (before .log) (final .log)
 work-done room before after C lines final G all =
     same-work (before .log) (final .log)
     (subst (λ (l : List Did). Perm l (final .log)) (sym (C .first))
     (subst (λ (l : List Did). Perm (kept ++ lost) l) (sym (I .split)) (Permᴰ·append-left kept both)))
     (λ h. ap (proj h) (C .first)
-    ∙ sym (book-proj didText kept lost every S lines (final .log) (final .waiting) I (G .good .quiet) all h lost (just-all lost (λ d m. whole d m))))
+    ∙ sym (book-proj (startOf final) didText kept lost every S lines (final .log) (final .waiting) I (G .good .quiet) all h lost
+    (just-all lost (λ d m. whole d m))))
   where
     kept : List Did
     kept = after .log
@@ -130,10 +131,10 @@ work-done room before after C lines final G all =
     lost : List Did
     lost = lostBy before after
 
-    S : Setting didText kept lost every
-    S = setting-of (before .histories) (linesIn after) kept lost every (G .picked)
+    S : Setting (startOf final) didText kept lost every
+    S = setting-of (before .histories) (after .base) (linesIn after) kept lost every (startOf final) (G .picked)
 
-    I : Inv didText kept lost every lines (final .log) (final .waiting)
+    I : Inv (startOf final) didText kept lost every lines (final .log) (final .waiting)
     I = G .inv
 
     whole : (d : Did) → Mem d lost → Closed lost every d
@@ -141,9 +142,10 @@ work-done room before after C lines final G all =
 
     both : Perm lost (I .ran)
     both =
-        perm-same lost (I .ran) (nodup-right kept lost (nodup-first didText kept lost every S))
-        (site-nodup (before .histories) (linesIn after) kept lost every lines final G)
-        (λ d m. closed-ran didText kept lost every S lines (final .log) (final .waiting) I (G .good .quiet) all d m (whole d m))
+        perm-same lost (I .ran) (nodup-right kept lost (nodup-first (startOf final) didText kept lost every S))
+        (site-nodup (before .histories) (after .base) (linesIn after) kept lost every lines final G)
+        (λ d m. closed-ran (startOf final) didText kept lost every S lines (final .log) (final .waiting) I (G .good .quiet) all d m
+        (whole d m))
         (λ d m. I .ran-chosen d m .0)
 
 pub arrival : ArrivalClaim

@@ -12,7 +12,7 @@ use Rattle.forms.specs.Lists.{all, any}
 use Rattle.forms.specs.ListLaws.{mem-along, and-left, and-right, or-cases, all-at, any-at}
 use Rattle.forms.specs.Forms.{Did, Line, didText, Answer}
 use Rattle.rules.specs.State.{State, Reply, refused, ok, settle, linesIn}
-use Rattle.rules.specs.Calls.{Call, Add, Finish, Withdraw, Persistent, Stable, Show, Cut, Redo, End, step}
+use Rattle.rules.specs.Calls.{Call, Add, Finish, Withdraw, Persistent, Stable, Show, Cut, Changeover, Redo, End, step}
 use Rattle.rules.specs.Keeper.{sameBytes}
 use Rattle.rules.specs.Examples.{same-bytes}
 use Rattle.rules.specs.Good.{Good}
@@ -62,6 +62,7 @@ module _ (lost : List Did) (chosen : Did → Bool) where
   mayBeAccepted m st (Stable n) after = true
   mayBeAccepted m st (Show h) after = true
   mayBeAccepted m st (Cut k room) after = leb m (length (linesIn after)) && leb (st .room) room
+  mayBeAccepted m st (Changeover n room) after = false
   mayBeAccepted m st (Redo line) after = bringsChosen line
   mayBeAccepted m st End after = false
 
@@ -127,6 +128,7 @@ module _ (lost : List Did) (chosen : Did → Bool) where
           cuts =
               λ a j r b after answer e q. fair-of _ j r _ after answer (good-run (xs ++ Cut k room ∷ a) s start) q (may-be t a (Cut j r) b e after answer q);
           redos = λ a line b after answer e q. brings-is line (may-be t a (Redo line) b e after answer q);
+          changeovers = λ a n r b after answer e q. may-be t a (Changeover n r) b e after answer q;
           ends = λ a b after answer e q. may-be t a End b e after answer q;
           all = come-is (came (xs ++ Cut k room ∷ ys) s) u;
         }

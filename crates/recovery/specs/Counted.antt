@@ -13,18 +13,20 @@ use Rattle.forms.specs.Decimal.{Step}
 use Rattle.forms.specs.Decimal.Step.{got, bad}
 use Rattle.forms.specs.Lists.{find}
 use Rattle.forms.specs.ListLaws.{Prefix}
-use Rattle.forms.specs.Forms.{Did, Line, didLine, stableLine, Answer}
+use Rattle.forms.specs.Forms.{Base, Did, Line, didLine, stableLine, Answer}
 use Rattle.forms.specs.Reading.{readDid}
 use Rattle.forms.specs.declared.Refusal.the-variants.{Unreadable, AboveLimit, OutOfTurn, NoRoom, NoSuchHistory}
-use Rattle.rules.specs.Log.{weave, mark, reported, Journal, journal, noJournal, readLog}
-use Rattle.rules.specs.State.{Operation, State, Reply, refused, ok, settle, linesIn, logBytes, withMarks, withStables}
+use Rattle.rules.specs.Log.{dids, stablesOf, weave, mark, reported, Journal, journal, noJournal, readLog}
+use Rattle.rules.specs.State.{Operation, State, Reply, refused, ok, settle, linesIn, startOf, logBytes, withMarks, withStables}
 use Rattle.rules.specs.Calls.{opened, openSite, inProgress, lineOf, finished, finishFound, finish, add, withdraw, persistent, aboveMark}
 use Rattle.rules.specs.Calls.{stabled, stable, show, restarted, restartAs, restart, cut, drain, delivered, redoRead, redo, end, Call, Add}
-use Rattle.rules.specs.Calls.{Finish, Withdraw, Persistent, Stable, Show, Cut, Redo, End, perform, step}
+use Rattle.rules.specs.Calls.{Finish, Withdraw, Persistent, Stable, Show, Cut, Changeover, Redo, End, changeover, perform, step}
+use Rattle.rules.specs.Trim.{trimText}
 use Rattle.rules.specs.CheckLaws.{refused-not-ok, unless-ok, unless-check}
 use Rattle.rules.specs.Good.{Good, Rises}
 use Rattle.rules.specs.GoodLaws.{good-step}
 use Rattle.rules.specs.DrainLaws.{drain-keeps}
+use Rattle.rules.specs.Book.{baseOf}
 use Rattle.rules.specs.WeaveLaws.{weave-append, weave-stable, unweave, mark-front, rises-front, reported-front}
 use Rattle.rules.specs.Run.{run}
 use Rattle.recovery.specs.Claim.{Start, justOpened, justRestarted, countedAfter, counted}
@@ -38,7 +40,7 @@ ok-state a b x y e = cc
 -- them.
 pub record Counts (m : ℕ) (st : State) : Type 0 where
   pub within : m ≤ length (linesIn st)
-  pub left : st .leftTo ≤ mark (take m (linesIn st))
+  pub left : st .leftTo ≤ mark (startOf st) (take m (linesIn st))
 
 take-front : (m : ℕ) (a b : List Line) → Prefix a b → m ≤ length a → take m b ≡ take m a
 take-front m a b (r, e) le = ap (take m) e ∙ take-append-le m a r le
@@ -47,37 +49,46 @@ take-front m a b (r, e) le = ap (take m) e ∙ take-append-le m a r le
 pub record Grows (st after : State) : Type 0 where
   pub lines : Prefix (linesIn st) (linesIn after)
   pub left : after .leftTo ≡ st .leftTo
+  pub base : after .base ≡ st .base
 
 grows-as : (st s after : State) (x answer : Answer) → ok s x ≡ ok after answer → Grows st s → Grows st after
 grows-as st s after x answer e g = subst (Grows st) (ok-state s after x answer e) g
 
-grows-same : (st after : State) → linesIn after ≡ linesIn st → after .leftTo ≡ st .leftTo → Grows st after
-grows-same st after e l = record { lines = ([], e ∙ sym (append-nil (linesIn st))); left = l }
+grows-same : (st after : State) → linesIn after ≡ linesIn st → after .leftTo ≡ st .leftTo → after .base ≡ st .base → Grows st after
+grows-same st after e l b = record { lines = ([], e ∙ sym (append-nil (linesIn st))); left = l; base = b }
 
 counts-grown : (m : ℕ) (st after : State) → Grows st after → Counts m st → Counts m after
 counts-grown m st after g c =
     record {
       within = omega (arith, c .within, ap length (g .lines .1), length-append (linesIn st) (g .lines .0));
-      left = omega (arith, c .left, g .left, ap mark (take-front m (linesIn st) (linesIn after) (g .lines) (c .within)));
+      left = omega (
+        arith,
+        c .left,
+        g .left,
+        ap (mark (startOf st)) (take-front m (linesIn st) (linesIn after) (g .lines) (c .within)),
+        ap (λ (b : Option Base). mark (baseOf b) (take m (linesIn after))) (g .base),
+      );
     }
 
 -- ### Calls that add lines
 
 grows-dids : (st after : State) (more : List Did) → Good st → after .log ≡ st .log ++ more → after .stables ≡ st .stables →
     after .leftTo ≡ st .leftTo →
+    after .base ≡ st .base →
     Grows st after
-grows-dids st after more G e s l =
+grows-dids st after more G e s l b =
     record {
       lines = (
         map didLine more,
         ap (λ (ss : List _). weave (after .log) ss) s ∙ ap (λ (ds : List Did). weave ds (st .stables)) e ∙ weave-append (st .log) more (st .stables) (G .below),
       );
       left = l;
+      base = b;
     }
 
-drain-front : (k : ℕ) (log waiting : List Did) → Prefix log (drain k log waiting .log)
-drain-front k log waiting =
-    drain-keeps (λ l w. Prefix log l)
+drain-front : (σ : Base) (k : ℕ) (log waiting : List Did) → Prefix log (drain σ k log waiting .log)
+drain-front σ k log waiting =
+    drain-keeps σ (λ l w. Prefix log l)
     (λ l a d b t p. (p .0 ++ d ∷ [], ap {B = List Did} (λ x. x ++ d ∷ []) (p .1) ∙ append-assoc log (p .0) (d ∷ [])))
     k log waiting ([], sym (append-nil log))
 
@@ -85,14 +96,15 @@ grows-finish : (x : Option Operation) (st after : State) (answer : Answer) → G
 unfolding finishFound finished
 grows-finish none st after answer G e = absurd (refused-not-ok _ after answer e)
 grows-finish (some x) st after answer G e =
-    grows-as st _ after _ answer (unless-check _ NoRoom _ after answer e .1) (grows-dids st _ (lineOf (st .log) x ∷ []) G refl refl refl)
+    grows-as st _ after _ answer (unless-check _ NoRoom _ after answer e .1)
+    (grows-dids st _ (lineOf (startOf st) (st .log) x ∷ []) G refl refl refl refl)
 
 grows-redo : (x : Step Did) (st after : State) (answer : Answer) → Good st → redoRead x st ≡ ok after answer → Grows st after
 unfolding redoRead delivered
 grows-redo bad st after answer G e = absurd (refused-not-ok _ after answer e)
 grows-redo (got d rest) st after answer G e =
-    let p = drain-front (suc (length (st .waiting))) (st .log) (st .waiting ++ (d ∷ [])) in
-    grows-as st _ after _ answer (unless-ok _ _ after answer e .1) (grows-dids st _ (p .0) G (p .1) refl refl)
+    let p = drain-front (startOf st) (suc (length (st .waiting))) (st .log) (st .waiting ++ (d ∷ [])) in
+    grows-as st _ after _ answer (unless-ok _ _ after answer e .1) (grows-dids st _ (p .0) G (p .1) refl refl refl)
 
 grows-stable : (n : ℕ) (st : State) → Grows st (stabled n st)
 unfolding stabled
@@ -100,25 +112,25 @@ grows-stable n st = go (aboveMark n st)
   where
     go : (b : Bool) →
         Grows st (elim b [ true ↦ withStables (st .stables ++ (record { behind = length (st .log); upTo = n } ∷ [])) st | false ↦ st ])
-    go true = record { lines = (stableLine n ∷ [], weave-stable (st .log) (st .stables) n); left = refl }
-    go false = grows-same st st refl refl
+    go true = record { lines = (stableLine n ∷ [], weave-stable (st .log) (st .stables) n); left = refl; base = refl }
+    go false = grows-same st st refl refl refl
 
 -- ### Every call
 
+counts-kept : (room n : ℕ) (β : Option Base) (lines : List Line) →
+    Counts (length (linesIn (restarted room n β lines))) (restarted room n β lines)
+unfolding restarted
+counts-kept room n β lines =
+    record {
+      within = omega arith;
+      left = omega (arith, ap (mark (baseOf β)) (take-length (weave (dids lines) (stablesOf lines))), ap (mark (baseOf β)) (unweave lines));
+    }
+
 counts-restart : (room : ℕ) (j : Journal) (after : State) (answer : Answer) → restartAs room j ≡ ok after answer →
     Counts (length (linesIn after)) after
-unfolding restartAs restarted
-counts-restart room (journal n lines) after answer e = subst (λ (s : State). Counts (length (linesIn s)) s) same kept
-  where
-    same : restarted room n lines ≡ after
-    same = ok-state (restarted room n lines) after _ answer e
-
-    kept : Counts (length (linesIn (restarted room n lines))) (restarted room n lines)
-    kept =
-        record {
-          within = omega arith;
-          left = omega (arith, ap mark (take-length (linesIn (restarted room n lines))), ap mark (unweave lines));
-        }
+unfolding restartAs
+counts-restart room (journal n β lines) after answer e =
+    subst (λ (s : State). Counts (length (linesIn s)) s) (ok-state (restarted room n β lines) after _ answer e) (counts-kept room n β lines)
 counts-restart room noJournal after answer e = absurd (refused-not-ok _ after answer e)
 
 take-less : (j k : ℕ) (l : List Line) → j ≤ k → Prefix (take j l) (take k l)
@@ -132,27 +144,34 @@ take-begins m l = (drop m l, sym (take-append-drop m l))
 
 -- A report counts the lines up to the did line that it names.
 counts-persistent : (m n : ℕ) (st : State) (p : ℕ) → Good st → Counts m st →
-    Counts (max m (length (reported n (linesIn st)))) (withMarks p (max (st .leftTo) (mark (reported n (linesIn st)))) st)
+    Counts (max m (length (reported (startOf st) n (linesIn st))))
+    (withMarks p (max (st .leftTo) (mark (startOf st) (reported (startOf st) n (linesIn st)))) st)
 counts-persistent m n st p G c =
     record {
       within = omega (arith, c .within, ap length (front .1), length-append R (front .0));
-      left = omega (arith, c .left, mark-front (take m L) (take M L) (take-less m M L (omega arith)) up, mark-front R (take M L) rest up);
+      left =
+          omega (
+            arith,
+            c .left,
+            mark-front (startOf st) (take m L) (take M L) (take-less m M L (omega arith)) up,
+            mark-front (startOf st) R (take M L) rest up,
+          );
     }
   where
     L : List Line
     L = linesIn st
 
     R : List Line
-    R = reported n L
+    R = reported (startOf st) n L
 
     M : ℕ
     M = max m (length R)
 
     front : Prefix R L
-    front = reported-front n L
+    front = reported-front (startOf st) n L
 
-    up : Rises (take M L)
-    up = rises-front (take M L) L (take-begins M L) (G .rises)
+    up : Rises (startOf st) (take M L)
+    up = rises-front (startOf st) (take M L) L (take-begins M L) (G .rises)
 
     rest : Prefix R (take M L)
     rest =
@@ -160,27 +179,30 @@ counts-persistent m n st p G c =
 
 counts-ok : (c : Call) (m : ℕ) (st after : State) (answer : Answer) → Good st → Counts m st → perform c st ≡ ok after answer →
     Counts (countedAfter c (ok after answer) m) after
-unfolding countedAfter perform add finish withdraw persistent stable show cut redo end
+unfolding countedAfter perform add finish withdraw persistent stable show cut changeover redo end
 counts-ok (Add i us) m st after answer G C e =
-    counts-grown m st after (grows-as st _ after _ answer (unless-ok _ _ after answer e .1) (grows-same st _ refl refl)) C
+    counts-grown m st after (grows-as st _ after _ answer (unless-ok _ _ after answer e .1) (grows-same st _ refl refl refl)) C
 counts-ok (Finish i) m st after answer G C e =
     counts-grown m st after
     (grows-finish (find (inProgress i) (st .pending)) st after answer G (unless-check _ OutOfTurn _ after answer e .1)) C
 counts-ok (Withdraw i) m st after answer G C e =
-    counts-grown m st after (grows-as st _ after _ answer (unless-ok _ _ after answer e .1) (grows-same st _ refl refl)) C
+    counts-grown m st after (grows-as st _ after _ answer (unless-ok _ _ after answer e .1) (grows-same st _ refl refl refl)) C
 counts-ok (Persistent n) m st after answer G C e =
-    subst (λ (s : State). Counts (max m (length (reported n (linesIn s)))) s) (ok-state _ after _ answer (unless-check _ AboveLimit _ after answer e .1))
+    subst (λ (s : State). Counts (max m (length (reported (startOf s) n (linesIn s)))) s)
+    (ok-state _ after _ answer (unless-check _ AboveLimit _ after answer e .1))
     (counts-persistent m n st _ G C)
 counts-ok (Stable n) m st after answer G C e =
     counts-grown m st after (grows-as st _ after _ answer (unless-ok _ _ after answer e .1) (grows-stable n st)) C
 counts-ok (Show h) m st after answer G C e =
     counts-grown m st after
-    (grows-as st st after _ answer (unless-check _ NoSuchHistory _ after answer e .1) (grows-same st st refl refl)) C
+    (grows-as st st after _ answer (unless-check _ NoSuchHistory _ after answer e .1) (grows-same st st refl refl refl)) C
 counts-ok (Cut k room) m st after answer G C e =
-    counts-restart room (readLog (take k (logBytes st))) after answer (unless-check _ AboveLimit _ after answer e .1)
+    counts-restart room (readLog (take k (logBytes st))) after answer (unless-ok _ _ after answer e .1)
+counts-ok (Changeover n room) m st after answer G C e =
+    counts-restart room (readLog (trimText n st)) after answer (unless-ok _ _ after answer e .1)
 counts-ok (Redo line) m st after answer G C e = counts-grown m st after (grows-redo (readDid line) st after answer G e) C
 counts-ok End m st after answer G C e =
-    counts-grown m st after (grows-as st _ after _ answer (unless-check _ OutOfTurn _ after answer e .1) (grows-same st _ refl refl)) C
+    counts-grown m st after (grows-as st _ after _ answer (unless-check _ OutOfTurn _ after answer e .1) (grows-same st _ refl refl refl)) C
 
 pub counts-step : (c : Call) (m : ℕ) (st : State) → Good st → Counts m st → Counts (countedAfter c (step c st) m) (settle (step c st) st)
 unfolding step settle countedAfter

@@ -8,7 +8,7 @@ use Prim.Native.Nat.{ℕ}
 use lib.Dec.{T, T-not, not-T, eqb→eq, eqb-refl}
 use Rattle.forms.specs.Lists.{any, keep}
 use Rattle.forms.specs.ListLaws.{Prefix, mid, mem-split, mem-at, mem-along, mem-snoc, Nodup, nodup-right, nodup-apart, nodup-keep, true-T, false-T, and-intro, and-left, and-right, any-at, any-of, mem-keep, mem-of-keep}
-use Rattle.forms.specs.Forms.{Change, Did}
+use Rattle.forms.specs.Forms.{Base, Change, Did}
 use Rattle.rules.specs.Book.{cell, canRun, touches}
 use Rattle.rules.specs.BookLaws.{proj, touches-of, touches-at, cell-same, proj-append}
 use Rattle.recovery.specs.Claim.{beside, shares, Traced, direct, further, Closed, Just, none, with, without}
@@ -186,8 +186,8 @@ module _ (L : List Did) (chosen : Did → Bool) (once : Nodup L) where
 -- ### At the end of the list
 
 module _
-    {B : Type 0} (key : Did → B) (K L : List Did) (chosen : Did → Bool) (S : Setting key K L chosen)
-    (came : List B) (log wait : List Did) (I : Inv key K L chosen came log wait) where
+    {B : Type 0} (σ : Base) (key : Did → B) (K L : List Did) (chosen : Did → Bool) (S : Setting σ key K L chosen)
+    (came : List B) (log wait : List Did) (I : Inv σ key K L chosen came log wait) where
   pub in-log : {d : Did} → Mem d (I .ran) → Mem d log
   in-log k = mem-along (sym (I .split)) (Memᴰ·append-right K k)
 
@@ -195,7 +195,7 @@ module _
   in-ran d lost k = go (List·Memᴰ·append-cases K (mem-along (I .split) k))
     where
       go : Mem d K ⊎ Mem d (I .ran) → Mem d (I .ran)
-      go (inl q) = absurd (not-kept key K L chosen S d lost q)
+      go (inl q) = absurd (not-kept σ key K L chosen S d lost q)
       go (inr q) = q
 
   traced-ran : {d e : Did} → Traced L d e → Mem d (I .ran) → Mem e (I .ran)
@@ -210,14 +210,16 @@ module _
       go : (h : ℕ) × T (touches h e) × T (touches h d) → Mem e (I .ran)
       go (h, te, td) =
           in-ran e lost
-          (before-ran key K L chosen S log (I .front) d (K ++ (a ++ e ∷ b)) c at (in-log k) e h (Memᴰ·append-right K (mem-at e a b)) te td)
+          (before-ran σ key K L chosen S log (I .front) d (K ++ (a ++ e ∷ b)) c at (in-log k) e h
+          (Memᴰ·append-right K (mem-at e a b)) te td)
   traced-ran (further t s) k = traced-ran s (traced-ran t k)
 
   -- Each line that ran is closed.
   pub ran-closed : (d : Did) → Mem d (I .ran) → Closed L chosen d
   ran-closed d k = record { itself = I .ran-chosen d k .1; traced = λ e t. I .ran-chosen e (traced-ran t k) .1 }
 
-  module _ (quiet : (d : Did) → Mem d wait → T (canRun log d) → ⊥) (all-came : (d : Did) → Mem d L → T (chosen d) → Mem (key d) came) where
+  module _ (quiet : (d : Did) → Mem d wait → T (canRun σ log d) → ⊥)
+      (all-came : (d : Did) → Mem d L → T (chosen d) → Mem (key d) came) where
     -- Lost lines A, then d: if the closed lines of A have run, and d is closed, then d has run.
     one-ran : (A : List Did) (d : Did) (C : List Did) → L ≡ A ++ d ∷ C → ((e : Did) → Mem e A → Closed L chosen e → Mem e (I .ran)) →
         Closed L chosen d → Mem d (I .ran)
@@ -239,7 +241,7 @@ module _
         go : Mem d (I .ran) ⊎ Mem d wait → Mem d (I .ran)
         go (inl k) = k
         go (inr w) =
-            absurd (quiet d w (can-run-next key K L chosen S log (I .front) d (K ++ A) C at (λ k. I .apart d w (in-ran d lost k))
+            absurd (quiet d w (can-run-next σ key K L chosen S log (I .front) d (K ++ A) C at (λ k. I .apart d w (in-ran d lost k))
             (λ f h k tf td. before f h (List·Memᴰ·append-cases K k) tf td)))
 
     closed-ran-from : (A C : List Did) → L ≡ A ++ C → ((e : Did) → Mem e A → Closed L chosen e → Mem e (I .ran)) →
@@ -291,7 +293,7 @@ module _
                 (sym (proj-append h K L) ∙ e ∙ ap {B = List Did} (λ x. x ++ r) log-proj ∙ append-assoc (proj h K) X r)
 
             once : Nodup (X ++ r)
-            once = subst Nodup rest (nodup-keep (touches h) L (nodup-right K L (nodup-first key K L chosen S)))
+            once = subst Nodup rest (nodup-keep (touches h) L (nodup-right K L (nodup-first σ key K L chosen S)))
 
             out : (d : Did) → Mem d r → Closed L chosen d → ⊥
             out d k q =
@@ -303,5 +305,5 @@ module _
                 just-prefix X r (proj h F) (subst (λ (x : List Did). Just (Closed L chosen) x (proj h F)) rest (just-keep (touches h) J))
                 (λ d k. ran-closed d (mem-of-keep (touches h) (I .ran) k .0)) out
 
-    pub book : (h : ℕ) (F : List Did) → Just (Closed L chosen) L F → cell h log ≡ cell h (K ++ F)
-    book h F J = cell-same h log (K ++ F) (book-proj h F J)
+    pub book : (h : ℕ) (F : List Did) → Just (Closed L chosen) L F → cell σ h log ≡ cell σ h (K ++ F)
+    book h F J = cell-same σ h log (K ++ F) (book-proj h F J)

@@ -12,7 +12,7 @@ use lib.ListN.{take}
 use Rattle.forms.specs.Forms.{Did, Line, didText, Answer}
 use Rattle.forms.specs.declared.Refusal.the-variants.{TableFull}
 use Rattle.rules.specs.State.{State, Reply, refused, ok, settle, linesIn, live}
-use Rattle.rules.specs.Calls.{Call, Cut, Redo, End, step}
+use Rattle.rules.specs.Calls.{Call, Cut, Changeover, Redo, End, step}
 use Rattle.recovery.specs.Claim.{Start, countedAfter, lostBy, Comes, comesAfter, Recovered}
 use Rattle.recovery.specs.Arrival.{every, SameWork}
 
@@ -74,6 +74,8 @@ module _ (H : Host) where
         H .own x ≡ some (Cut k room) → H .reply x (runIn (upTo a) w) ≡ ok after answer → FairIn (countedIn m (upTo a) w) k room x (runIn (upTo a) w) after
     pub redos : (a : List (H .Move)) (x : H .Move) (b : List (H .Move)) (line : List ℕ) (after : State) (answer : Answer) → ys ≡ a ++ x ∷ b →
         H .own x ≡ some (Redo line) → H .reply x (runIn (upTo a) w) ≡ ok after answer → (d : Did) × Mem d lost × T (chosen d) × (line ≡ didText d)
+    pub changeovers : (a : List (H .Move)) (x : H .Move) (b : List (H .Move)) (n room : ℕ) (after : State) (answer : Answer) →
+        ys ≡ a ++ x ∷ b → H .own x ≡ some (Changeover n room) → H .reply x (runIn (upTo a) w) ≡ ok after answer → ⊥
     pub ends : (a : List (H .Move)) (x : H .Move) (b : List (H .Move)) (after : State) (answer : Answer) → ys ≡ a ++ x ∷ b →
         H .own x ≡ some End → H .reply x (runIn (upTo a) w) ≡ ok after answer → ⊥
     pub all : (d : Did) → Mem d lost → T (chosen d) → Comes (cameIn [] (upTo ys) w) d

@@ -9,17 +9,19 @@ use Prim.Native.Nat.{ℕ, _+_, _≤_, _<_}
 use native.Mathlib.Omega.{arith}
 use lib.ListN.{length, take, drop}
 use Rattle.forms.specs.ListLaws.{mem-along}
-use Rattle.forms.specs.Forms.{Did, Line, didText, Answer}
+use Rattle.forms.specs.Forms.{Base, Did, Line, didText, Answer}
 use Rattle.forms.specs.declared.Refusal.the-variants.{TableFull}
-use Rattle.rules.specs.State.{State, Reply, refused, ok, settle, linesIn, live}
-use Rattle.rules.specs.Calls.{Call, Add, Finish, Withdraw, Persistent, Stable, Show, Cut, Redo, End, step}
+use Rattle.rules.specs.Book.{baseOf}
+use Rattle.rules.specs.State.{startOf, State, Reply, refused, ok, settle, linesIn, live}
+use Rattle.rules.specs.Calls.{Call, Add, Finish, Withdraw, Persistent, Stable, Show, Cut, Changeover, Redo, End, step}
 use Rattle.rules.specs.Log.{mark}
 use Rattle.rules.specs.CheckLaws.{refused-not-ok}
 use Rattle.rules.specs.Good.{Good}
 use Rattle.rules.specs.GoodLaws.{good-step}
 use Rattle.recovery.specs.Claim.{countedAfter, lostBy, comesAfter, Recovered}
-use Rattle.recovery.specs.Cuts.{Picked, Cutting, cutting, left-kept, picked-at, were-live, cut-live}
-use Rattle.recovery.specs.Steps.{Site, Obeys, step-keeps, fresh-below, redo-full}
+use Rattle.recovery.specs.Cuts.{skip, Picked, Cutting, cutting, left-kept, picked-at, were-live, cut-live}
+use Rattle.recovery.specs.Steps.{Site, fresh-below, redo-full}
+use Rattle.recovery.specs.StepLaws.{Obeys, step-keeps}
 use Rattle.recovery.specs.Recovery.{start-good, cut-site, stays-counted, still-kept, site-enough, ending}
 use Rattle.recovery.specs.Counted.{Counts, counted-start, counts-step}
 use Rattle.recovery.specs.Arrival.{every, SameWork}
@@ -157,7 +159,7 @@ module _ (H : Host) where
     C : Cutting (l .room) before (l .after)
     C = cutting (l .k) (l .room) before (l .after) (l .fair .answer) before-good accepted
 
-    kept : before .leftTo ≤ mark (linesIn (l .after))
+    kept : before .leftTo ≤ mark (startOf before) (linesIn (l .after))
     unfolding before
     kept =
         left-kept (countedIn H (l .m) (l .xs) (l .start)) (l .room) before (l .after) before-good
@@ -169,16 +171,22 @@ module _ (H : Host) where
     lost : List Did
     lost = lostBy before (l .after)
 
-    P : Picked (before .histories) KL (l .after .log) lost
+    P : Picked (startOf (l .after)) (before .histories) KL (l .after .log) lost
     unfolding KL lost
     P = picked-at (l .room) before (l .after) before-good C kept
 
-    all-live : (i : ℕ) → i < length (drop (mark KL) (l .after .log)) + length lost → i < live before
+    all-live : (st : State) → st .base ≡ l .after .base → (i : ℕ) → i < length (drop (skip (startOf st) KL) (l .after .log)) + length lost →
+        i < live before
     unfolding KL lost
-    all-live i lt = omega (arith, were-live (l .room) before (l .after) before-good C kept)
+    all-live st e i lt =
+        omega (
+          arith,
+          were-live (l .room) before (l .after) before-good C kept,
+          ap (λ (β : Option Base). length (drop (skip (baseOf β) (linesIn (l .after))) (l .after .log))) e,
+        )
 
     abbrev At : List (List ℕ) → State → Type 0
-    At lines st = Site (before .histories) KL (l .after .log) lost chosen lines st
+    At lines st = Site (before .histories) (l .after .base) KL (l .after .log) lost chosen lines st
 
     taken : H .site (at-world []) ≡ l .after
     unfolding at-world upTo settle
@@ -201,9 +209,8 @@ module _ (H : Host) where
     unfolding before KL lost
     at-cut = cut-site (l .room) before (l .after) chosen before-good C P (subst Good taken (good-at [] (l .ys) refl)) (l .fair .noShorter)
 
-    -- the call is one that the claim allows there
     abbrev Obeying : State → Call → Type 0
-    Obeying st c = Obeys (before .histories) KL (l .after .log) lost chosen st c
+    Obeying st c = Obeys (before .histories) (l .after .base) KL (l .after .log) lost chosen st c
 
     -- What is asked of a call, said of its step in 01.
     obeys : (a : List (H .Move)) (x : H .Move) (b : List (H .Move)) → l .ys ≡ a ++ x ∷ b → (c : Call) → H .own x ≡ some c →
@@ -221,6 +228,7 @@ module _ (H : Host) where
           still-kept KL (countedIn H (l .m) (upTo a) (l .start)) (H .site (at-world a)) st (good-at a (x ∷ b) e) le enough (f .keeps),
           f .noShorter,
         )
+    obeys a x b e (Changeover n r) o le enough p = λ st answer q. l .asked .changeovers a x b n r st answer e o (p ∙ q)
     obeys a x b e (Redo line) o le enough p = λ st answer q. l .asked .redos a x b line st answer e o (p ∙ q)
     obeys a x b e End o le enough p = λ st answer q. l .asked .ends a x b st answer e o (p ∙ q)
 
@@ -236,9 +244,10 @@ module _ (H : Host) where
     refused-ten a x b e (Stable n) o p lines G = G
     refused-ten a x b e (Show h) o p lines G = G
     refused-ten a x b e (Cut j r) o p lines G = G
+    refused-ten a x b e (Changeover n r) o p lines G = G
     refused-ten a x b e (Redo line) o p lines G =
-        redo-full (before .histories) KL (l .after .log) lost chosen lines (H .site (at-world a)) G line
-        (λ lt. l .roomy a x b line e o (all-live _ lt) p)
+        redo-full (before .histories) (l .after .base) KL (l .after .log) lost chosen lines (H .site (at-world a)) G line
+        (λ lt. l .roomy a x b line e o (all-live (H .site (at-world a)) (G .base-is) _ lt) p)
     refused-ten a x b e End o p lines G = G
 
     -- What holds after the first calls a of ys: KL is counted, and the site is as Steps says.
@@ -247,7 +256,7 @@ module _ (H : Host) where
       at : At (lines-of a) (H .site (at-world a))
 
     enough : (a : List (H .Move)) → Holds a → length KL ≤ length (linesIn (H .site (at-world a)))
-    enough a G = site-enough (before .histories) KL (l .after .log) lost chosen (lines-of a) (H .site (at-world a)) (G .at)
+    enough a G = site-enough (before .histories) (l .after .base) KL (l .after .log) lost chosen (lines-of a) (H .site (at-world a)) (G .at)
 
     move-keeps : (a : List (H .Move)) (x : H .Move) (b : List (H .Move)) → l .ys ≡ a ++ x ∷ b → (o : Option Call) → H .own x ≡ o →
         Plays H o x (at-world a) → Holds a →
@@ -263,10 +272,12 @@ module _ (H : Host) where
     move-keeps a x b e (some c) o (p, inr q) G =
         let O : Obeying (H .site (at-world a)) c = obeys a x b e c o (G .counted) (enough a G) q in (
           subst (λ (r : Reply). length KL ≤ countedAfter c r (countedIn H (l .m) (upTo a) (l .start))) (sym q)
-              (stays-counted (before .histories) KL (l .after .log) lost chosen c (H .site (at-world a)) (countedIn H (l .m) (upTo a) (l .start)) (G .counted) O),
+              (stays-counted (before .histories) (l .after .base) KL (l .after .log) lost chosen c (H .site (at-world a))
+              (countedIn H (l .m) (upTo a) (l .start)) (G .counted) O),
           subst (λ (s : State). At (comesAfter c (H .reply x (at-world a)) (lines-of a)) s) (sym p)
               (subst (λ (r : Reply). At (comesAfter c r (lines-of a)) (settle r (H .site (at-world a)))) (sym q)
-              (step-keeps (before .histories) KL (l .after .log) lost chosen (lines-of a) (H .site (at-world a)) (G .at) c O
+              (step-keeps (before .histories) (l .after .base) KL (l .after .log) lost chosen (lines-of a) (H .site (at-world a))
+              (G .at) c O
               (good-step c (H .site (at-world a)) (good-at a (x ∷ b) e)))),
         )
 
@@ -330,14 +341,14 @@ module _ (H : Host) where
     pub never-ten : (a : List (H .Move)) (x : H .Move) (b : List (H .Move)) (d : Did) → l .ys ≡ a ++ x ∷ b →
         H .own x ≡ some (Redo (didText d)) →
         Mem d (lostBy (beforeCut H l) (l .after)) → (Mem d (H .site (runIn H (l .xs ++ l .x ∷ a) (l .start)) .log) → ⊥) →
-        (Mem d (H .site (runIn H (l .xs ++ l .x ∷ a) (l .start)) .waiting) → ⊥) → H .reply x
-        (runIn H (l .xs ++ l .x ∷ a) (l .start)) ≡ refused TableFull → ⊥
+        (Mem d (H .site (runIn H (l .xs ++ l .x ∷ a) (l .start)) .waiting) → ⊥) →
+        H .reply x (runIn H (l .xs ++ l .x ∷ a) (l .start)) ≡ refused TableFull → ⊥
     unfolding before upTo at-world lines-of lost
     never-ten a x b d e own gone out-log out-wait ten =
         let G = at-all a (x ∷ b) e in
         l .roomy a x b (didText d) e own
-        (all-live _
-        (fresh-below (before .histories) KL (l .after .log) lost chosen (lines-of a) (H .site (at-world a)) G d gone
+        (all-live (H .site (at-world a)) (G .base-is) _
+        (fresh-below (before .histories) (l .after .base) KL (l .after .log) lost chosen (lines-of a) (H .site (at-world a)) G d gone
         (λ r. out-log (mem-along (sym (G .inv .split)) (Memᴰ·append-right (l .after .log) r))) out-wait)) ten
 
     pub recovered : Recovered (beforeCut H l) (l .after) (lostBy (beforeCut H l) (l .after)) chosen

@@ -1,6 +1,7 @@
 -- The recovery claim is not empty: lists of calls that do what it asks, and what it says of them beside what the rules compute.
 use mathlib.Core.Path.{_≡_, refl, sym, ap, _∙_, subst}
 use mathlib.Core.Bool.{Bool, true, false, not}
+use mathlib.Core.Option.{Option, none}
 use mathlib.Core.List.{List, [], _∷_, _++_, append-cancel-left}
 use mathlib.Core.List.{List·Memᴰ·head as here, List·Memᴰ·tail as there}
 use Prim.Native.Nat.{ℕ, _<_}
@@ -10,23 +11,33 @@ use Rattle.forms.specs.ListLaws.{and-intro}
 use Rattle.forms.specs.Lists.{below}
 use Rattle.forms.specs.Words.{bytes, word}
 use Rattle.forms.specs.Decimal.{digitsWithin, digits, more, number}
-use Rattle.forms.specs.Forms.{Update, Change, Did, Answer, Opened, Restarted, Shown, Ended, fieldText, fieldsText, itemsText, tailText, listText, changeText, oneText, siteText, didText, stableText, lineText, Line, didLine, stableLine}
+use Rattle.forms.specs.Forms.{Base, Update, Change, Did, Answer, Opened, Restarted, Shown, Ended, fieldText, fieldsText, itemsText}
+use Rattle.forms.specs.Forms.{tailText, listText, changeText, oneText, siteText, didText, stableText, lineText, Line, didLine, stableLine}
 use Rattle.forms.specs.Reading as reading
-use Rattle.forms.specs.Reading.{readDid, readLine, readSite, readWhole}
+use Rattle.forms.specs.Reading.{readBase, readDid, readLine, readSite, readWhole}
 use Rattle.forms.specs.declared.Rule.{Rule}
 use Rattle.forms.specs.declared.Rule.the-variants.{Inc, Set, Not}
 use Rattle.forms.specs.declared.DoneRule.{DoneRule}
 use Rattle.forms.specs.declared.DoneRule.the-variants.{DidInc, DidSet, DidNot}
-use Rattle.rules.specs.Book.{Cell, cell, touches, runsAt}
+use Rattle.rules.specs.Book.{startCell, Cell, cell, touches, runsAt}
 use Rattle.rules.specs.Checks.{check, andThen, wrongCount, noSuchHistory, historyTwice, updateMisfits, formRefusal, updatesRefusal}
-use Rattle.rules.specs.Log.{ended, didsText, logText, linesFrom, restFrom, historiesFit, stablesFrom, stablesAt, weaveFrom, markFrom, upToDid, reported, linesText, rises, follows, liveIn, tableHolds}
-use Rattle.rules.specs.State.{State, ok, withWaiting, withRestoring, logBytes, versionAt, liveDone, live, asks, dry, becameDry, rose, lineBytes, settle, linesIn, bytesOf}
-use Rattle.rules.specs.Calls.{Call, Add, Finish, Persistent, Stable, Show, Cut, Redo, End, unless, openFull, openRefusal, opened, openSite, blockedBy, blocked, mayRunNow, ready, attempt, tryFrom, madeReady, neverNow, holdsNever, overtaken, notOvertaken, overtakenIds, nothingOrders, idPending, idDone, alreadyDone, readOvertaken, atHighest, tableFull, addRefusal, arrived, add, changeOf, lineOf, valuesAfter, inProgress, future, without, logFull, finished, finishFound, finish, withdrawRefusal, withdraw, persistent, stable, show, restarted, restartAs, restart, cutAbove, cut, stale, redoRefusal, behind, pick, drain, delivered, redoRead, redo, end, writableUpdate, writable, perform, step, aboveMark, stableFull, stableRefusal, stabled}
+use Rattle.rules.specs.Log.{readSecond, baseFits, inOrder, headText, ended, didsText, logText, linesFrom, restFrom, historiesFit}
+use Rattle.rules.specs.Log.{stablesFrom, stablesAt, weaveFrom, markFrom, upToDid, reported, linesText, rises, follows, liveIn, tableHolds}
+use Rattle.rules.specs.State.{startOf, State, ok, withWaiting, withRestoring, logBytes, versionAt, liveDone, live, asks, dry, becameDry}
+use Rattle.rules.specs.State.{rose, lineBytes, settle, linesIn, bytesOf}
+use Rattle.rules.specs.Calls.{baseCut, Call, Add, Finish, Persistent, Stable, Show, Cut, Redo, End, unless, openFull, openRefusal, opened}
+use Rattle.rules.specs.Calls.{openSite, blockedBy, blocked, mayRunNow, ready, attempt, tryFrom, madeReady, neverNow, holdsNever, overtaken}
+use Rattle.rules.specs.Calls.{notOvertaken, overtakenIds, nothingOrders, idPending, idDone, alreadyDone, readOvertaken, atHighest}
+use Rattle.rules.specs.Calls.{tableFull, addRefusal, arrived, add, changeOf, lineOf, valuesAfter, inProgress, future, without, logFull}
+use Rattle.rules.specs.Calls.{finished, finishFound, finish, withdrawRefusal, withdraw, persistent, stable, show, restarted, restartAs}
+use Rattle.rules.specs.Calls.{restart, cutAbove, cut, stale, redoRefusal, behind, pick, drain, delivered, redoRead, redo, end}
+use Rattle.rules.specs.Calls.{writableUpdate, writable, perform, step, aboveMark, stableFull, stableRefusal, stabled}
 use Rattle.rules.specs.Good.{Good, didIds}
 use Rattle.rules.specs.Keeper.{sameBytes}
 use Rattle.rules.specs.Run.{run}
 use Rattle.rules.specs.GoodLaws.{good-open, good-run}
-use Rattle.recovery.specs.Claim.{Start, justOpened, direct, further, Closed, HasRun, counted, countedAfter, comesAfter, cameFrom, came, lostBy, shares, beside, Fair, Asked, Shows, Recovered}
+use Rattle.recovery.specs.Claim.{none, Start, justOpened, direct, further, Closed, HasRun, counted, countedAfter, comesAfter}
+use Rattle.recovery.specs.Claim.{cameFrom, came, lostBy, shares, beside, Fair, Asked, Shows, Recovered}
 use Rattle.recovery.specs.Ending.{closed}
 use Rattle.recovery.specs.Recovery.{recovery, fed-is}
 use Rattle.recovery.specs.Arrival.{Delivery, AllThree}
@@ -39,26 +50,26 @@ use Rattle.rules.specs.Log.{acceptsWith, readFirst, readLines, readLog}
 
 -- ### The first log: seven did lines in a site of three histories
 
-abbrev update : Rule → ℕ → ℕ → ℕ → Update
+abbrev pub update : Rule → ℕ → ℕ → ℕ → Update
 update r h u o = record { rule = r; history = h; version = u; operand = o }
 
-abbrev change : DoneRule → ℕ → ℕ → ℕ → ℕ → Change
+abbrev pub change : DoneRule → ℕ → ℕ → ℕ → ℕ → Change
 change r h v p o = record { rule = r; history = h; version = v; place = p; operand = o }
 
 -- (did 9 (inc 2 1 1 256)), made persistent
-abbrev nine : Did
+abbrev pub nine : Did
 nine = record { id = 9; changes = change DidInc 2 1 1 256 ∷ [] }
 
 -- (did 10 (inc 0 1 1 513))
-abbrev ten : Did
+abbrev pub ten : Did
 ten = record { id = 10; changes = change DidInc 0 1 1 513 ∷ [] }
 
 -- (did 11 (not 0 1 2 0)(inc 1 1 1 7)): reads history 0
-abbrev eleven : Did
+abbrev pub eleven : Did
 eleven = record { id = 11; changes = change DidNot 0 1 2 0 ∷ change DidInc 1 1 1 7 ∷ [] }
 
 -- (did 12 (set 0 9 3 1000)): by its version alone it could overtake the reader
-abbrev twelve : Did
+abbrev pub twelve : Did
 twelve = record { id = 12; changes = change DidSet 0 9 3 1000 ∷ [] }
 
 -- (did 13 (inc 2 2 2 300))
@@ -66,21 +77,21 @@ abbrev thirteen : Did
 thirteen = record { id = 13; changes = change DidInc 2 2 2 300 ∷ [] }
 
 -- (did 14 (inc 2 3 3 5)(not 1 1 2 0)): traced back to 13 and 11
-abbrev fourteen : Did
+abbrev pub fourteen : Did
 fourteen = record { id = 14; changes = change DidInc 2 3 3 5 ∷ change DidNot 1 1 2 0 ∷ [] }
 
 -- (did 15 (not 1 1 3 0)): traced back to 14, `not` beside `not`
-abbrev fifteen : Did
+abbrev pub fifteen : Did
 fifteen = record { id = 15; changes = change DidNot 1 1 3 0 ∷ [] }
 
-abbrev start : State
+abbrev pub start : State
 start = opened 3 65536
 
 opens : openSite 3 65536 ≡ ok start Opened
-unfolding replacedWith profileOf run enteredWith enterWith enterAllWith cellFromWith cellWith touches runsAt canRunWith unless openFull openRefusal opened openSite blockedBy blocked mayRunNow ready attempt tryFrom madeReady neverNow holdsNever overtaken notOvertaken overtakenIds nothingOrders idPending idDone alreadyDone readOvertaken atHighest tableFull addRefusal arrived add changeOf lineOf valuesAfter inProgress future without logFull finished finishFound finish withdrawRefusal withdraw persistent aboveMark stableFull stableRefusal stabled stable show restarted restartAs restart cutAbove cut stale redoRefusal behind pick drain delivered redoRead redo end writableUpdate writable perform step check andThen wrongCount noSuchHistory historyTwice updateMisfits changeMisfitsWith formRefusal updatesRefusal changesRefusalWith stablesFrom stablesAt weaveFrom markFrom upToDid reported ended didsText linesText logText linesFrom restFrom historiesFit acceptsWith rises follows liveIn tableHolds readLines readFirst readLog logBytes versionAt liveDone live asks dry becameDry rose lineBytes bytesOf settle below digitsWithin digits more number word fieldText fieldsText itemsText tailText listText changeText oneText siteText didText stableText lineText reading.field reading.doneRule reading.change reading.one reading.did reading.items reading.tail reading.line readWhole readDid readLine readSite counted countedAfter
+unfolding replacedWith profileOf run enteredWith enterWith enterAllWith cellFromWith cellWith startCell touches runsAt canRunWith unless openFull openRefusal opened openSite blockedBy blocked mayRunNow ready attempt tryFrom madeReady neverNow holdsNever overtaken notOvertaken overtakenIds nothingOrders idPending idDone alreadyDone readOvertaken atHighest tableFull addRefusal arrived add changeOf lineOf valuesAfter inProgress future without logFull finished finishFound finish withdrawRefusal withdraw persistent aboveMark stableFull stableRefusal stabled stable show restarted restartAs restart cutAbove baseCut cut stale redoRefusal behind pick drain delivered redoRead redo end writableUpdate writable perform step check andThen wrongCount noSuchHistory historyTwice updateMisfits changeMisfitsWith formRefusal updatesRefusal changesRefusalWith stablesFrom stablesAt weaveFrom markFrom upToDid reported ended didsText linesText logText headText linesFrom restFrom historiesFit acceptsWith rises follows liveIn tableHolds inOrder baseFits readLines readSecond readFirst readLog logBytes versionAt liveDone live asks dry becameDry rose lineBytes bytesOf settle below digitsWithin digits more number word fieldText fieldsText itemsText tailText listText changeText oneText siteText didText stableText lineText reading.field reading.doneRule reading.change reading.one reading.did reading.items reading.tail reading.line readWhole readDid readLine reading.baseCell reading.base readBase readSite counted countedAfter
 opens = refl
 
-started : Start 0 start
+pub started : Start 0 start
 started = justOpened 3 65536 start Opened opens
 
 start-good : Good start
@@ -91,53 +102,54 @@ same-ids a b i j e = cc
 
 -- ### A picked cut, and a list of calls behind it
 
--- The calls xs, a cut of k bytes, the lines that it keeps with their bytes, how many lines were counted persistent, and the lost did lines.
-module _ (xs : List Call) (k : ℕ) (kept : List Line) (front : List ℕ) (count : ℕ) (lost : List Did) where
-  abbrev before : State
+-- The calls xs, a cut of k bytes, the base line of the log then held, the lines that the cut keeps with their bytes, how many lines were
+-- counted persistent, and the lost did lines.
+module _ (xs : List Call) (k : ℕ) (base : Option Base) (kept : List Line) (front : List ℕ) (count : ℕ) (lost : List Did) where
+  abbrev pub before : State
   before = run xs start
 
-  abbrev picked : State
-  picked = restarted 65536 3 kept
+  abbrev pub picked : State
+  picked = restarted 65536 3 base kept
 
   -- What the rules compute up to the picked cut.
-  record ToCut (answer : Answer) : Type 0 where
-    cuts : step (Cut k 65536) before ≡ ok picked answer
-    keeps : counted 0 xs start ≡ count
-    enough : T (leb count (length (linesIn picked)))
-    wide : before .room ≡ 65536
-    histories : before .histories ≡ 3
-    kept-text : logText (before .histories) (linesIn picked) ≡ front
-    lost-is : lostBy before picked ≡ lost
+  pub record ToCut (answer : Answer) : Type 0 where
+    pub cuts : step (Cut k 65536) before ≡ ok picked answer
+    pub keeps : counted 0 xs start ≡ count
+    pub enough : T (leb count (length (linesIn picked)))
+    pub wide : before .room ≡ 65536
+    pub histories : before .histories ≡ 3
+    pub kept-text : logText (before .histories) (picked .base) (linesIn picked) ≡ front
+    pub lost-is : lostBy before picked ≡ lost
 
   module _ (answer : Answer) (to-cut : ToCut answer) where
-    fair : Fair (counted 0 xs start) k 65536 before picked
+    pub fair : Fair (counted 0 xs start) k 65536 before picked
     fair =
         fair-of (counted 0 xs start) k 65536 before picked answer (good-run xs start start-good) (to-cut .cuts)
         (rw (to-cut .keeps, to-cut .wide) (and-intro (leb count (length (linesIn picked))) true (to-cut .enough) tt))
 
     module _ (chosen : Did → Bool) (ys : List Call) where
-      abbrev calls : List Call
+      abbrev pub calls : List Call
       calls = xs ++ Cut k 65536 ∷ ys
 
-      abbrev final : State
+      abbrev pub final : State
       final = run calls start
 
       -- What the rules compute: what is asked of ys holds; the bytes behind the kept lines, what `end` names, and what `show` gives of history h.
-      record Computed (text : List ℕ) (ids : List ℕ) (h : ℕ) (shown : Answer) : Type 0 where
-        fine : T (allFine lost chosen (counted 0 (xs ++ Cut k 65536 ∷ []) start) (run (xs ++ Cut k 65536 ∷ []) start) ys)
-        come : T (allCome lost chosen (came calls start))
-        log : logBytes final ≡ front ++ text
-        ends : step End final ≡ ok (withRestoring false (withWaiting [] final)) (Ended ids)
-        shows : step (Show h) final ≡ ok final shown
+      pub record Computed (text : List ℕ) (ids : List ℕ) (h : ℕ) (shown : Answer) : Type 0 where
+        pub fine : T (allFine lost chosen (counted 0 (xs ++ Cut k 65536 ∷ []) start) (run (xs ++ Cut k 65536 ∷ []) start) ys)
+        pub come : T (allCome lost chosen (came calls start))
+        pub log : logBytes final ≡ front ++ text
+        pub ends : step End final ≡ ok (withRestoring false (withWaiting [] final)) (Ended ids)
+        pub shows : step (Show h) final ≡ ok final shown
 
       module _ (text : List ℕ) (ids : List ℕ) (h : ℕ) (shown : Answer) (C : Computed text ids h shown) where
-        asked : Asked 0 start (λ a. xs ++ Cut k 65536 ∷ a) ys (lostBy before picked) chosen
+        pub asked : Asked 0 start (λ a. xs ++ Cut k 65536 ∷ a) ys (lostBy before picked) chosen
         asked =
             subst (λ l. Asked 0 start (λ a. xs ++ Cut k 65536 ∷ a) ys l chosen) (sym (to-cut .lost-is))
             (asked-of lost chosen 0 start start-good xs k 65536 ys (C .fine) (C .come))
 
         -- What the claim says.
-        result : Recovered before picked lost chosen (came calls start) final
+        pub result : Recovered before picked lost chosen (came calls start) final
         result =
             subst (λ l. Recovered before picked l chosen (came calls start) final) (to-cut .lost-is)
             (recovery 0 start started xs k 65536 ys picked chosen fair asked)
@@ -159,8 +171,10 @@ module _ (xs : List Call) (k : ℕ) (kept : List Line) (front : List ℕ) (count
         fed : result .fed ≡ closed chosen [] lost
         fed = fed-is before picked lost chosen (came calls start) final result
 
-        book-shown : (i : ℕ) → i < 3 → Shows final i (cell i (picked .log ++ closed chosen [] lost))
-        book-shown i lt = subst (λ l. Shows final i (cell i (picked .log ++ l))) fed (result .shows i (subst (λ (n : ℕ). i < n) (sym (to-cut .histories)) lt))
+        book-shown : (i : ℕ) → i < 3 → Shows final i (cell (startOf picked) i (picked .log ++ closed chosen [] lost))
+        book-shown i lt =
+            subst (λ l. Shows final i (cell (startOf picked) i (picked .log ++ l))) fed
+            (result .shows i (subst (λ (n : ℕ). i < n) (sym (to-cut .histories)) lt))
 
 -- ### A stable line lost, and all but line 13 chosen
 
@@ -179,11 +193,11 @@ xs1 =
 abbrev front1 : List ℕ
 front1 = bytes "(site 3)\n(did 9 (inc 2 1 1 256))\n"
 
-to-cut1 : ToCut xs1 40 (didLine nine ∷ []) front1 1 lost1 (Restarted 1 33)
-unfolding replacedWith profileOf run enteredWith enterWith enterAllWith cellFromWith cellWith touches runsAt canRunWith unless openFull openRefusal opened openSite blockedBy blocked mayRunNow ready attempt tryFrom madeReady neverNow holdsNever overtaken notOvertaken overtakenIds nothingOrders idPending idDone alreadyDone readOvertaken atHighest tableFull addRefusal arrived add changeOf lineOf valuesAfter inProgress future without logFull finished finishFound finish withdrawRefusal withdraw persistent aboveMark stableFull stableRefusal stabled stable show restarted restartAs restart cutAbove cut stale redoRefusal behind pick drain delivered redoRead redo end writableUpdate writable perform step check andThen wrongCount noSuchHistory historyTwice updateMisfits changeMisfitsWith formRefusal updatesRefusal changesRefusalWith stablesFrom stablesAt weaveFrom markFrom upToDid reported ended didsText linesText logText linesFrom restFrom historiesFit acceptsWith rises follows liveIn tableHolds readLines readFirst readLog logBytes versionAt liveDone live asks dry becameDry rose lineBytes bytesOf settle below digitsWithin digits more number word fieldText fieldsText itemsText tailText listText changeText oneText siteText didText stableText lineText reading.field reading.doneRule reading.change reading.one reading.did reading.items reading.tail reading.line readWhole readDid readLine readSite counted countedAfter lostBy
+to-cut1 : ToCut xs1 40 none (didLine nine ∷ []) front1 1 lost1 (Restarted 1 33)
+unfolding replacedWith profileOf run enteredWith enterWith enterAllWith cellFromWith cellWith startCell touches runsAt canRunWith unless openFull openRefusal opened openSite blockedBy blocked mayRunNow ready attempt tryFrom madeReady neverNow holdsNever overtaken notOvertaken overtakenIds nothingOrders idPending idDone alreadyDone readOvertaken atHighest tableFull addRefusal arrived add changeOf lineOf valuesAfter inProgress future without logFull finished finishFound finish withdrawRefusal withdraw persistent aboveMark stableFull stableRefusal stabled stable show restarted restartAs restart cutAbove baseCut cut stale redoRefusal behind pick drain delivered redoRead redo end writableUpdate writable perform step check andThen wrongCount noSuchHistory historyTwice updateMisfits changeMisfitsWith formRefusal updatesRefusal changesRefusalWith stablesFrom stablesAt weaveFrom markFrom upToDid reported ended didsText linesText logText headText linesFrom restFrom historiesFit acceptsWith rises follows liveIn tableHolds inOrder baseFits readLines readSecond readFirst readLog logBytes versionAt liveDone live asks dry becameDry rose lineBytes bytesOf settle below digitsWithin digits more number word fieldText fieldsText itemsText tailText listText changeText oneText siteText didText stableText lineText reading.field reading.doneRule reading.change reading.one reading.did reading.items reading.tail reading.line readWhole readDid readLine reading.baseCell reading.base readBase readSite counted countedAfter lostBy
 to-cut1 = record { cuts = refl; keeps = refl; enough = tt; wide = refl; histories = refl; kept-text = refl; lost-is = refl }
 
-abbrev brings : Did → Call
+abbrev pub brings : Did → Call
 brings d = Redo (didText d)
 
 abbrev but13 : Did → Bool
@@ -201,8 +215,9 @@ abbrev ran-some : List ℕ
 ran-some = bytes "(did 10 (inc 0 1 1 513))\n(did 11 (not 0 1 2 0)(inc 1 1 1 7))\n(did 12 (set 0 9 3 1000))\n"
 
 -- `end` would name 15 and then 14, as they first came after the last cut.
-computed-some : Computed xs1 40 (didLine nine ∷ []) front1 1 lost1 (Restarted 1 33) to-cut1 but13 some ran-some (15 ∷ 14 ∷ []) 0 (Shown 0 9 1 0 3 1000)
-unfolding replacedWith profileOf run enteredWith enterWith enterAllWith cellFromWith cellWith touches runsAt canRunWith unless openFull openRefusal opened openSite blockedBy blocked mayRunNow ready attempt tryFrom madeReady neverNow holdsNever overtaken notOvertaken overtakenIds nothingOrders idPending idDone alreadyDone readOvertaken atHighest tableFull addRefusal arrived add changeOf lineOf valuesAfter inProgress future without logFull finished finishFound finish withdrawRefusal withdraw persistent aboveMark stableFull stableRefusal stabled stable show restarted restartAs restart cutAbove cut stale redoRefusal behind pick drain delivered redoRead redo end writableUpdate writable perform step check andThen wrongCount noSuchHistory historyTwice updateMisfits changeMisfitsWith formRefusal updatesRefusal changesRefusalWith stablesFrom stablesAt weaveFrom markFrom upToDid reported ended didsText linesText logText linesFrom restFrom historiesFit acceptsWith rises follows liveIn tableHolds readLines readFirst readLog logBytes versionAt liveDone live asks dry becameDry rose lineBytes bytesOf settle below digitsWithin digits more number word fieldText fieldsText itemsText tailText listText changeText oneText siteText didText stableText lineText reading.field reading.doneRule reading.change reading.one reading.did reading.items reading.tail reading.line readWhole readDid readLine readSite counted countedAfter comesAfter cameFrom allFine bringsChosen allCome sameBytes
+computed-some : Computed xs1 40 none (didLine nine ∷ []) front1 1 lost1 (Restarted 1 33) to-cut1 but13 some ran-some (15 ∷ 14 ∷ []) 0
+    (Shown 0 9 1 0 3 1000)
+unfolding replacedWith profileOf run enteredWith enterWith enterAllWith cellFromWith cellWith startCell touches runsAt canRunWith unless openFull openRefusal opened openSite blockedBy blocked mayRunNow ready attempt tryFrom madeReady neverNow holdsNever overtaken notOvertaken overtakenIds nothingOrders idPending idDone alreadyDone readOvertaken atHighest tableFull addRefusal arrived add changeOf lineOf valuesAfter inProgress future without logFull finished finishFound finish withdrawRefusal withdraw persistent aboveMark stableFull stableRefusal stabled stable show restarted restartAs restart cutAbove baseCut cut stale redoRefusal behind pick drain delivered redoRead redo end writableUpdate writable perform step check andThen wrongCount noSuchHistory historyTwice updateMisfits changeMisfitsWith formRefusal updatesRefusal changesRefusalWith stablesFrom stablesAt weaveFrom markFrom upToDid reported ended didsText linesText logText headText linesFrom restFrom historiesFit acceptsWith rises follows liveIn tableHolds inOrder baseFits readLines readSecond readFirst readLog logBytes versionAt liveDone live asks dry becameDry rose lineBytes bytesOf settle below digitsWithin digits more number word fieldText fieldsText itemsText tailText listText changeText oneText siteText didText stableText lineText reading.field reading.doneRule reading.change reading.one reading.did reading.items reading.tail reading.line readWhole readDid readLine reading.baseCell reading.base readBase readSite counted countedAfter comesAfter cameFrom allFine bringsChosen allCome sameBytes
 computed-some = record { fine = tt; come = tt; log = refl; ends = refl; shows = refl }
 
 -- (1) Line 15 is traced back to 14 and that to 13, which is not chosen: by the claim it has not run.
@@ -212,8 +227,11 @@ fifteen-open c =
     c .traced thirteen (further (direct (ten ∷ eleven ∷ twelve ∷ thirteen ∷ []) fourteen [] fifteen [] refl tt)
     (direct (ten ∷ eleven ∷ twelve ∷ []) thirteen [] fourteen (fifteen ∷ []) refl tt))
 
-result-some : Recovered (run xs1 start) (restarted 65536 3 (didLine nine ∷ [])) lost1 but13 (came (xs1 ++ Cut 40 65536 ∷ some) start) (run (xs1 ++ Cut 40 65536 ∷ some) start)
-result-some = result xs1 40 (didLine nine ∷ []) front1 1 lost1 (Restarted 1 33) to-cut1 but13 some ran-some (15 ∷ 14 ∷ []) 0 (Shown 0 9 1 0 3 1000) computed-some
+result-some : Recovered (run xs1 start) (restarted 65536 3 none (didLine nine ∷ [])) lost1 but13 (came (xs1 ++ Cut 40 65536 ∷ some) start)
+    (run (xs1 ++ Cut 40 65536 ∷ some) start)
+result-some =
+    result xs1 40 none (didLine nine ∷ []) front1 1 lost1 (Restarted 1 33) to-cut1 but13 some ran-some (15 ∷ 14 ∷ []) 0
+    (Shown 0 9 1 0 3 1000) computed-some
 
 fifteen-waits : HasRun (run (xs1 ++ Cut 40 65536 ∷ some) start) fifteen → ⊥
 fifteen-waits r = fifteen-open (result-some .hasRun fifteen (there (there (there (there (there (here refl)))))) .0 r)
@@ -224,15 +242,16 @@ unfolding closed shares beside
 closed-some = refl
 
 shown-some : Shows (run (xs1 ++ Cut 40 65536 ∷ some) start) 0 (record { profile = 1000; version = 9; place = 3 })
-unfolding closed shares beside restarted replacedWith profileOf enteredWith enterWith enterAllWith cellFromWith cellWith touches runsAt canRunWith
+unfolding closed shares beside restarted replacedWith profileOf enteredWith enterWith enterAllWith cellFromWith cellWith startCell touches runsAt canRunWith
 shown-some =
-    book-shown xs1 40 (didLine nine ∷ []) front1 1 lost1 (Restarted 1 33) to-cut1 but13 some ran-some (15 ∷ 14 ∷ []) 0 (Shown 0 9 1 0 3 1000) computed-some 0
+    book-shown xs1 40 none (didLine nine ∷ []) front1 1 lost1 (Restarted 1 33) to-cut1 but13 some ran-some (15 ∷ 14 ∷ []) 0
+    (Shown 0 9 1 0 3 1000) computed-some 0
     (lit≤ tt)
 
 -- ### A stable line kept, and every lost line chosen
 
 -- (did 9 (inc 2 2 2 300)): the id of line 9 again
-abbrev again : Did
+abbrev pub again : Did
 again = record { id = 9; changes = change DidInc 2 2 2 300 ∷ [] }
 
 abbrev lost2 : List Did
@@ -250,11 +269,11 @@ xs2 =
 abbrev front2 : List ℕ
 front2 = bytes "(site 3)\n(did 9 (inc 2 1 1 256))\n(stable 1)\n"
 
-to-cut2 : ToCut xs2 50 (didLine nine ∷ stableLine 1 ∷ []) front2 2 lost2 (Restarted 1 44)
-unfolding replacedWith profileOf run enteredWith enterWith enterAllWith cellFromWith cellWith touches runsAt canRunWith unless openFull openRefusal opened openSite blockedBy blocked mayRunNow ready attempt tryFrom madeReady neverNow holdsNever overtaken notOvertaken overtakenIds nothingOrders idPending idDone alreadyDone readOvertaken atHighest tableFull addRefusal arrived add changeOf lineOf valuesAfter inProgress future without logFull finished finishFound finish withdrawRefusal withdraw persistent aboveMark stableFull stableRefusal stabled stable show restarted restartAs restart cutAbove cut stale redoRefusal behind pick drain delivered redoRead redo end writableUpdate writable perform step check andThen wrongCount noSuchHistory historyTwice updateMisfits changeMisfitsWith formRefusal updatesRefusal changesRefusalWith stablesFrom stablesAt weaveFrom markFrom upToDid reported ended didsText linesText logText linesFrom restFrom historiesFit acceptsWith rises follows liveIn tableHolds readLines readFirst readLog logBytes versionAt liveDone live asks dry becameDry rose lineBytes bytesOf settle below digitsWithin digits more number word fieldText fieldsText itemsText tailText listText changeText oneText siteText didText stableText lineText reading.field reading.doneRule reading.change reading.one reading.did reading.items reading.tail reading.line readWhole readDid readLine readSite counted countedAfter lostBy
+to-cut2 : ToCut xs2 50 none (didLine nine ∷ stableLine 1 ∷ []) front2 2 lost2 (Restarted 1 44)
+unfolding replacedWith profileOf run enteredWith enterWith enterAllWith cellFromWith cellWith startCell touches runsAt canRunWith unless openFull openRefusal opened openSite blockedBy blocked mayRunNow ready attempt tryFrom madeReady neverNow holdsNever overtaken notOvertaken overtakenIds nothingOrders idPending idDone alreadyDone readOvertaken atHighest tableFull addRefusal arrived add changeOf lineOf valuesAfter inProgress future without logFull finished finishFound finish withdrawRefusal withdraw persistent aboveMark stableFull stableRefusal stabled stable show restarted restartAs restart cutAbove baseCut cut stale redoRefusal behind pick drain delivered redoRead redo end writableUpdate writable perform step check andThen wrongCount noSuchHistory historyTwice updateMisfits changeMisfitsWith formRefusal updatesRefusal changesRefusalWith stablesFrom stablesAt weaveFrom markFrom upToDid reported ended didsText linesText logText headText linesFrom restFrom historiesFit acceptsWith rises follows liveIn tableHolds inOrder baseFits readLines readSecond readFirst readLog logBytes versionAt liveDone live asks dry becameDry rose lineBytes bytesOf settle below digitsWithin digits more number word fieldText fieldsText itemsText tailText listText changeText oneText siteText didText stableText lineText reading.field reading.doneRule reading.change reading.one reading.did reading.items reading.tail reading.line readWhole readDid readLine reading.baseCell reading.base readBase readSite counted countedAfter lostBy
 to-cut2 = record { cuts = refl; keeps = refl; enough = tt; wide = refl; histories = refl; kept-text = refl; lost-is = refl }
 
-abbrev every : Did → Bool
+abbrev pub every : Did → Bool
 every d = true
 
 -- The lines come in the reverse order, and the last one lets those that wait run.
@@ -267,14 +286,16 @@ ran-all =
     ++ bytes "(did 15 (not 1 1 3 0))\n(did 12 (set 0 9 3 1000))\n"
 
 -- The lines stand in another order than in the first log, behind the stable line, and `show` of history 2 gives what it gave before the picked cut.
-computed-all : Computed xs2 50 (didLine nine ∷ stableLine 1 ∷ []) front2 2 lost2 (Restarted 1 44) to-cut2 every reversed ran-all [] 2 (Shown 2 3 1 1 3 11269)
-unfolding replacedWith profileOf run enteredWith enterWith enterAllWith cellFromWith cellWith touches runsAt canRunWith unless openFull openRefusal opened openSite blockedBy blocked mayRunNow ready attempt tryFrom madeReady neverNow holdsNever overtaken notOvertaken overtakenIds nothingOrders idPending idDone alreadyDone readOvertaken atHighest tableFull addRefusal arrived add changeOf lineOf valuesAfter inProgress future without logFull finished finishFound finish withdrawRefusal withdraw persistent aboveMark stableFull stableRefusal stabled stable show restarted restartAs restart cutAbove cut stale redoRefusal behind pick drain delivered redoRead redo end writableUpdate writable perform step check andThen wrongCount noSuchHistory historyTwice updateMisfits changeMisfitsWith formRefusal updatesRefusal changesRefusalWith stablesFrom stablesAt weaveFrom markFrom upToDid reported ended didsText linesText logText linesFrom restFrom historiesFit acceptsWith rises follows liveIn tableHolds readLines readFirst readLog logBytes versionAt liveDone live asks dry becameDry rose lineBytes bytesOf settle below digitsWithin digits more number word fieldText fieldsText itemsText tailText listText changeText oneText siteText didText stableText lineText reading.field reading.doneRule reading.change reading.one reading.did reading.items reading.tail reading.line readWhole readDid readLine readSite counted countedAfter comesAfter cameFrom allFine bringsChosen allCome sameBytes
+computed-all : Computed xs2 50 none (didLine nine ∷ stableLine 1 ∷ []) front2 2 lost2 (Restarted 1 44) to-cut2 every reversed ran-all [] 2
+    (Shown 2 3 1 1 3 11269)
+unfolding replacedWith profileOf run enteredWith enterWith enterAllWith cellFromWith cellWith startCell touches runsAt canRunWith unless openFull openRefusal opened openSite blockedBy blocked mayRunNow ready attempt tryFrom madeReady neverNow holdsNever overtaken notOvertaken overtakenIds nothingOrders idPending idDone alreadyDone readOvertaken atHighest tableFull addRefusal arrived add changeOf lineOf valuesAfter inProgress future without logFull finished finishFound finish withdrawRefusal withdraw persistent aboveMark stableFull stableRefusal stabled stable show restarted restartAs restart cutAbove baseCut cut stale redoRefusal behind pick drain delivered redoRead redo end writableUpdate writable perform step check andThen wrongCount noSuchHistory historyTwice updateMisfits changeMisfitsWith formRefusal updatesRefusal changesRefusalWith stablesFrom stablesAt weaveFrom markFrom upToDid reported ended didsText linesText logText headText linesFrom restFrom historiesFit acceptsWith rises follows liveIn tableHolds inOrder baseFits readLines readSecond readFirst readLog logBytes versionAt liveDone live asks dry becameDry rose lineBytes bytesOf settle below digitsWithin digits more number word fieldText fieldsText itemsText tailText listText changeText oneText siteText didText stableText lineText reading.field reading.doneRule reading.change reading.one reading.did reading.items reading.tail reading.line readWhole readDid readLine reading.baseCell reading.base readBase readSite counted countedAfter comesAfter cameFrom allFine bringsChosen allCome sameBytes
 computed-all = record { fine = tt; come = tt; log = refl; ends = refl; shows = refl }
 
 -- (5) So the claim says of each history.
 shown-all : (h : ℕ) → h < 3 → (c : Cell) × Shows (run xs2 start) h c × Shows (run (xs2 ++ Cut 50 65536 ∷ reversed) start) h c
 shown-all h lt =
-    result xs2 50 (didLine nine ∷ stableLine 1 ∷ []) front2 2 lost2 (Restarted 1 44) to-cut2 every reversed ran-all [] 2 (Shown 2 3 1 1 3 11269) computed-all
+    result xs2 50 none (didLine nine ∷ stableLine 1 ∷ []) front2 2 lost2 (Restarted 1 44) to-cut2 every reversed ran-all [] 2
+    (Shown 2 3 1 1 3 11269) computed-all
     .showsFirst (λ d m. tt) h (subst (λ (n : ℕ). h < n) (sym (to-cut2 .histories)) lt)
 
 -- ### Two orders of delivery behind the same cut ((n))
@@ -293,10 +314,11 @@ ran-forward =
 -- What the rules compute of a list behind that cut that brings back all lines.
 abbrev Returns : List Call → List ℕ → Type 0
 Returns ys text =
-    Computed xs2 50 (didLine nine ∷ stableLine 1 ∷ []) front2 2 lost2 (Restarted 1 44) to-cut2 every ys text [] 2 (Shown 2 3 1 1 3 11269)
+    Computed xs2 50 none (didLine nine ∷ stableLine 1 ∷ []) front2 2 lost2 (Restarted 1 44) to-cut2 every ys text [] 2
+    (Shown 2 3 1 1 3 11269)
 
 computed-forward : Returns forward ran-forward
-unfolding replacedWith profileOf run enteredWith enterWith enterAllWith cellFromWith cellWith touches runsAt canRunWith unless openFull openRefusal opened openSite blockedBy blocked mayRunNow ready attempt tryFrom madeReady neverNow holdsNever overtaken notOvertaken overtakenIds nothingOrders idPending idDone alreadyDone readOvertaken atHighest tableFull addRefusal arrived add changeOf lineOf valuesAfter inProgress future without logFull finished finishFound finish withdrawRefusal withdraw persistent aboveMark stableFull stableRefusal stabled stable show restarted restartAs restart cutAbove cut stale redoRefusal behind pick drain delivered redoRead redo end writableUpdate writable perform step check andThen wrongCount noSuchHistory historyTwice updateMisfits changeMisfitsWith formRefusal updatesRefusal changesRefusalWith stablesFrom stablesAt weaveFrom markFrom upToDid reported ended didsText linesText logText linesFrom restFrom historiesFit acceptsWith rises follows liveIn tableHolds readLines readFirst readLog logBytes versionAt liveDone live asks dry becameDry rose lineBytes bytesOf settle below digitsWithin digits more number word fieldText fieldsText itemsText tailText listText changeText oneText siteText didText stableText lineText reading.field reading.doneRule reading.change reading.one reading.did reading.items reading.tail reading.line readWhole readDid readLine readSite counted countedAfter comesAfter cameFrom allFine bringsChosen allCome sameBytes
+unfolding replacedWith profileOf run enteredWith enterWith enterAllWith cellFromWith cellWith startCell touches runsAt canRunWith unless openFull openRefusal opened openSite blockedBy blocked mayRunNow ready attempt tryFrom madeReady neverNow holdsNever overtaken notOvertaken overtakenIds nothingOrders idPending idDone alreadyDone readOvertaken atHighest tableFull addRefusal arrived add changeOf lineOf valuesAfter inProgress future without logFull finished finishFound finish withdrawRefusal withdraw persistent aboveMark stableFull stableRefusal stabled stable show restarted restartAs restart cutAbove baseCut cut stale redoRefusal behind pick drain delivered redoRead redo end writableUpdate writable perform step check andThen wrongCount noSuchHistory historyTwice updateMisfits changeMisfitsWith formRefusal updatesRefusal changesRefusalWith stablesFrom stablesAt weaveFrom markFrom upToDid reported ended didsText linesText logText headText linesFrom restFrom historiesFit acceptsWith rises follows liveIn tableHolds inOrder baseFits readLines readSecond readFirst readLog logBytes versionAt liveDone live asks dry becameDry rose lineBytes bytesOf settle below digitsWithin digits more number word fieldText fieldsText itemsText tailText listText changeText oneText siteText didText stableText lineText reading.field reading.doneRule reading.change reading.one reading.did reading.items reading.tail reading.line readWhole readDid readLine reading.baseCell reading.base readBase readSite counted countedAfter comesAfter cameFrom allFine bringsChosen allCome sameBytes
 computed-forward = record { fine = tt; come = tt; log = refl; ends = refl; shows = refl }
 
 delivery : (ys : List Call) (text : List ℕ) → Returns ys text → Delivery
@@ -309,10 +331,11 @@ delivery ys text C =
       kept = 50;
       room = 65536;
       further = ys;
-      after = restarted 65536 3 (didLine nine ∷ stableLine 1 ∷ []);
-      fair = fair xs2 50 (didLine nine ∷ stableLine 1 ∷ []) front2 2 lost2 (Restarted 1 44) to-cut2;
+      after = restarted 65536 3 none (didLine nine ∷ stableLine 1 ∷ []);
+      fair = fair xs2 50 none (didLine nine ∷ stableLine 1 ∷ []) front2 2 lost2 (Restarted 1 44) to-cut2;
       asked =
-          asked xs2 50 (didLine nine ∷ stableLine 1 ∷ []) front2 2 lost2 (Restarted 1 44) to-cut2 every ys text [] 2 (Shown 2 3 1 1 3 11269) C;
+          asked xs2 50 none (didLine nine ∷ stableLine 1 ∷ []) front2 2 lost2 (Restarted 1 44) to-cut2 every ys text [] 2
+          (Shown 2 3 1 1 3 11269) C;
     }
 
 -- The final logs differ, and are rearrangements of each other and of the log before the cut, in each history the same.

@@ -9,8 +9,8 @@ use native.Mathlib.Omega.{arith}
 use lib.Dec.{T}
 use lib.ListN.{length}
 use Rattle.forms.specs.ListLaws.{Prefix, mem-split, mem-at, mem-along, mem-mid, mem-snoc, mem-widen, Nodup, nodup-mid, nodup-snoc, nodup-apart, prefix-same, prefix-past, prefix-full, prefix-has, append-split, true-T, mem-keep, mem-of-keep, nodup-keep}
-use Rattle.forms.specs.Forms.{Change, Did}
-use Rattle.rules.specs.Book.{cell, canRun, touches}
+use Rattle.forms.specs.Forms.{Base, Change, Did}
+use Rattle.rules.specs.Book.{startCell, cell, canRun, touches}
 use Rattle.rules.specs.Good.{Ran}
 use Rattle.rules.specs.BookLaws.{proj, EachOnce, touches-of, touches-at, cell-same, proj-append, proj-mid, can-run-same, can-run-place, nodup-ran}
 use Rattle.recovery.specs.Claim.{InOrder}
@@ -37,9 +37,9 @@ order-map R S f (x ∷ a) h = (λ e m. f x e (h .0 e m), order-map R S f a (h .1
 -- ### The log at the picked cut
 
 -- The picked cut kept the lines K and lost the lines L. Lines are known by their keys when they come.
-module _ {B : Type 0} (key : Did → B) (K L : List Did) (chosen : Did → Bool) where
+module _ {B : Type 0} (σ : Base) (key : Did → B) (K L : List Did) (chosen : Did → Bool) where
   pub record Setting : Type 0 where
-    pub ran : Ran (K ++ L)
+    pub ran : Ran σ (K ++ L)
     -- each line has a change, and each of its changes is in another history
     pub once : EachOnce (K ++ L)
     pub some : (d : Did) → Mem d (K ++ L) → (x : Change) × Mem x (d .changes)
@@ -68,7 +68,7 @@ module _ {B : Type 0} (key : Did → B) (K L : List Did) (chosen : Did → Bool)
 
   module _ (S : Setting) where
     pub nodup-first : Nodup (K ++ L)
-    nodup-first = nodup-ran [] (K ++ L) (S .once) (S .ran) (S .some)
+    nodup-first = nodup-ran σ [] (K ++ L) (S .once) (S .ran) (S .some)
 
     pub not-kept : (d : Did) → Mem d L → Mem d K → ⊥
     not-kept d m k = nodup-apart K nodup-first k m
@@ -81,22 +81,22 @@ module _ {B : Type 0} (key : Did → B) (K L : List Did) (chosen : Did → Bool)
       cut-at : (h : ℕ) → T (touches h d) → proj h (K ++ L) ≡ proj h a ++ d ∷ proj h b
       cut-at h t = ap (proj h) at ∙ proj-mid h a d b t
 
-      first-ran : T (canRun a d)
+      first-ran : T (canRun σ a d)
       first-ran = S .ran a d b at
 
-      first-place : (x : Change) → Mem x (d .changes) → x .place ≡ length (proj (x .history) a) + 1
-      first-place x m = can-run-place a d (λ e k. S .once e (mem-along (sym at) (Memᴰ·append-left (d ∷ b) k))) first-ran x m
+      first-place : (x : Change) → Mem x (d .changes) → x .place ≡ startCell σ (x .history) .place + length (proj (x .history) a) + 1
+      first-place x m = can-run-place σ a d (λ e k. S .once e (mem-along (sym at) (Memᴰ·append-left (d ∷ b) k))) first-ran x m
 
       -- A lost line that can run comes next in each of its histories.
-      next : EachOnce log → T (canRun log d) → (h : ℕ) → T (touches h d) → proj h log ≡ proj h a
+      next : EachOnce log → T (canRun σ log d) → (h : ℕ) → T (touches h d) → proj h log ≡ proj h a
       next once r h t = go (touches-at h d t)
         where
           go : (x : Change) × Mem x (d .changes) × (x .history ≡ h) → proj h log ≡ proj h a
           go (x, m, e) =
               prefix-same (proj h log) (proj h (K ++ L)) (proj h a) d (proj h b) (front h) (cut-at h t)
-              (omega (arith, rw e at (can-run-place log d once r x m), rw e at (first-place x m)))
+              (omega (arith, rw e at (can-run-place σ log d once r x m), rw e at (first-place x m)))
 
-      front-one : EachOnce log → T (canRun log d) → (h : ℕ) → Prefix (proj h (log ++ d ∷ [])) (proj h (K ++ L))
+      front-one : EachOnce log → T (canRun σ log d) → (h : ℕ) → Prefix (proj h (log ++ d ∷ [])) (proj h (K ++ L))
       front-one once r h = go (touches h d) refl
         where
           go : (x : Bool) → touches h d ≡ x → Prefix (proj h (log ++ d ∷ [])) (proj h (K ++ L))
@@ -109,21 +109,22 @@ module _ {B : Type 0} (key : Did → B) (K L : List Did) (chosen : Did → Bool)
           go false e = rw (proj-append h log (d ∷ []), e, append-nil (proj h log)) (front h)
 
       -- A lost line with a place that is not above its history's has run.
-      pub past : (x : Change) → Mem x (d .changes) → x .place ≤ length (proj (x .history) log) → Mem d log
+      pub past : (x : Change) → Mem x (d .changes) → x .place ≤ startCell σ (x .history) .place + length (proj (x .history) log) → Mem d log
       past x m le =
           let h = x .history in
           let far : length (proj h a) < length (proj h log) = omega (arith, first-place x m) in
           mem-of-keep (touches h) log (prefix-past (proj h log) (proj h (K ++ L)) (proj h a) d (proj h b) (front h) (cut-at h (touches-of d m)) far) .0
 
       -- A lost line that has not run can run if all lines that stood before it in its histories have run.
-      pub can-run-next : (Mem d log → ⊥) → ((e : Did) (h : ℕ) → Mem e a → T (touches h e) → T (touches h d) → Mem e log) → T (canRun log d)
-      can-run-next out before = can-run-same a log d (λ x m. sym (same x m)) first-ran
+      pub can-run-next : (Mem d log → ⊥) → ((e : Did) (h : ℕ) → Mem e a → T (touches h e) → T (touches h d) → Mem e log) →
+          T (canRun σ log d)
+      can-run-next out before = can-run-same σ a log d (λ x m. sym (same x m)) first-ran
         where
-          same : (x : Change) → Mem x (d .changes) → cell (x .history) log ≡ cell (x .history) a
+          same : (x : Change) → Mem x (d .changes) → cell σ (x .history) log ≡ cell σ (x .history) a
           same x m =
               let h = x .history in
               let t = touches-of d m in
-              cell-same h log a (prefix-full (proj h log) (proj h (K ++ L)) (proj h a) d (proj h b) (front h) (cut-at h t)
+              cell-same σ h log a (prefix-full (proj h log) (proj h (K ++ L)) (proj h a) d (proj h b) (front h) (cut-at h t)
               (nodup-keep (touches h) (K ++ L) nodup-first)
               (λ k. out (mem-of-keep (touches h) log k .0))
               (λ e k. let q = mem-of-keep (touches h) a k in mem-keep (touches h) (before e h (q .0) (q .1) t) (q .1)))
@@ -143,7 +144,8 @@ module _ {B : Type 0} (key : Did → B) (K L : List Did) (chosen : Did → Bool)
         inside (inl k) = Memᴰ·append-left L k
         inside (inr k) = Memᴰ·append-right K (I .ran-chosen e k .0)
 
-    pub inv-one : (came : List B) (log a : List Did) (d : Did) (b : List Did) → T (canRun log d) → Inv came log (a ++ d ∷ b) → Inv came (log ++ d ∷ []) (a ++ b)
+    pub inv-one : (came : List B) (log a : List Did) (d : Did) (b : List Did) → T (canRun σ log d) → Inv came log (a ++ d ∷ b) →
+        Inv came (log ++ d ∷ []) (a ++ b)
     inv-one came log a d b t I =
         record {
           ran = I .ran ++ d ∷ [];

@@ -3,12 +3,14 @@ pub mod Invariant
 pub mod Ending
 pub mod Cuts
 pub mod Steps
+pub mod StepLaws
 pub mod Counted
 pub mod Recovery
 pub mod Fairness
 pub mod Older
 pub mod Checking
 pub mod Instance
+pub mod BaseInstance
 pub mod Weakened
 pub mod Arrival
 pub mod ArrivalLaws

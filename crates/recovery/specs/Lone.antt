@@ -12,7 +12,7 @@ use Rattle.forms.specs.Forms.{Did}
 use Rattle.forms.specs.declared.Refusal.the-variants.{TableFull}
 use Rattle.forms.specs.Limits.{liveLimit}
 use Rattle.rules.specs.State.{State, Reply, refused, ok, settle, live}
-use Rattle.rules.specs.Calls.{tableFull, Call, Cut, Redo, End, step}
+use Rattle.rules.specs.Calls.{tableFull, Call, Cut, Changeover, Redo, End, step}
 use Rattle.rules.specs.WhenLaws.{step-off, ten-why}
 use Rattle.rules.specs.Run.{run}
 use Rattle.rules.specs.GoodLaws.{good-run}
@@ -120,6 +120,11 @@ lone-claim claim m s start xs k room ys after chosen fair asked =
                     let q = asked .redos a line b st answer (e ∙ ap (λ (x : Call). a ++ x ∷ b) p)
                     (moved (xs ++ Cut k room ∷ a) (Redo line) (ok st answer) (ap (λ (x : Call). step x (runIn lone (xs ++ Cut k room ∷ a) s)) (sym p) ∙ r)) in
                     (q .0, subst (λ (l : List Did). Mem (q .0) l) lost-is (q .1), q .2, q .3);
+                changeovers = λ a c b j wide st answer e o r.
+                    let p = some-one c (Changeover j wide) o in
+                    asked .changeovers a j wide b st answer (e ∙ ap (λ (x : Call). a ++ x ∷ b) p)
+                    (moved (xs ++ Cut k room ∷ a) (Changeover j wide) (ok st answer)
+                    (ap (λ (x : Call). step x (runIn lone (xs ++ Cut k room ∷ a) s)) (sym p) ∙ r));
                 ends = λ a c b st answer e o r.
                     let p = some-one c End o in
                     asked .ends a b st answer (e ∙ ap (λ (x : Call). a ++ x ∷ b) p)

@@ -9,15 +9,14 @@ use lib.Dec.{T}
 use lib.ListN.{drop}
 use Rattle.forms.specs.ListLaws.{Nodup, nodup-right}
 use Rattle.forms.specs.Forms.{Did, Ended}
-use Rattle.rules.specs.Log.{mark}
-use Rattle.rules.specs.State.{State, ok, linesIn}
+use Rattle.rules.specs.State.{State, startOf, ok, linesIn}
 use Rattle.rules.specs.Calls.{Call, Cut, End, step}
 use Rattle.rules.specs.Good.{Good, didIds}
 use Rattle.rules.specs.GoodLaws.{good-run}
 use Rattle.rules.specs.Run.{run}
 use Rattle.recovery.specs.Claim.{Start, counted, Fair, lostBy, HasRun, came, Asked, Recovered}
 use Rattle.recovery.specs.Counted.{counted-start, counted-is}
-use Rattle.recovery.specs.Cuts.{log-once, left-kept, picked-at, Cutting, cutting}
+use Rattle.recovery.specs.Cuts.{skip, log-once, left-kept, picked-at, Cutting, cutting}
 use Rattle.recovery.specs.Recovery.{start-good, recovery}
 
 -- Lines of a list with the same id are the same line.
@@ -71,8 +70,8 @@ module _
       picked-at room (run xs s) after good cuts
       (left-kept (counted m xs s) room (run xs s) after good (counted-is xs m s (start-good m s start) (counted-start m s start)) cuts
       (fair .keeps))
-      .ids d e (Memᴰ·append-right (drop (mark (linesIn after)) (after .log)) a)
-      (Memᴰ·append-right (drop (mark (linesIn after)) (after .log)) b) p
+      .ids d e (Memᴰ·append-right (drop (skip (startOf after) (linesIn after)) (after .log)) a)
+      (Memᴰ·append-right (drop (skip (startOf after) (linesIn after)) (after .log)) b) p
 
   distinct : Nodup (didIds lost)
   distinct = nodup-ids lost (nodup-right (after .log) lost (subst Nodup (cuts .first) (log-once (run xs s) good))) one-each

@@ -2,6 +2,7 @@
 -- is chosen and comes, in first order, after a cut that keeps each line counted persistent. So none of them can be spared. Computed.
 use mathlib.Core.Path.{_≡_, refl}
 use mathlib.Core.Bool.{true, false}
+use mathlib.Core.Option.{none}
 use mathlib.Core.List.{List, [], _∷_, _++_, map}
 use Prim.Native.Nat.{ℕ}
 use lib.Dec.{T, leb}
@@ -12,27 +13,29 @@ use Rattle.forms.specs.Decimal.{digitsWithin, digits, more, number}
 use Rattle.forms.specs.Forms.{Update, Did, Line, didLine, stableLine, Restarted, fieldText, fieldsText, itemsText, tailText}
 use Rattle.forms.specs.Forms.{listText, changeText, oneText, siteText, didText, stableText, lineText}
 use Rattle.forms.specs.Reading as reading
-use Rattle.forms.specs.Reading.{readDid, readLine, readSite, readWhole}
+use Rattle.forms.specs.Reading.{readBase, readDid, readLine, readSite, readWhole}
 use Rattle.forms.specs.declared.Rule.the-variants.{Inc}
 use Rattle.forms.specs.declared.DoneRule.the-variants.{DidInc}
 use Rattle.forms.specs.declared.Refusal.{Refusal}
 use Rattle.forms.specs.declared.Refusal.the-variants.{AlreadyDone, NoRoom}
 use Rattle.rules.specs.Rules.{profileOf, replacedWith}
-use Rattle.rules.specs.Book.{touches, runsAt, canRunWith, cellFromWith, cellWith, enterAllWith, enterWith, enteredWith}
+use Rattle.rules.specs.Book.{startCell, touches, runsAt, canRunWith, cellFromWith, cellWith, enterAllWith, enterWith, enteredWith}
 use Rattle.rules.specs.Checks.{check, andThen, wrongCount, noSuchHistory, historyTwice, updateMisfits, changeMisfitsWith, formRefusal}
 use Rattle.rules.specs.Checks.{updatesRefusal, changesRefusalWith}
-use Rattle.rules.specs.Log.{stablesFrom, stablesAt, weaveFrom, markFrom, upToDid, reported, ended, linesText, logText, linesFrom, restFrom}
+use Rattle.rules.specs.Log.{readSecond, baseFits, inOrder, headText, stablesFrom, stablesAt, weaveFrom, markFrom, upToDid, reported, ended}
+use Rattle.rules.specs.Log.{linesText, logText, linesFrom, restFrom}
 use Rattle.rules.specs.Log.{historiesFit, acceptsWith, rises, follows, liveIn, tableHolds, readLines, readFirst, readLog}
 use Rattle.rules.specs.State.{State, refused, ok, settle, linesIn, stableTo, withMarks, withRestoring, logBytes, versionAt, liveDone, live}
 use Rattle.rules.specs.State.{asks, dry, becameDry, rose, lineBytes, bytesOf}
-use Rattle.rules.specs.Calls.{Call, Add, Finish, Persistent, Stable, Cut, Redo, End, unless, opened, blockedBy, blocked, mayRunNow, ready}
+use Rattle.rules.specs.Calls.{baseCut, Call, Add, Finish, Persistent, Stable, Cut, Redo, End, unless, opened, blockedBy, blocked, mayRunNow}
+use Rattle.rules.specs.Calls.{ready}
 use Rattle.rules.specs.Calls.{attempt, tryFrom, madeReady, neverNow, holdsNever, overtaken, notOvertaken, overtakenIds, nothingOrders}
 use Rattle.rules.specs.Calls.{idPending, idDone, alreadyDone, readOvertaken, atHighest, tableFull, addRefusal, arrived, add, changeOf}
 use Rattle.rules.specs.Calls.{lineOf, valuesAfter, inProgress, future, without, logFull, finished, finishFound, finish, persistent}
 use Rattle.rules.specs.Calls.{aboveMark, stableFull, stableRefusal, stabled, stable, restarted, restartAs, restart, cutAbove, cut, stale}
 use Rattle.rules.specs.Calls.{redoRefusal, behind, pick, drain, delivered, redoRead, redo, end, writableUpdate, writable, perform, step}
 use Rattle.rules.specs.Run.{run}
-use Rattle.recovery.specs.Claim.{counted, countedAfter, lostBy}
+use Rattle.recovery.specs.Claim.{none, counted, countedAfter, lostBy}
 
 -- ### The operations: all in history 0
 
@@ -63,10 +66,10 @@ record Breaks (before : State) (counts : ℕ) (kept gone : List Line) (then : St
     (r : Refusal) : Type 0 where
   whole : linesIn before ≡ kept ++ gone
   enough : T (leb counts (length kept))
-  cuts : step (Cut (length (logText 1 kept)) (before .room)) before
-      ≡ ok (restarted (before .room) 1 kept) (Restarted 1 (length (logText 1 kept)))
-  lost : lostBy before (restarted (before .room) 1 kept) ≡ others ++ line ∷ []
-  refuses : step (Redo (didText line)) (run (redos others) (then (restarted (before .room) 1 kept))) ≡ refused r
+  cuts : step (Cut (length (logText 1 none kept)) (before .room)) before
+      ≡ ok (restarted (before .room) 1 none kept) (Restarted 1 (length (logText 1 none kept)))
+  lost : lostBy before (restarted (before .room) 1 none kept) ≡ others ++ line ∷ []
+  refuses : step (Redo (didText line)) (run (redos others) (then (restarted (before .room) 1 none kept))) ≡ refused r
 
 -- ### The five
 
@@ -84,7 +87,7 @@ coveredLost = run (stable1 ++ Persistent 1 ∷ Add 1 (asked 2) ∷ Finish 1 ∷ 
 
 -- ".. and those a restart kept": here the did lines that it kept alone
 abbrev keptLost : State
-keptLost = run (End ∷ Add 1 (asked 2) ∷ Finish 1 ∷ []) (restarted 1000 1 (didLine (did 1 1) ∷ stableLine 1 ∷ []))
+keptLost = run (End ∷ Add 1 (asked 2) ∷ Finish 1 ∷ []) (restarted 1000 1 none (didLine (did 1 1) ∷ stableLine 1 ∷ []))
 
 -- "While restoring, any stable call with N above the mark meets 14": here it is accepted, and its line takes the room of a lost one
 abbrev full : State
@@ -120,18 +123,21 @@ record Weakened : Type 0 where
 
 weakened : Weakened
 weakened =
-    unfold replacedWith profileOf enteredWith enterWith enterAllWith cellFromWith cellWith touches runsAt canRunWith check andThen in
+    unfold replacedWith profileOf enteredWith enterWith enterAllWith cellFromWith cellWith startCell touches runsAt canRunWith check in
+    unfold andThen in
     unfold wrongCount noSuchHistory historyTwice updateMisfits changeMisfitsWith formRefusal updatesRefusal changesRefusalWith in
-    unfold stablesFrom stablesAt weaveFrom markFrom upToDid reported ended linesText logText linesFrom restFrom historiesFit in
-    unfold acceptsWith rises follows liveIn tableHolds readLines readFirst readLog settle logBytes versionAt liveDone live asks dry in
+    unfold stablesFrom stablesAt weaveFrom markFrom upToDid reported ended linesText logText headText linesFrom restFrom historiesFit in
+    unfold acceptsWith rises follows liveIn tableHolds inOrder baseFits readLines readSecond readFirst readLog settle logBytes versionAt in
+    unfold liveDone live asks dry in
     unfold becameDry rose lineBytes bytesOf unless opened blockedBy blocked mayRunNow ready attempt tryFrom madeReady neverNow in
     unfold holdsNever overtaken notOvertaken overtakenIds nothingOrders idPending idDone alreadyDone readOvertaken atHighest tableFull in
     unfold addRefusal arrived add changeOf lineOf valuesAfter inProgress future without logFull finished finishFound finish persistent in
-    unfold aboveMark stableFull stableRefusal stabled stable restarted restartAs restart cutAbove cut stale redoRefusal behind pick in
+    unfold aboveMark stableFull stableRefusal stabled stable restarted restartAs restart cutAbove baseCut cut stale redoRefusal behind in
+    unfold pick in
     unfold drain delivered redoRead redo end writableUpdate writable perform step run counted countedAfter lostBy below word in
     unfold digitsWithin digits more number fieldText fieldsText itemsText tailText listText changeText oneText siteText didText in
     unfold stableText lineText reading.field reading.doneRule reading.change reading.one reading.items reading.tail reading.did in
-    unfold reading.line readDid readLine readSite readWhole in
+    unfold reading.line readDid readLine reading.baseCell reading.base readBase readSite readWhole in
     record {
       counts-atOnce = refl;
       leaves-at-once = record { whole = refl; enough = tt; cuts = refl; lost = refl; refuses = refl };

@@ -16,17 +16,19 @@ use Rattle.forms.specs.Forms.{Update, Did, fieldText, fieldsText, itemsText, ta
 use Rattle.forms.specs.Forms.{didText, redoText, stableText, lineText}
 use Rattle.forms.specs.Forms.{numbersText, answerText, outcomeText}
 use Rattle.forms.specs.Reading as reading
-use Rattle.forms.specs.Reading.{readDid, readSite, readCommand, readWhole, readLine}
+use Rattle.forms.specs.Reading.{readBase, readDid, readSite, readCommand, readWhole, readLine}
 use Rattle.forms.specs.Limits.{logLimit}
 use Rattle.forms.specs.declared.Rule.the-variants.{Inc, Set, Unk}
 use Rattle.forms.specs.declared.DoneRule.the-variants.{DidSet}
 use Rattle.forms.specs.declared.Refusal.the-variants.{HighestVersion, TableFull}
-use Rattle.rules.specs.Book.{touches, runsAt}
+use Rattle.rules.specs.Book.{blankBase, startCell, touches, runsAt}
 use Rattle.rules.specs.Checks.{check, andThen, wrongCount, noSuchHistory, historyTwice, updateMisfits, formRefusal, updatesRefusal}
-use Rattle.rules.specs.Log.{ended, logText, linesFrom, restFrom, historiesFit, stablesFrom, stablesAt, weaveFrom, markFrom, upToDid}
+use Rattle.rules.specs.Log.{readSecond, baseFits, inOrder, headText, ended, logText, linesFrom, restFrom, historiesFit, stablesFrom}
+use Rattle.rules.specs.Log.{stablesAt, weaveFrom, markFrom, upToDid}
 use Rattle.rules.specs.Log.{reported, linesText, rises, follows, liveIn, tableHolds}
 use Rattle.rules.specs.State.{Operation, State, logBytes, versionAt, liveDone, live, asks, dry, becameDry, rose, lineBytes, bytesOf}
-use Rattle.rules.specs.Calls.{unless, openFull, openRefusal, opened, openSite, blockedBy, blocked, mayRunNow, ready, attempt, tryFrom}
+use Rattle.rules.specs.Calls.{baseCut, unless, openFull, openRefusal, opened, openSite, blockedBy, blocked, mayRunNow, ready, attempt}
+use Rattle.rules.specs.Calls.{tryFrom}
 use Rattle.rules.specs.Calls.{madeReady, neverNow, holdsNever, overtaken, notOvertaken, overtakenIds, nothingOrders, idPending}
 use Rattle.rules.specs.Calls.{idDone, alreadyDone, readOvertaken, atHighest, tableFull, addRefusal, arrived, add, changeOf, lineOf}
 use Rattle.rules.specs.Calls.{valuesAfter, inProgress, future, without, logFull, finished, finishFound, finish, withdrawRefusal}
@@ -37,7 +39,7 @@ use Rattle.rules.specs.Calls.{redoRead, redo, end, writableUpdate, writa
 use Rattle.rules.specs.Keeper.{sameBytes}
 use Rattle.rules.specs.Session.{turnOf, opening, calling, obey, onCommand, turn, replies, restReply, sessionIn, session}
 use Rattle.rules.specs.Rules.{profileOf, replacedWith}
-use Rattle.rules.specs.Book.{canRunWith, cellFromWith, cellWith, enterAllWith, enterWith, enteredWith}
+use Rattle.rules.specs.Book.{blankBase, canRunWith, cellFromWith, cellWith, enterAllWith, enterWith, enteredWith}
 use Rattle.rules.specs.Checks.{changeMisfitsWith, changesRefusalWith}
 use Rattle.rules.specs.Log.{acceptsWith, readLines, readFirst, readLog}
 
@@ -239,19 +241,21 @@ computed =
     unfold holds sameBytes below word digitsWithin digits more number numberOf in
     unfold fieldText fieldsText itemsText tailText listText updateText changeText oneText siteText didText stableText lineText redoText numbersText answerText outcomeText in
     unfold reading.field reading.rule reading.doneRule reading.update reading.change reading.one reading.items reading.tail reading.did reading.addForm in
-    unfold reading.redoForm reading.numbered reading.command reading.line readDid readLine readSite readCommand readWhole in
-    unfold replacedWith profileOf enteredWith enterWith enterAllWith cellFromWith cellWith touches runsAt canRunWith in
+    unfold reading.redoForm reading.numbered reading.command reading.line readDid readLine reading.baseCell reading.base readBase in
+    unfold readSite readCommand readWhole in
+    unfold replacedWith profileOf startCell enteredWith enterWith enterAllWith cellFromWith cellWith touches runsAt canRunWith in
     unfold check andThen wrongCount noSuchHistory historyTwice updateMisfits changeMisfitsWith in
     unfold formRefusal updatesRefusal changesRefusalWith in
-    unfold stablesFrom stablesAt weaveFrom markFrom upToDid reported ended linesText logText linesFrom restFrom historiesFit acceptsWith in
-    unfold rises follows liveIn tableHolds readLines readFirst readLog in
+    unfold stablesFrom stablesAt weaveFrom markFrom upToDid reported ended headText linesText logText linesFrom restFrom historiesFit in
+    unfold acceptsWith in
+    unfold rises follows liveIn tableHolds inOrder baseFits readLines readSecond readFirst readLog in
     unfold logBytes versionAt liveDone live asks dry becameDry rose lineBytes bytesOf in
     unfold unless openFull openRefusal opened openSite blockedBy blocked mayRunNow ready attempt tryFrom madeReady in
     unfold neverNow holdsNever overtaken notOvertaken overtakenIds nothingOrders idPending idDone in
     unfold alreadyDone readOvertaken atHighest tableFull addRefusal arrived add changeOf lineOf valuesAfter inProgress future in
     unfold without logFull finished in
     unfold finishFound finish withdrawRefusal withdraw persistent aboveMark stableFull stableRefusal stabled stable show in
-    unfold restarted restartAs restart cutAbove cut stale redoRefusal behind pick in
+    unfold restarted restartAs restart cutAbove baseCut cut stale redoRefusal behind pick in
     unfold drain delivered redoRead redo end writableUpdate writable perform step in
     unfold turnOf opening calling obey onCommand turn replies restReply sessionIn session in
     tt
@@ -297,6 +301,7 @@ having n =
     record {
       histories = 2;
       room = logLimit;
+      base = none;
       log = topLine ∷ [];
       stables = [];
       pending = futures n;
@@ -324,12 +329,12 @@ record OnEdge : Type 0 where
   full : addRefusal 100 (anInc ∷ []) (having 63) ≡ some TableFull
   lastFree : addRefusal 100 (anInc ∷ []) (having 62) ≡ none
   -- only a future operation is overtaken, and only by its version
-  inProgress : overtaken (topLine ∷ []) (setting top true) ≡ false
-  future : overtaken (topLine ∷ []) (setting top false) ≡ true
+  inProgress : overtaken blankBase (topLine ∷ []) (setting top true) ≡ false
+  future : overtaken blankBase (topLine ∷ []) (setting top false) ≡ true
 
 on-edge : OnEdge
 on-edge =
     unfold addRefusal futures check andThen updatesRefusal formRefusal wrongCount noSuchHistory historyTwice updateMisfits in
     unfold nothingOrders idPending idDone liveDone live alreadyDone readOvertaken atHighest tableFull in
-    unfold overtaken holdsNever neverNow cellWith cellFromWith enterAllWith enterWith enteredWith in
+    unfold overtaken holdsNever neverNow startCell cellWith cellFromWith enterAllWith enterWith enteredWith in
     record { highestFirst = refl; full = refl; lastFree = refl; inProgress = refl; future = refl }

@@ -10,12 +10,12 @@ use lib.Dec.{T, leb, ltb, eqb, eqb→eq, eqb-refl, leb→le, ltb→lt}
 use lib.ListN.{length, length-map}
 use Rattle.forms.specs.Decimal.{top}
 use Rattle.forms.specs.ListLaws.{T-true, true-T, and-left, and-right, or-left, all-at, all-of}
-use Rattle.forms.specs.Forms.{Update, Change, Did}
+use Rattle.forms.specs.Forms.{Base, Update, Change, Did}
 use Rattle.forms.specs.Writable.{WritableChange}
 use Rattle.forms.specs.declared.Rule.{Rule}
 use Rattle.forms.specs.declared.Rule.the-variants.{Inc, Set, Not, Unk}
 use Rattle.rules.specs.Rules.{ruleOf, loggedAs, mayRun, strong, versionAfter, operandFits}
-use Rattle.rules.specs.Book.{Cell, entered, enterAll, cell, canRun, runsAt}
+use Rattle.rules.specs.Book.{Cell, startCell, entered, enterAll, cell, canRun, runsAt}
 use Rattle.rules.specs.Checks.{updateMisfits, changeMisfits}
 use Rattle.rules.specs.State.{Operation}
 use Rattle.rules.specs.Calls.{mayRunNow, changeOf, lineOf, writableUpdate}
@@ -34,15 +34,16 @@ logged-runs Set c u t = t
 logged-runs Not c u t = eqb-refl c
 logged-runs Unk c u t = eqb-refl (c + 1)
 
-pub line-runs : (log : List Did) (x : Operation) → MayRun log x → T (canRun log (lineOf log x))
+pub line-runs : (σ : Base) → (log : List Did) (x : Operation) → MayRun σ log x → T (canRun σ log (lineOf σ log x))
 unfolding lineOf changeOf mayRunNow
-line-runs log x may = can-run-of log (lineOf log x) (λ y m. go y (Memᴰ·of-map (changeOf log) (x .updates) m))
+line-runs σ log x may = can-run-of σ log (lineOf σ log x) (λ y m. go y (Memᴰ·of-map (changeOf σ log) (x .updates) m))
   where
-    go : (y : Change) → (u : Update) × Mem u (x .updates) × (changeOf log u ≡ y) → T (runsAt (cell (y .history) log) y)
+    go : (y : Change) → (u : Update) × Mem u (x .updates) × (changeOf σ log u ≡ y) → T (runsAt (cell σ (y .history) log) y)
     go y (u, m, e) =
-        let c = cell (u .history) log in
-        subst (λ (z : Change). T (runsAt (cell (z .history) log) z)) e
-        (runs-of c (changeOf log u) refl (logged-runs (u .rule) (c .version) (u .version) (all-at (mayRunNow log) (x .updates) may u m)))
+        let c = cell σ (u .history) log in
+        subst (λ (z : Change). T (runsAt (cell σ (z .history) log) z)) e
+        (runs-of c (changeOf σ log u) refl
+        (logged-runs (u .rule) (c .version) (u .version) (all-at (mayRunNow σ log) (x .updates) may u m)))
 
 -- ### It passes 2 to 5
 
@@ -52,32 +53,32 @@ logged-fits Set u v o t = t
 logged-fits Not u v o t = t
 logged-fits Unk u v o t = and-left (ltb o (256 * partLimit)) (eqb u 0) t
 
-change-fits : (log : List Did) (u : Update) → updateMisfits u ≡ false → changeMisfits (changeOf log u) ≡ false
+change-fits : (σ : Base) → (log : List Did) (u : Update) → updateMisfits u ≡ false → changeMisfits (changeOf σ log u) ≡ false
 unfolding updateMisfits changeMisfitsWith changeOf
-change-fits log u e =
-    let v = versionAfter (u .rule) (cell (u .history) log .version) (u .version) in
+change-fits σ log u e =
+    let v = versionAfter (u .rule) (cell σ (u .history) log .version) (u .version) in
     let before = operandFits (u .rule) (u .version) (u .operand) in
     let after = operandFits (ruleOf (loggedAs (u .rule))) v (u .operand) in
     ap not {x = after} (T-true after (logged-fits (u .rule) (u .version) v (u .operand) (true-T before (not-false before e))))
 
-pub line-formed : (n : ℕ) (log : List Did) (us : List Update) → FormedUpdates n us → FormedChanges n (map (changeOf log) us)
+pub line-formed : (σ : Base) → (n : ℕ) (log : List Did) (us : List Update) → FormedUpdates n us → FormedChanges n (map (changeOf σ log) us)
 unfolding changeOf
-line-formed n log us F =
+line-formed σ n log us F =
     record {
-      some = omega (arith, F .some, length-map us (changeOf log));
-      few = omega (arith, F .few, length-map us (changeOf log));
-      known = λ x m. known x (Memᴰ·of-map (changeOf log) us m);
+      some = omega (arith, F .some, length-map us (changeOf σ log));
+      few = omega (arith, F .few, length-map us (changeOf σ log));
+      known = λ x m. known x (Memᴰ·of-map (changeOf σ log) us m);
       once = rw (same us) (F .once);
-      fit = λ x m. fit x (Memᴰ·of-map (changeOf log) us m);
+      fit = λ x m. fit x (Memᴰ·of-map (changeOf σ log) us m);
     }
   where
-    known : (x : Change) → (u : Update) × Mem u us × (changeOf log u ≡ x) → x .history < n
+    known : (x : Change) → (u : Update) × Mem u us × (changeOf σ log u ≡ x) → x .history < n
     known x (u, m, e) = subst (λ (z : Change). z .history < n) e (F .known u m)
 
-    fit : (x : Change) → (u : Update) × Mem u us × (changeOf log u ≡ x) → changeMisfits x ≡ false
-    fit x (u, m, e) = subst (λ (z : Change). changeMisfits z ≡ false) e (change-fits log u (F .fit u m))
+    fit : (x : Change) → (u : Update) × Mem u us × (changeOf σ log u ≡ x) → changeMisfits x ≡ false
+    fit x (u, m, e) = subst (λ (z : Change). changeMisfits z ≡ false) e (change-fits σ log u (F .fit u m))
 
-    same : (ws : List Update) → map (λ (x : Change). x .history) (map (changeOf log) ws) ≡ map (λ (u : Update). u .history) ws
+    same : (ws : List Update) → map (λ (x : Change). x .history) (map (changeOf σ log) ws) ≡ map (λ (u : Update). u .history) ws
     same [] = refl
     same (w ∷ ws) = ap {B = List ℕ} (λ l. w .history ∷ l) (same ws)
 
@@ -90,31 +91,35 @@ version-writable Set c u le t = le
 version-writable Not c u le t = subst (λ (k : ℕ). k ≤ top) (eqb→eq u c t) le
 version-writable Unk c u le t = let lt = ltb→lt c top t in omega arith
 
-change-writable : (log : List Did) (u : Update) → EachOnce log → length log < top → T (writableUpdate u) → T (mayRunNow log u) → WritableChange (changeOf log u)
+change-writable : (σ : Base) → (log : List Did) (u : Update) → EachOnce log → startCell σ (u .history) .place + length log < top →
+    T (writableUpdate u) → T (mayRunNow σ log u) → WritableChange (changeOf σ log u)
 unfolding changeOf writableUpdate mayRunNow
-change-writable log u once short w t =
+change-writable σ log u once short w t =
     let a = leb (u .history) top in
     let b = leb (u .version) top in
     let c = leb (u .operand) top in
     let two = and-left (a && b) c w in
     record {
       history = leb→le (u .history) top (and-left a b two);
-      version = version-writable (u .rule) (cell (u .history) log .version) (u .version) (leb→le (u .version) top (and-right a b two)) t;
-      place = omega (arith, place-below-length (u .history) log once);
+      version = version-writable (u .rule) (cell σ (u .history) log .version) (u .version) (leb→le (u .version) top (and-right a b two)) t;
+      place = omega (arith, place-below-length σ (u .history) log once);
       operand = leb→le (u .operand) top (and-right (a && b) c w);
     }
 
-pub line-good : (n : ℕ) (log : List Did) (x : Operation) → EachOnce log → length log < top → FormedOperation n x → MayRun log x → FormedDid n (lineOf log x)
+pub line-good : (σ : Base) → (n : ℕ) (log : List Did) (x : Operation) → EachOnce log → ((h : ℕ) → startCell σ h .place + length log < top) →
+    FormedOperation n x → MayRun σ log x → FormedDid n (lineOf σ log x)
 unfolding lineOf
-line-good n log x once short F may =
+line-good σ n log x once short F may =
     record {
-      passes = changes-none n (map (changeOf log) (x .updates)) (line-formed n log (x .updates) (formed-updates n (x .updates) (F .passes)));
-      writable = record { id = F .id; changes = λ y m. go y (Memᴰ·of-map (changeOf log) (x .updates) m) };
+      passes =
+          changes-none n (map (changeOf σ log) (x .updates)) (line-formed σ n log (x .updates) (formed-updates n (x .updates) (F .passes)));
+      writable = record { id = F .id; changes = λ y m. go y (Memᴰ·of-map (changeOf σ log) (x .updates) m) };
     }
   where
-    go : (y : Change) → (u : Update) × Mem u (x .updates) × (changeOf log u ≡ y) → WritableChange y
+    go : (y : Change) → (u : Update) × Mem u (x .updates) × (changeOf σ log u ≡ y) → WritableChange y
     go y (u, m, e) =
-        subst WritableChange e (change-writable log u once short (F .writable u m) (all-at (mayRunNow log) (x .updates) may u m))
+        subst WritableChange e
+        (change-writable σ log u once (short (u .history)) (F .writable u m) (all-at (mayRunNow σ log) (x .updates) may u m))
 
 -- ### Others behind it
 
@@ -126,25 +131,29 @@ weak-keeps Not out v o c = refl
 weak-keeps Unk out v o c = absurd (out tt)
 
 -- Changes of which none in h is strong keep its version.
-enterAll-weak : (h : ℕ) (log : List Did) (us : List Update) (c : Cell) → ((u : Update) → Mem u us → u .history ≡ h → T (strong (u .rule)) → ⊥) →
-    enterAll h (map (changeOf log) us) c .version ≡ c .version
+enterAll-weak : (σ : Base) → (h : ℕ) (log : List Did) (us : List Update) (c : Cell) →
+    ((u : Update) → Mem u us → u .history ≡ h → T (strong (u .rule)) → ⊥) →
+    enterAll h (map (changeOf σ log) us) c .version ≡ c .version
 unfolding enterAllWith enterWith changeOf
-enterAll-weak h log [] c out = refl
-enterAll-weak h log (u ∷ us) c out = enterAll-weak h log us _ (λ w m. out w (there m)) ∙ go (eqb (u .history) h) refl
+enterAll-weak σ h log [] c out = refl
+enterAll-weak σ h log (u ∷ us) c out = enterAll-weak σ h log us _ (λ w m. out w (there m)) ∙ go (eqb (u .history) h) refl
   where
     x : Change
-    x = changeOf log u
+    x = changeOf σ log u
 
     go : (b : Bool) → eqb (u .history) h ≡ b → cond b (entered (loggedAs (u .rule)) (x .version) (u .operand) c) c .version ≡ c .version
     go true e = weak-keeps (u .rule) (out u (here refl) (eqb→eq (u .history) h (true-T (eqb (u .history) h) e))) (x .version) (u .operand) c
     go false e = refl
 
 -- An operation that x is not in the way of still may run when x is done.
-pub still-may : (log : List Did) (x y : Operation) → Apart x y → MayRun log y → MayRun (log ++ lineOf log x ∷ []) y
+pub still-may : (σ : Base) → (log : List Did) (x y : Operation) → Apart x y → MayRun σ log y → MayRun σ (log ++ (lineOf σ) log x ∷ []) y
 unfolding lineOf mayRunNow
-still-may log x y apart may = all-of (mayRunNow (log ++ lineOf log x ∷ [])) (y .updates) (λ u m. rw (same u m) (all-at (mayRunNow log) (y .updates) may u m))
+still-may σ log x y apart may =
+    all-of (mayRunNow σ (log ++ (lineOf σ) log x ∷ [])) (y .updates) (λ u m. rw (same u m) (all-at (mayRunNow σ log) (y .updates) may u m))
   where
-    same : (u : Update) → Mem u (y .updates) → cell (u .history) (log ++ lineOf log x ∷ []) .version ≡ cell (u .history) log .version
+    same : (u : Update) → Mem u (y .updates) →
+        cell σ (u .history) (log ++ (lineOf σ) log x ∷ []) .version ≡ cell σ (u .history) log .version
     same u m =
-        ap (λ (c : Cell). c .version) (cell-snoc (u .history) log (lineOf log x))
-        ∙ enterAll-weak (u .history) log (x .updates) (cell (u .history) log) (λ w k e t. apart w u k m e (or-left (strong (w .rule)) (strong (u .rule)) t))
+        ap (λ (c : Cell). c .version) (cell-snoc σ (u .history) log (lineOf σ log x))
+        ∙ enterAll-weak σ (u .history) log (x .updates) (cell σ (u .history) log)
+        (λ w k e t. apart w u k m e (or-left (strong (w .rule)) (strong (u .rule)) t))

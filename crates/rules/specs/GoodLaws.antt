@@ -4,7 +4,7 @@ use mathlib.Core.Bool.{Bool, true, false, not, _&&_}
 use mathlib.Core.Logic.{_⊎_, inl, inr}
 use mathlib.Core.List.{List, [], _∷_, _++_}
 use mathlib.Core.List.{List·Memᴰ as Mem}
-use Prim.Native.Nat.{ℕ, _+_, _≤_, _<_, max}
+use Prim.Native.Nat.{ℕ, _+_, _-_, _≤_, _<_, max}
 use native.Mathlib.Omega.{arith}
 use lib.Dec.{T, leb, leb→le, ltb→lt}
 use lib.ListN.{length, length-drop}
@@ -13,9 +13,12 @@ use Rattle.forms.specs.Lists.{all, sum}
 use Rattle.forms.specs.ListLaws.{true-T, and-left, and-right, mem-snoc}
 use Rattle.forms.specs.Forms.{Did, Answer, Line, stableLine}
 use Rattle.forms.specs.declared.Refusal.the-variants.{Unreadable, NoSuchHistory, AboveLimit, OutOfTurn, NoRoom}
-use Rattle.rules.specs.State.{State, Reply, refused, ok, logBytes, liveDone, live, withMarks, settle, linesIn, stableTo, lineBytes}
+use Rattle.rules.specs.State.{State, Reply, refused, ok, logBytes, startOf, doneIn, liveDone, live, withMarks, settle, linesIn}
+use Rattle.rules.specs.State.{stableTo, lineBytes}
+use Rattle.rules.specs.HeadLaws.{head-low}
 use Rattle.rules.specs.State.{bytesOf, withStables}
 use Rattle.rules.specs.Calls.{openSite, restart, persistent, stable, show, Call, Add, Finish, Withdraw, Persistent, Stable, Show, Cut}
+use Rattle.rules.specs.Calls.{Changeover}
 use Rattle.rules.specs.Calls.{Redo, End, writableUpdate, aboveMark, stableFull, stableRefusal, stabled}
 use Rattle.rules.specs.Log.{StableAt, weave, mark, reported, logText}
 use Rattle.rules.specs.WeaveLaws.{dids-weave, weave-stable, mark-stable, mark-front, rises-stable, reported-front}
@@ -26,7 +29,7 @@ use Rattle.rules.specs.CheckLaws.{unless-check, not-lt, not-false, check
 use Rattle.rules.specs.IdLaws.{ids-later}
 use Rattle.rules.specs.WorkLaws.{good-ok, true-not-false, good-add, good-finish, good-withdraw}
 use Rattle.rules.specs.RedoLaws.{good-redo, good-end}
-use Rattle.rules.specs.StartLaws.{good-cut}
+use Rattle.rules.specs.StartLaws.{good-cut, good-changeover}
 -- a site just opened, or restarted from any bytes that are accepted, has the invariant
 pub use Rattle.rules.specs.StartLaws.{good-open, good-restart}
 use Rattle.rules.specs.Run.{run}
@@ -34,12 +37,13 @@ use Rattle.rules.specs.Run.{run}
 -- ### Marks and show
 
 -- Marks that rise, and stay in order and within the log.
-good-marks : (p t : ℕ) (st : State) → Good st → st .leftTo ≤ t → t ≤ stableTo st → stableTo st ≤ p → p ≤ length (st .log) →
+good-marks : (p t : ℕ) (st : State) → Good st → st .leftTo ≤ t → t ≤ stableTo st → stableTo st ≤ p → p ≤ doneIn st →
     Good (withMarks p t st)
 unfolding live liveDone logBytes
 good-marks p t st G up low mid high =
     record {
       histories = G .histories;
+      head = G .head;
       formed = G .formed;
       ran = G .ran;
       waitingFormed = G .waitingFormed;
@@ -48,11 +52,14 @@ good-marks p t st G up low mid high =
       roomLimit = G .roomLimit;
       rises = G .rises;
       below = G .below;
+      baseBelow = omega (arith, G .baseBelow);
       leftBelow = low;
       stableBelow = mid;
       persistentBelow = high;
-      few = omega (arith, G .few, length-drop (st .leftTo) (st .log), length-drop t (st .log));
-      ids = ids-later (λ (d : Did). d .id) (st .leftTo) t up (st .log) (didIds (st .waiting) ++ operationIds (st .pending)) (G .ids);
+      few = omega (arith, G .few, length-drop (st .leftTo - startOf st .upTo) (st .log), length-drop (t - startOf st .upTo) (st .log));
+      ids =
+          ids-later (λ (d : Did). d .id) (st .leftTo - startOf st .upTo) (t - startOf st .upTo) (omega arith) (st .log)
+          (didIds (st .waiting) ++ operationIds (st .pending)) (G .ids);
       idle = G .idle;
       nobodyWaits = G .nobodyWaits;
       pendingFormed = G .pendingFormed;
@@ -65,10 +72,14 @@ good-persistent : (n : ℕ) (st st′ : State) (a : Answer) → Good st → pers
 unfolding persistent
 good-persistent n st st′ a G e =
     let q = unless-check _ AboveLimit _ st′ a e in
-    let le = not-lt (length (st .log)) n (q .0) in
+    let le = not-lt (doneIn st) n (q .0) in
     good-ok _ st′ _ a (q .1)
-    (good-marks (max (st .persistentTo) n) (max (st .leftTo) (mark (reported n (linesIn st)))) st G (omega arith)
-    (omega (arith, G .leftBelow, mark-front (reported n (linesIn st)) (linesIn st) (reported-front n (linesIn st)) (G .rises)))
+    (good-marks (max (st .persistentTo) n) (max (st .leftTo) (mark (startOf st) (reported (startOf st) n (linesIn st)))) st G (omega arith)
+    (omega (
+      arith,
+      G .leftBelow,
+      mark-front (startOf st) (reported (startOf st) n (linesIn st)) (linesIn st) (reported-front (startOf st) n (linesIn st)) (G .rises),
+    ))
     (omega (arith, G .stableBelow)) (omega (arith, G .persistentBelow)))
 
 -- A stable line more: its operations stay in the table.
@@ -79,6 +90,7 @@ unfolding live liveDone logBytes
 stable-good n st G off up le fits =
     record {
       histories = G .histories;
+      head = G .head;
       formed = G .formed;
       ran = G .ran;
       waitingFormed = G .waitingFormed;
@@ -86,13 +98,14 @@ stable-good n st G off up le fits =
       fits =
           omega (
             arith,
-            ap (λ (x : List Line). length (logText (st .histories) x)) lines′,
-            length-log-snoc (st .histories) (linesIn st) (stableLine n),
+            ap (λ (x : List Line). length (logText (st .histories) (st .base) x)) lines′,
+            length-log-snoc (st .histories) (st .base) (linesIn st) (stableLine n),
             ap (sum lineBytes) (G .nobodyWaits off),
           );
       roomLimit = G .roomLimit;
-      rises = subst Rises (sym lines′) (rises-stable (linesIn st) n (G .rises) risen);
+      rises = subst (Rises (startOf st)) (sym lines′) (rises-stable (startOf st) (linesIn st) n (G .rises) risen);
       below = λ s m. one s (mem-snoc (st .stables) m);
+      baseBelow = G .baseBelow;
       leftBelow = omega (arith, G .leftBelow, mark′);
       stableBelow = omega (arith, mark′);
       persistentBelow = G .persistentBelow;
@@ -112,15 +125,23 @@ stable-good n st G off up le fits =
     lines′ : weave (st .log) ss ≡ linesIn st ++ stableLine n ∷ []
     lines′ = weave-stable (st .log) (st .stables) n
 
-    mark′ : mark (weave (st .log) ss) ≡ n
-    mark′ = ap mark lines′ ∙ mark-stable (linesIn st) n
+    mark′ : mark (startOf st) (weave (st .log) ss) ≡ n
+    mark′ = ap (mark (startOf st)) lines′ ∙ mark-stable (startOf st) (linesIn st) n
 
-    risen : Risen (linesIn st) n
+    risen : Risen (startOf st) (linesIn st) n
     risen =
         record {
           above = up;
           within = omega (arith, G .persistentBelow, ap length (dids-weave (st .log) (st .stables)));
-          writable = omega (arith, G .persistentBelow, G .fits, G .roomLimit, few-did-lines (st .histories) (st .log) (st .stables));
+          writable =
+              omega (
+                arith,
+                head-low (st .histories) (st .base) (G .head),
+                G .persistentBelow,
+                G .fits,
+                G .roomLimit,
+                few-did-lines (st .histories) (st .base) (st .log) (st .stables),
+              );
         }
 
     one : (s : StableAt) → (s ≡ record { behind = length (st .log); upTo = n }) ⊎ Mem s (st .stables) → s .behind ≤ length (st .log)
@@ -173,6 +194,7 @@ good-perform (Persistent n) st st′ a G w e = good-persistent n st st′ a G e
 good-perform (Stable n) st st′ a G w e = good-stable n st st′ a G e
 good-perform (Show h) st st′ a G w e = good-show h st st′ a G e
 good-perform (Cut k room) st st′ a G w e = good-cut k room st st′ a e
+good-perform (Changeover n room) st st′ a G w e = good-changeover n room st st′ a e
 good-perform (Redo line) st st′ a G w e = good-redo line st st′ a G e
 good-perform End st st′ a G w e = good-end st st′ a G e
 

@@ -4,6 +4,8 @@ pub mod Checks
 pub mod TimingLaws
 pub mod Log
 pub mod State
+pub mod Trim
+pub mod Tries
 pub mod Calls
 pub mod Keeper
 pub mod Session
@@ -12,7 +14,9 @@ pub mod WeaveLaws
 pub mod LineSplitLaws
 pub mod FitLaws
 pub mod PartLaws
+pub mod HeadLaws
 pub mod LogLaws
+pub mod CutLaws
 pub mod AcceptedLaws
 pub mod CheckLaws
 pub mod BookLaws
@@ -24,6 +28,9 @@ pub mod IdLaws
 pub mod WorkLaws
 pub mod RedoLaws
 pub mod StartLaws
+pub mod StartCellLaws
+pub mod TrimLaws
+pub mod TrimShows
 pub mod Run
 pub mod GoodLaws
 pub mod Examples
@@ -48,3 +55,4 @@ pub mod OldLog
 pub mod OldLogLaws
 pub mod StableExamples
 pub mod OlderLogs
+pub mod TrimExamples

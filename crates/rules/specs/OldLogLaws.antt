@@ -4,7 +4,8 @@ use mathlib.Core.Path.{_≡_, refl, sym, ap, ap₂, _∙_, subst}
 use mathlib.Core.Bool.{Bool, true, false, not, _&&_, _||_}
 use mathlib.Core.List.{List, [], _∷_, _++_, map, append-nil, append-assoc}
 use mathlib.Core.List.{List·Memᴰ as Mem, List·Memᴰ·not-nil}
-use Prim.Native.Nat.{ℕ, _≤_}
+use mathlib.Core.Option.{Option, none}
+use Prim.Native.Nat.{ℕ, _+_, _-_, _≤_}
 use native.Mathlib.Omega.{arith}
 use lib.Dec.{T, leb, ltb, ltb→lt}
 use borrow.Author.Tests.{le-ltb}
@@ -13,15 +14,16 @@ use lib.Seq.{take-append-seam, drop-append-seam, drop-length}
 use Rattle.forms.specs.Decimal.{top}
 use Rattle.forms.specs.Limits.{partLimit, liveLimit, logLimit}
 use Rattle.forms.specs.ListLaws.{mem-along, true-T}
-use Rattle.forms.specs.Forms.{Did, Line, didLine, stableLine, siteText, didText, lineText, Restarted}
+use Rattle.forms.specs.Forms.{Base, Did, Line, didLine, stableLine, siteText, didText, lineText, Restarted}
 use Rattle.forms.specs.Reading.{readDid, readSite}
 use Rattle.forms.specs.DidLaws.{readDid-read, readSite-read}
 use Rattle.forms.specs.declared.Refusal.{Refusal}
 use Rattle.forms.specs.declared.Refusal.the-variants.{AboveLimit, NoRoom, BadLog}
 use Rattle.rules.specs.Checks.{check, historyTwice}
 use Rattle.rules.specs.Log.{dids, mark, accepts, historiesFit, liveIn, tableHolds, Journal, journal, noJournal, ended, linesText}
-use Rattle.rules.specs.Log.{linesOf, restOf, logText, readLog}
-use Rattle.rules.specs.OldLog.{readOldLinesWith, readOldFirstWith, readOldWith, readOld, notUpgraded, upgraded, closing}
+use Rattle.rules.specs.Log.{linesOf, restOf, closing, headText, logText, readLog}
+use Rattle.rules.specs.Book.{blankBase}
+use Rattle.rules.specs.OldLog.{readOldLinesWith, readOldFirstWith, readOldWith, readOld, notUpgraded, upgraded}
 use Rattle.rules.specs.OldLog.{placed}
 use Rattle.rules.specs.OldLog.{upgradedLines, upgradedText, upgradeAs, upgrade}
 use Rattle.rules.specs.State.{State, ok, logBytes, stableTo, liveDone, live}
@@ -29,7 +31,8 @@ use Rattle.rules.specs.Calls.{unless, restart, restartAs, restarted}
 use Rattle.rules.specs.Good.{FormedDid, Ran, Rises}
 use Rattle.rules.specs.CheckLaws.{not-lt, or-false-right}
 use Rattle.rules.specs.BookLaws.{ran-nil, ran-snoc}
-use Rattle.rules.specs.WeaveLaws.{dids-append, dids-map, unweave, mark-nil, mark-dids, mark-stable, rises-nil, rises-dids}
+use Rattle.rules.specs.WeaveLaws.{dids-append, dids-closing, dids-map, unweave, mark-nil, mark-dids, mark-stable, rises-nil}
+use Rattle.rules.specs.WeaveLaws.{rises-dids}
 use Rattle.rules.specs.WeaveLaws.{rises-stable}
 use Rattle.rules.specs.FitLaws.{few-log-lines, dids-few}
 use Rattle.rules.specs.LineSplitLaws.{endedAll, split-same}
@@ -44,11 +47,11 @@ record OldLines (n : ℕ) (seen : List Did) (ls : List (List ℕ)) (m : ℕ) (li
   whole : lines ≡ map didLine (seen ++ more)
   text : endedAll ls ≡ linesText (map didLine more)
   formed : (d : Did) → Mem d (seen ++ more) → FormedDid n d
-  ran : Ran (seen ++ more)
+  ran : (Ran blankBase) (seen ++ more)
   same : m ≡ n
 
-old-none : (n : ℕ) (seen : List Did) (m : ℕ) (lines : List Line) → ((d : Did) → Mem d seen → FormedDid n d) → Ran seen →
-    journal n (map didLine seen) ≡ journal m lines → OldLines n seen [] m lines
+old-none : (n : ℕ) (seen : List Did) (m : ℕ) (lines : List Line) → ((d : Did) → Mem d seen → FormedDid n d) → Ran blankBase seen →
+    journal n none (map didLine seen) ≡ journal m none lines → OldLines n seen [] m lines
 unfolding endedAll linesText
 old-none n seen m lines f r e =
     let q : map didLine seen ≡ lines = cc in
@@ -57,7 +60,7 @@ old-none n seen m lines f r e =
       whole = sym q ∙ ap (map didLine) (sym (append-nil seen));
       text = refl;
       formed = λ d k. f d (mem-along (append-nil seen) k);
-      ran = subst Ran (sym (append-nil seen)) r;
+      ran = subst (Ran blankBase) (sym (append-nil seen)) r;
       same = cc;
     }
 
@@ -71,21 +74,22 @@ old-one n seen l ls m lines d e s =
       whole = s .whole ∙ ap (map didLine) q;
       text = ap₂ (λ (y z : List ℕ). ended y ++ z) e (s .text);
       formed = λ x k. s .formed x (mem-along (sym q) k);
-      ran = subst Ran q (s .ran);
+      ran = subst (Ran blankBase) q (s .ran);
       same = s .same;
     }
 
 old-lines : (n : ℕ) (seen : List Did) (ls : List (List ℕ)) (m : ℕ) (lines : List Line) → ((d : Did) → Mem d seen → FormedDid n d) →
-    Ran seen → readOldLinesWith partLimit n seen ls ≡ journal m lines → OldLines n seen ls m lines
+    Ran blankBase seen → readOldLinesWith partLimit n seen ls ≡ journal m none lines → OldLines n seen ls m lines
 unfolding readOldLinesWith
 old-lines n seen [] m lines f r e = old-none n seen m lines f r e
 old-lines n seen (l ∷ ls) m lines f r e =
-    by-read (readDid l) _ m lines e λ d rest q h.
-    by-test (accepts n seen d) _ m lines h λ w k.
+    by-read (readDid l) _ m none lines e λ d rest q h.
+    by-test (accepts blankBase n seen d) _ m none lines h λ w k.
     let read = readDid-read l d rest q in
-    let one : FormedDid n d = record { passes = accepts-passes n seen d w; writable = read .2 } in
+    let one : FormedDid n d = record { passes = accepts-passes blankBase n seen d w; writable = read .2 } in
     old-one n seen l ls m lines d (read .0)
-    (old-lines n (seen ++ (d ∷ [])) ls m lines (formed-snoc n seen d f one) (ran-snoc seen d r (accepts-runs n seen d w)) k)
+    (old-lines n (seen ++ (d ∷ [])) ls m lines (formed-snoc n seen d f one)
+    (ran-snoc blankBase seen d r (accepts-runs blankBase n seen d w)) k)
 
 -- What bytes that are an older log are: a printed log of did lines, and an unended last line.
 pub record OldAs (bs : List ℕ) (n : ℕ) (lines : List Line) : Type 0 where
@@ -93,8 +97,8 @@ pub record OldAs (bs : List ℕ) (n : ℕ) (lines : List Line) : Type 0 where
   pub log : List Did
   pub whole : lines ≡ map didLine log
   pub formed : (d : Did) → Mem d log → FormedDid n d
-  pub ran : Ran log
-  pub same : bs ≡ logText n lines ++ restOf bs
+  pub ran : (Ran blankBase) log
+  pub same : bs ≡ logText n none lines ++ restOf bs
 
 -- the same of its whole lines
 record OldFirst (ls : List (List ℕ)) (n : ℕ) (lines : List Line) : Type 0 where
@@ -102,12 +106,12 @@ record OldFirst (ls : List (List ℕ)) (n : ℕ) (lines : List Line) : Type 0 wh
   log : List Did
   whole : lines ≡ map didLine log
   formed : (d : Did) → Mem d log → FormedDid n d
-  ran : Ran log
-  text : endedAll ls ≡ logText n lines
+  ran : (Ran blankBase) log
+  text : endedAll ls ≡ logText n none lines
 
 old-first-is : (m : ℕ) (ls : List (List ℕ)) (n : ℕ) (lines : List Line) → T (historiesFit m) → OldLines m [] ls n lines →
     OldFirst (siteText m ∷ ls) n lines
-unfolding endedAll logText
+unfolding endedAll logText headText
 old-first-is m ls n lines h s =
     record {
       histories = subst (λ (x : ℕ). T (historiesFit x)) (sym (s .same)) h;
@@ -115,19 +119,45 @@ old-first-is m ls n lines h s =
       whole = s .whole;
       formed = λ d k. subst (λ (x : ℕ). FormedDid x d) (sym (s .same)) (s .formed d k);
       ran = s .ran;
-      text = ap₂ (λ (x : ℕ) (y : List ℕ). ended (siteText x) ++ y) (sym (s .same)) (s .text ∙ ap linesText (sym (s .whole)));
+      text =
+          ap₂ (λ (x : ℕ) (y : List ℕ). ended (siteText x) ++ y) (sym (s .same)) (s .text ∙ ap linesText (sym (s .whole)))
+          ∙ sym (append-assoc (ended (siteText n)) [] (linesText lines));
     }
 
-old-first : (ls : List (List ℕ)) (n : ℕ) (lines : List Line) → readOldFirstWith partLimit ls ≡ journal n lines → OldFirst ls n lines
+old-first : (ls : List (List ℕ)) (n : ℕ) (lines : List Line) → readOldFirstWith partLimit ls ≡ journal n none lines → OldFirst ls n lines
 unfolding readOldFirstWith
 old-first [] n lines e = let z : _≡_ {A = ℕ} 0 1 = cc in absurd (omega arith)
 old-first (l ∷ ls) n lines e =
-    by-read (readSite l) _ n lines e λ m rest q h.
-    by-test (historiesFit m) _ n lines h λ w k.
+    by-read (readSite l) _ n none lines e λ m rest q h.
+    by-test (historiesFit m) _ n none lines h λ w k.
     subst (λ (x : List ℕ). OldFirst (x ∷ ls) n lines) (sym (readSite-read l m rest q .0))
-    (old-first-is m ls n lines (true-T (historiesFit m) w) (old-lines m [] ls n lines (λ d j. absurd (List·Memᴰ·not-nil j)) ran-nil k))
+    (old-first-is m ls n lines (true-T (historiesFit m) w)
+    (old-lines m [] ls n lines (λ d j. absurd (List·Memᴰ·not-nil j)) (ran-nil blankBase) k))
 
-pub old-accepted : (bs : List ℕ) (n : ℕ) (lines : List Line) → readOld bs ≡ journal n lines → OldAs bs n lines
+-- An older log has no base line.
+no-base-in : (n : ℕ) (seen : List Did) (ls : List (List ℕ)) (m : ℕ) (β : Option Base) (lines : List Line) →
+    readOldLinesWith partLimit n seen ls ≡ journal m β lines → β ≡ none
+unfolding readOldLinesWith
+no-base-in n seen [] m β lines e = cc
+no-base-in n seen (l ∷ ls) m β lines e =
+    by-read (readDid l) _ m β lines e λ d rest q h.
+    by-test (accepts blankBase n seen d) _ m β lines h λ w k.
+    no-base-in n (seen ++ (d ∷ [])) ls m β lines k
+
+no-base-first : (ls : List (List ℕ)) (n : ℕ) (β : Option Base) (lines : List Line) → readOldFirstWith partLimit ls ≡ journal n β lines →
+    β ≡ none
+unfolding readOldFirstWith
+no-base-first [] n β lines e = let z : _≡_ {A = ℕ} 0 1 = cc in absurd (omega arith)
+no-base-first (l ∷ ls) n β lines e =
+    by-read (readSite l) _ n β lines e λ m rest q h.
+    by-test (historiesFit m) _ n β lines h λ w k.
+    no-base-in m [] ls n β lines k
+
+pub old-no-base : (bs : List ℕ) (n : ℕ) (β : Option Base) (lines : List Line) → readOld bs ≡ journal n β lines → β ≡ none
+unfolding readOldWith
+old-no-base bs n β lines e = no-base-first (linesOf bs) n β lines e
+
+pub old-accepted : (bs : List ℕ) (n : ℕ) (lines : List Line) → readOld bs ≡ journal n none lines → OldAs bs n lines
 unfolding readOldWith
 old-accepted bs n lines e =
     let r = old-first (linesOf bs) n lines e in
@@ -142,66 +172,61 @@ old-accepted bs n lines e =
 
 -- ### What is written is a log with nothing live
 
--- the stable line of the changeover is no did line
-dids-closing : (n : ℕ) → dids (closing n) ≡ []
-unfolding closing
-dids-closing n = go (ltb 0 n)
-  where
-    go : (b : Bool) → dids (elim b [ true ↦ stableLine n ∷ [] | false ↦ [] ]) ≡ []
-    go true = refl
-    go false = refl
-
-module _ (n : ℕ) (log : List Did) (h : T (historiesFit n)) (formed : (d : Did) → Mem d log → FormedDid n d) (ran : Ran log)
+module _ (n : ℕ) (log : List Did) (h : T (historiesFit n)) (formed : (d : Did) → Mem d log → FormedDid n d) (ran : (Ran blankBase) log)
     (small : length log ≤ top) where
-  dids-after : dids (map didLine log ++ closing (length log)) ≡ log
+  dids-after : dids (map didLine log ++ closing 0 (length log)) ≡ log
   dids-after =
-      dids-append (map didLine log) (closing (length log)) ∙ ap₂ (λ (x y : List Did). x ++ y) (dids-map log) (dids-closing (length log))
+      dids-append (map didLine log) (closing 0 (length log)) ∙ ap₂ (λ (x y : List Did). x ++ y) (dids-map log) (dids-closing 0 (length log))
       ∙ append-nil log
 
-  mark-log : mark (map didLine log) ≡ 0
-  mark-log = mark-dids [] log ∙ mark-nil
+  mark-log : (mark blankBase) (map didLine log) ≡ 0
+  mark-log = mark-dids blankBase [] log ∙ mark-nil blankBase
 
-  mark-after : mark (map didLine log ++ closing (length log)) ≡ length log
+  mark-after : (mark blankBase) (map didLine log ++ closing 0 (length log)) ≡ length log
   unfolding closing
   mark-after = go (ltb 0 (length log)) refl
     where
       go : (b : Bool) → ltb 0 (length log) ≡ b →
-          mark (map didLine log ++ (elim b [ true ↦ stableLine (length log) ∷ [] | false ↦ [] ])) ≡ length log
-      go true e = mark-stable (map didLine log) (length log)
-      go false e = ap (mark) (append-nil (map didLine log)) ∙ mark-log ∙ (let z = not-lt 0 (length log) e in omega arith)
+          mark blankBase (map didLine log ++ (elim b [ true ↦ stableLine (length log) ∷ [] | false ↦ [] ])) ≡ length log
+      go true e = mark-stable blankBase (map didLine log) (length log)
+      go false e = ap (mark blankBase) (append-nil (map didLine log)) ∙ mark-log ∙ (let z = not-lt 0 (length log) e in omega arith)
 
-  rises-after : Rises (map didLine log ++ closing (length log))
+  rises-after : (Rises blankBase) (map didLine log ++ closing 0 (length log))
   unfolding closing
   rises-after = go (ltb 0 (length log)) refl
     where
-      plain : Rises (map didLine log)
-      plain = rises-dids [] log (rises-nil)
+      plain : (Rises blankBase) (map didLine log)
+      plain = rises-dids blankBase [] log (rises-nil blankBase)
 
-      go : (b : Bool) → ltb 0 (length log) ≡ b → Rises (map didLine log ++ (elim b [ true ↦ stableLine (length log) ∷ [] | false ↦ [] ]))
+      go : (b : Bool) → ltb 0 (length log) ≡ b →
+          Rises blankBase (map didLine log ++ (elim b [ true ↦ stableLine (length log) ∷ [] | false ↦ [] ]))
       go true e =
-          rises-stable (map didLine log) (length log) plain
+          rises-stable blankBase (map didLine log) (length log) plain
           (record {
             above = let lt = ltb→lt 0 (length log) (true-T (ltb 0 (length log)) e) in omega (arith, mark-log);
             within = omega (arith, ap length (dids-map log));
             writable = small;
           })
-      go false e = subst (Rises) (sym (append-nil (map didLine log))) plain
+      go false e = subst (Rises blankBase) (sym (append-nil (map didLine log))) plain
 
-  none-live : liveIn (map didLine log ++ closing (length log)) ≡ []
+  none-live : (liveIn blankBase) (map didLine log ++ closing 0 (length log)) ≡ []
   unfolding liveIn
   none-live =
-      ap₂ (λ (i : ℕ) (l : List Did). drop i l) mark-after dids-after ∙ drop-length log
+      ap₂ (λ (i : ℕ) (l : List Did). drop (i - 0) l) mark-after dids-after
+      ∙ ap (λ (i : ℕ). drop i log) (let z : length log - 0 ≡ length log = omega arith in z)
+      ∙ drop-length log
 
-  table-after : tableHolds (map didLine log ++ closing (length log)) ≡ true
+  table-after : (tableHolds blankBase) (map didLine log ++ closing 0 (length log)) ≡ true
   unfolding tableHolds historyTwice
   table-after = ap (λ (l : List Did). leb (length l) liveLimit && not (historyTwice (map (λ (d : Did). d .id) l))) none-live
 
-  pub after-reads : readLog (logText n (map didLine log ++ closing (length log))) ≡ journal n (map didLine log ++ closing (length log))
+  pub after-reads : readLog (logText n none (map didLine log ++ closing 0 (length log)))
+      ≡ journal n none (map didLine log ++ closing 0 (length log))
   after-reads =
-      read-printed n (map didLine log ++ closing (length log)) h
+      read-printed n none (map didLine log ++ closing 0 (length log)) h tt
       (record {
         formed = λ d m. formed d (mem-along dids-after m);
-        ran = subst (Ran) (sym dids-after) ran;
+        ran = subst (Ran blankBase) (sym dids-after) ran;
         rises = rises-after;
       })
       table-after
@@ -212,23 +237,23 @@ module _ (n : ℕ) (log : List Did) (h : T (historiesFit n)) (formed : (d : Did)
 pub record Upgraded (old buffer : List ℕ) (k used : ℕ) : Type 0 where
   pub n : ℕ
   pub log : List Did
-  pub read : readOld (take k old) ≡ journal n (map didLine log)
+  pub read : readOld (take k old) ≡ journal n none (map didLine log)
   -- "behind its whole lines"
-  pub whole : take k old ≡ logText n (map didLine log) ++ restOf (take k old)
-  pub text : take used buffer ≡ logText n (map didLine log ++ closing (length log))
-  pub used-is : used ≡ length (logText n (map didLine log ++ closing (length log)))
+  pub whole : take k old ≡ logText n none (map didLine log) ++ restOf (take k old)
+  pub text : take used buffer ≡ logText n none (map didLine log ++ closing 0 (length log))
+  pub used-is : used ≡ length (logText n none (map didLine log ++ closing 0 (length log)))
   pub within : used ≤ length buffer
   pub limit : length buffer ≤ logLimit
-  pub again : readLog (take used buffer) ≡ journal n (map didLine log ++ closing (length log))
-  pub same : dids (map didLine log ++ closing (length log)) ≡ log
-  pub mark : mark (map didLine log ++ closing (length log)) ≡ length log
+  pub again : readLog (take used buffer) ≡ journal n none (map didLine log ++ closing 0 (length log))
+  pub same : dids (map didLine log ++ closing 0 (length log)) ≡ log
+  pub mark : (mark blankBase) (map didLine log ++ closing 0 (length log)) ≡ length log
   pub length : length buffer ≡ length old
   -- "An accepted call alters no byte of a lent buffer past those in use"
   pub past : drop used buffer ≡ drop used old
 
-text-is : (n : ℕ) (log : List Did) → upgradedText n (map didLine log) ≡ logText n (map didLine log ++ closing (length log))
+text-is : (n : ℕ) (log : List Did) → upgradedText n (map didLine log) ≡ logText n none (map didLine log ++ closing 0 (length log))
 unfolding upgradedText upgradedLines
-text-is n log = ap (λ (l : List Did). logText n (map didLine log ++ closing (length l))) (dids-map log)
+text-is n log = ap (λ (l : List Did). logText n none (map didLine log ++ closing 0 (length l))) (dids-map log)
 
 upgraded-is : (a b : List ℕ) (i j : ℕ) → upgraded a i ≡ upgraded b j → (a ≡ b) × (i ≡ j)
 upgraded-is a b i j e = (cc, cc)
@@ -236,21 +261,22 @@ upgraded-is a b i j e = (cc, cc)
 not-upgraded : (r : Refusal) (b : List ℕ) (j : ℕ) → notUpgraded r ≡ upgraded b j → ⊥
 not-upgraded r b j e = let z : _≡_ {A = ℕ} 0 1 = cc in omega arith
 
-lines-low : (n : ℕ) (log : List Did) → length log ≤ length (logText n (map didLine log ++ closing (length log)))
+lines-low : (n : ℕ) (log : List Did) → length log ≤ length (logText n none (map didLine log ++ closing 0 (length log)))
 lines-low n log =
     omega (
       arith,
-      few-log-lines n (map didLine log ++ closing (length log)),
-      length-append (map didLine log) (closing (length log)),
+      few-log-lines n none (map didLine log ++ closing 0 (length log)),
+      length-append (map didLine log) (closing 0 (length log)),
       dids-few (map didLine log),
       ap length (dids-map log),
     )
 
 -- the buffer with the text at its front
-upgraded-holds : (old : List ℕ) (k n : ℕ) (log : List Did) → T (historiesFit n) → ((d : Did) → Mem d log → FormedDid n d) → Ran log →
-    readOld (take k old) ≡ journal n (map didLine log) → take k old ≡ logText n (map didLine log) ++ restOf
+upgraded-holds : (old : List ℕ) (k n : ℕ) (log : List Did) → T (historiesFit n) → ((d : Did) → Mem d log → FormedDid n d) →
+    Ran blankBase log →
+    readOld (take k old) ≡ journal n none (map didLine log) → take k old ≡ logText n none (map didLine log) ++ restOf
     (take k old) → length old ≤ logLimit → (text : List ℕ) →
-    text ≡ logText n (map didLine log ++ closing (length log)) → length text ≤ length old →
+    text ≡ logText n none (map didLine log ++ closing 0 (length log)) → length text ≤ length old →
     Upgraded old (text ++ drop (length text) old) k (length text)
 upgraded-holds old k n log h f r e whole limit text is fits =
     let small : length log ≤ top = omega (arith, lines-low n log, ap length is) in
@@ -273,10 +299,11 @@ upgraded-holds old k n log h f r e whole limit text is fits =
       past = drop-append-seam text (drop (length text) old);
     }
 
-upgrade-text : (old : List ℕ) (k n : ℕ) (log : List Did) → T (historiesFit n) → ((d : Did) → Mem d log → FormedDid n d) → Ran log →
-    readOld (take k old) ≡ journal n (map didLine log) → take k old ≡ logText n (map didLine log) ++ restOf
+upgrade-text : (old : List ℕ) (k n : ℕ) (log : List Did) → T (historiesFit n) → ((d : Did) → Mem d log → FormedDid n d) →
+    Ran blankBase log →
+    readOld (take k old) ≡ journal n none (map didLine log) → take k old ≡ logText n none (map didLine log) ++ restOf
     (take k old) → length old ≤ logLimit → (buffer : List ℕ) (used : ℕ) →
-    upgradeAs old (journal n (map didLine log)) ≡ upgraded buffer used → Upgraded old buffer k used
+    upgradeAs old (journal n none (map didLine log)) ≡ upgraded buffer used → Upgraded old buffer k used
 unfolding upgradeAs
 upgrade-text old k n log h f r e whole limit buffer used u = go (ltb (length old) (length text)) refl u
   where
@@ -301,17 +328,21 @@ pub upgrade-holds : (old : List ℕ) (k : ℕ) (buffer : List ℕ) (used : ℕ) 
 unfolding upgrade
 upgrade-holds old k buffer used u = go (ltb (length old) k || ltb logLimit (length old)) refl u
   where
-    as-read : (n : ℕ) (lines : List Line) → readOld (take k old) ≡ journal n lines → length old ≤ logLimit → OldAs (take k old) n lines →
-        upgradeAs old (journal n lines) ≡ upgraded buffer used → Upgraded old buffer k used
+    as-read : (n : ℕ) (lines : List Line) → readOld (take k old) ≡ journal n none lines → length old ≤ logLimit →
+        OldAs (take k old) n lines →
+        upgradeAs old (journal n none lines) ≡ upgraded buffer used → Upgraded old buffer k used
     as-read n lines e limit O q =
-        let is : journal n lines ≡ journal n (map didLine (O .log)) = ap (journal n) (O .whole) in
+        let is : journal n none lines ≡ journal n none (map didLine (O .log)) = ap (journal n none) (O .whole) in
         upgrade-text old k n (O .log) (O .histories) (O .formed) (O .ran) (e ∙ is)
-        (O .same ∙ ap (λ (l : List Line). logText n l ++ restOf (take k old)) (O .whole)) limit buffer used
+        (O .same ∙ ap (λ (l : List Line). logText n none l ++ restOf (take k old)) (O .whole)) limit buffer used
         (sym (ap (upgradeAs old) is) ∙ q)
 
     read : (j : Journal) → readOld (take k old) ≡ j → length old ≤ logLimit → upgradeAs old j ≡ upgraded buffer used →
         Upgraded old buffer k used
-    read (journal n lines) e limit q = as-read n lines e limit (old-accepted (take k old) n lines e) q
+    read (journal n β lines) e limit q =
+        let is : journal n β lines ≡ journal n none lines =
+        ap (λ (b : Option Base). journal n b lines) (old-no-base (take k old) n β lines e) in
+        as-read n lines (e ∙ is) limit (old-accepted (take k old) n lines (e ∙ is)) (sym (ap (upgradeAs old) is) ∙ q)
     read noJournal e limit q = absurd (not-upgraded BadLog buffer used (no-log old buffer used q))
 
     go : (b : Bool) → (ltb (length old) k || ltb logLimit (length old)) ≡ b →
@@ -335,20 +366,23 @@ pub record RestartsAs (buffer : List ℕ) (used n : ℕ) (log : List Did) (st : 
   pub nothing : live st ≡ 0
 
 pub upgraded-restarts : (old buffer : List ℕ) (k used : ℕ) (U : Upgraded old buffer k used) →
-    RestartsAs buffer used (U .n) (U .log) (restarted (length buffer) (U .n) (map didLine (U .log) ++ closing (length (U .log))))
+    RestartsAs buffer used (U .n) (U .log) (restarted (length buffer) (U .n) none (map didLine (U .log) ++ closing 0 (length (U .log))))
 unfolding restart restartAs restarted unless check logBytes live liveDone
 upgraded-restarts old buffer k used U =
     record {
       accepted =
           rw (le-ltb (length buffer) used (U .within), le-ltb logLimit (length buffer) (U .limit), U .again)
-          (ap₂ (λ (i j : ℕ). ok (restarted (length buffer) (U .n) lines) (Restarted i j)) (ap length (U .same))
-          (ap (λ (l : List Line). length (logText (U .n) l)) (unweave lines) ∙ sym (U .used-is)));
+          (ap₂ (λ (i j : ℕ). ok (restarted (length buffer) (U .n) none lines) (Restarted i j)) done
+          (ap (λ (l : List Line). length (logText (U .n) none l)) (unweave lines) ∙ sym (U .used-is)));
       histories = refl;
       same = U .same;
-      persistent = ap length (U .same);
-      stable = ap mark (unweave lines) ∙ U .mark;
-      nothing = omega (arith, length-drop (mark lines) (dids lines), U .mark, ap length (U .same));
+      persistent = done;
+      stable = ap (mark blankBase) (unweave lines) ∙ U .mark;
+      nothing = omega (arith, length-drop (mark blankBase lines - 0) (dids lines), U .mark, ap length (U .same));
     }
   where
     lines : List Line
-    lines = map didLine (U .log) ++ closing (length (U .log))
+    lines = map didLine (U .log) ++ closing 0 (length (U .log))
+
+    done : 0 + length (dids lines) ≡ length (U .log)
+    done = omega (arith, ap length (U .same))

@@ -20,7 +20,8 @@ use Rattle.forms.specs.Reading.{readDid, readSite}
 use Rattle.forms.specs.declared.DoneRule.{DoneRule}
 use Rattle.forms.specs.declared.DoneRule.the-variants.{DidInc, DidSet, DidNot}
 use Rattle.rules.specs.Rules.{ruleOf, operandFitsWith}
-use Rattle.rules.specs.Book.{Cell, blankCell, runsAt, cell, enteredWith, enterWith, enterAllWith, cellFromWith, cellWith, canRunWith}
+use Rattle.rules.specs.Book.{Cell, blankBase, startCell, runsAt, cell, enteredWith, enterWith, enterAllWith, cellFromWith, cellWith}
+use Rattle.rules.specs.Book.{canRunWith}
 use Rattle.rules.specs.Checks.{changeMisfitsWith, changesRefusalWith, passes}
 use Rattle.rules.specs.Log.{dids, journal, linesOf, historiesFit, acceptsWith}
 use Rattle.rules.specs.OldLog.{readOldLinesWith, readOldFirstWith, readOldWith, readOld}
@@ -37,11 +38,11 @@ olderParts = 4
 -- "Old logs read with the same meaning"
 pub record ReadAlike (bs : List ℕ) (n : ℕ) (lines : List Line) : Type 0 where
   -- it is accepted, and has the same lines
-  pub accepted : readOld bs ≡ journal n lines
+  pub accepted : readOld bs ≡ journal n none lines
   -- each history's profile, version and place are the same
-  pub book : (h : ℕ) → cell h (dids lines) ≡ cellWith olderParts h (dids lines)
+  pub book : (h : ℕ) → cell blankBase h (dids lines) ≡ cellWith olderParts blankBase h (dids lines)
   -- .. and the profile has 32 bits
-  pub low : (h : ℕ) → cell h (dids lines) .profile < 2 ^ 32
+  pub low : (h : ℕ) → cell blankBase h (dids lines) .profile < 2 ^ 32
 
 -- From p parts to m more.
 module _ (p m : ℕ) where
@@ -104,9 +105,9 @@ module _ (p m : ℕ) where
       let b = from-alike h (enterAllWith p h (d .changes) c) ds (λ e k. f e (there k)) (a .low) in
       record { same = ap (λ (z : Cell). cellFromWith (p + m) h z ds) (a .same) ∙ b .same; low = b .low }
 
-  cell-alike : (h : ℕ) (log : List Did) → AllFit log → Alike (cellWith p h log) (cellWith (p + m) h log)
-  unfolding cellWith
-  cell-alike h log f = from-alike h blankCell log f (worth-positive p)
+  cell-alike : (h : ℕ) (log : List Did) → AllFit log → Alike (cellWith p blankBase h log) (cellWith (p + m) blankBase h log)
+  unfolding cellWith startCell
+  cell-alike h log f = from-alike h (startCell blankBase h) log f (worth-positive p)
 
   -- ### The log
 
@@ -116,14 +117,14 @@ module _ (p m : ℕ) where
 
   -- a line that was accepted is accepted, and its operands fit
   record Taken (n : ℕ) (seen : List Did) (d : Did) : Type 0 where
-    also : acceptsWith (p + m) n seen d ≡ true
+    also : acceptsWith (p + m) blankBase n seen d ≡ true
     fits : Each Fits (d .changes)
 
-  taken : (n : ℕ) (seen : List Did) (d : Did) → AllFit seen → acceptsWith p n seen d ≡ true → Taken n seen d
+  taken : (n : ℕ) (seen : List Did) (d : Did) → AllFit seen → acceptsWith p blankBase n seen d ≡ true → Taken n seen d
   unfolding acceptsWith changesRefusalWith changeMisfitsWith canRunWith
   taken n seen d f h =
       let ok : Bool = passes (changesRefusalWith p n (d .changes)) in
-      let both = and-true ok (canRunWith p seen d) h in
+      let both = and-true ok (canRunWith p blankBase seen d) h in
       let old = formed-of (λ (x : Change). x .history) (changeMisfitsWith p) n (d .changes) (passes-none _ (true-T ok (both .0))) in
       let fits : Each Fits (d .changes) =
       λ x k. not-false (operandFitsWith p (ruleOf (x .rule)) (x .version) (x .operand)) (old .fit x k) in
@@ -136,48 +137,51 @@ module _ (p m : ℕ) where
         once = old .once;
         fit = λ x k. ap not (fits-more (x .rule) (x .version) (x .operand) (fits x k));
       }) in
-      let runs : T (canRunWith (p + m) seen d) =
-      all-of (λ x. runsAt (cellWith (p + m) (x .history) seen) x) (d .changes)
+      let runs : T (canRunWith (p + m) blankBase seen d) =
+      all-of (λ x. runsAt (cellWith (p + m) blankBase (x .history) seen) x) (d .changes)
       (λ x k.
       subst (λ (c : Cell). T (runsAt c x)) (sym (cell-alike (x .history) seen f .same))
-      (all-at (λ y. runsAt (cellWith p (y .history) seen) y) (d .changes) (true-T (canRunWith p seen d) (both .1)) x k)) in
-      record { also = rw new (T-true (canRunWith (p + m) seen d) runs); fits = fits }
+      (all-at (λ y. runsAt (cellWith p blankBase (y .history) seen) y) (d .changes)
+      (true-T (canRunWith p blankBase seen d) (both .1)) x k)) in
+      record { also = rw new (T-true (canRunWith (p + m) blankBase seen d) runs); fits = fits }
 
   -- lines that were read are read as the same
   record Lines (n : ℕ) (seen : List Did) (ls : List (List ℕ)) (k : ℕ) (lines : List Line) : Type 0 where
-    also : readOldLinesWith (p + m) n seen ls ≡ journal k lines
+    also : readOldLinesWith (p + m) n seen ls ≡ journal k none lines
     fits : AllFit (dids lines)
 
   lines-alike : (n : ℕ) (seen : List Did) (ls : List (List ℕ)) (k : ℕ) (lines : List Line) → AllFit seen →
-      readOldLinesWith p n seen ls ≡ journal k lines → Lines n seen ls k lines
+      readOldLinesWith p n seen ls ≡ journal k none lines → Lines n seen ls k lines
   unfolding readOldLinesWith
   lines-alike n seen [] k lines f e =
       let q : map didLine seen ≡ lines = cc in record { also = e; fits = subst AllFit (sym (dids-map seen) ∙ ap dids q) f }
   lines-alike n seen (l ∷ ls) k lines f e =
-      by-read (readDid l) _ k lines e λ d rest q h.
-      by-test (acceptsWith p n seen d) _ k lines h λ w r.
+      by-read (readDid l) _ k none lines e λ d rest q h.
+      by-test (acceptsWith p blankBase n seen d) _ k none lines h λ w r.
       let t = taken n seen d f w in
       let s = lines-alike n (seen ++ (d ∷ [])) ls k lines (fit-snoc seen d f (t .fits)) r in
       record {
-        also = rw q (test-true (acceptsWith (p + m) n seen d) (readOldLinesWith (p + m) n (seen ++ (d ∷ [])) ls) (t .also) ∙ s .also);
+        also =
+            rw q (test-true (acceptsWith (p + m) blankBase n seen d) (readOldLinesWith (p + m) n (seen ++ (d ∷ [])) ls) (t .also)
+            ∙ s .also);
         fits = s .fits;
       }
 
   record First (ls : List (List ℕ)) (k : ℕ) (lines : List Line) : Type 0 where
-    also : readOldFirstWith (p + m) ls ≡ journal k lines
+    also : readOldFirstWith (p + m) ls ≡ journal k none lines
     fits : AllFit (dids lines)
 
-  first-alike : (ls : List (List ℕ)) (k : ℕ) (lines : List Line) → readOldFirstWith p ls ≡ journal k lines → First ls k lines
+  first-alike : (ls : List (List ℕ)) (k : ℕ) (lines : List Line) → readOldFirstWith p ls ≡ journal k none lines → First ls k lines
   unfolding readOldFirstWith
   first-alike [] k lines e = let z : _≡_ {A = ℕ} 0 1 = cc in absurd (omega arith)
   first-alike (l ∷ ls) k lines e =
-      by-read (readSite l) _ k lines e λ n rest q h.
-      by-test (historiesFit n) _ k lines h λ w r.
+      by-read (readSite l) _ k none lines e λ n rest q h.
+      by-test (historiesFit n) _ k none lines h λ w r.
       let s = lines-alike n [] ls k lines (λ d j. absurd (List·Memᴰ·not-nil j)) r in
       record { also = rw q (test-true (historiesFit n) (readOldLinesWith (p + m) n [] ls) w ∙ s .also); fits = s .fits }
 
 -- A log that was accepted is accepted, with the same book.
-pub read-alike : (bs : List ℕ) (n : ℕ) (lines : List Line) → readOldWith olderParts bs ≡ journal n lines → ReadAlike bs n lines
+pub read-alike : (bs : List ℕ) (n : ℕ) (lines : List Line) → readOldWith olderParts bs ≡ journal n none lines → ReadAlike bs n lines
 unfolding readOldWith
 read-alike bs n lines e =
     let r = first-alike olderParts 4 (linesOf bs) n lines e in

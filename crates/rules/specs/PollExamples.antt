@@ -15,13 +15,15 @@ use Rattle.forms.specs.Limits.{logLimit}
 use Rattle.forms.specs.Forms.{fieldText, fieldsText, itemsText, tailText, listText, updateText, changeText, oneText, siteText, didText}
 use Rattle.forms.specs.Forms.{stableText, lineText, redoText}
 use Rattle.forms.specs.Reading as reading
-use Rattle.forms.specs.Reading.{readDid, readLine, readSite, readCommand, readWhole}
-use Rattle.rules.specs.Book.{touches, runsAt}
+use Rattle.forms.specs.Reading.{readBase, readDid, readLine, readSite, readCommand, readWhole}
+use Rattle.rules.specs.Book.{startCell, touches, runsAt}
 use Rattle.rules.specs.Checks.{check, andThen, wrongCount, noSuchHistory, historyTwice, updateMisfits, formRefusal, updatesRefusal}
-use Rattle.rules.specs.Log.{ended, linesText, logText, linesOf, linesFrom, restFrom, historiesFit, stablesFrom, stablesAt, weaveFrom}
+use Rattle.rules.specs.Log.{readSecond, baseFits, inOrder, headText, ended, linesText, logText, linesOf, linesFrom, restFrom}
+use Rattle.rules.specs.Log.{historiesFit, stablesFrom, stablesAt, weaveFrom}
 use Rattle.rules.specs.Log.{markFrom, upToDid, reported, rises, follows, liveIn, tableHolds}
 use Rattle.rules.specs.State.{logBytes, versionAt, liveDone, live, asks, dry, becameDry, rose, lineBytes, bytesOf}
-use Rattle.rules.specs.Calls.{unless, openFull, openRefusal, opened, openSite, blockedBy, blocked, mayRunNow, ready, attempt, tryFrom, madeReady}
+use Rattle.rules.specs.Calls.{baseCut, unless, openFull, openRefusal, opened, openSite, blockedBy, blocked, mayRunNow, ready, attempt}
+use Rattle.rules.specs.Calls.{tryFrom, madeReady}
 use Rattle.rules.specs.Calls.{neverNow, holdsNever, overtaken, notOvertaken, overtakenIds, atHighest}
 use Rattle.rules.specs.Calls.{nothingOrders, idPending, idDone, alreadyDone, readOvertaken, tableFull, addRefusal, arrived, add, changeOf, lineOf}
 use Rattle.rules.specs.Calls.{valuesAfter, inProgress, future, without, logFull, finished, finishFound, finish, withdrawRefusal, withdraw, persistent}
@@ -120,17 +122,20 @@ computed =
     unfold holds polls asked after told sameBytes below word digitsWithin digits more number numberOf in
     unfold fieldText fieldsText itemsText tailText listText updateText changeText oneText siteText didText stableText lineText redoText in
     unfold reading.field reading.rule reading.doneRule reading.update reading.change reading.one reading.items reading.tail reading.did reading.addForm in
-    unfold reading.redoForm reading.numbered reading.command reading.line readDid readLine readSite readCommand readWhole in
-    unfold replacedWith profileOf enteredWith enterWith enterAllWith cellFromWith cellWith touches runsAt canRunWith in
+    unfold reading.redoForm reading.numbered reading.command reading.line readDid readLine reading.baseCell reading.base readBase in
+    unfold readSite readCommand readWhole in
+    unfold replacedWith profileOf enteredWith enterWith enterAllWith cellFromWith cellWith startCell touches runsAt canRunWith in
     unfold check andThen wrongCount noSuchHistory historyTwice updateMisfits changeMisfitsWith in
     unfold formRefusal updatesRefusal changesRefusalWith in
-    unfold stablesFrom stablesAt weaveFrom markFrom upToDid reported ended linesText logText linesFrom restFrom historiesFit acceptsWith in
-    unfold rises follows liveIn tableHolds readLines readFirst readLog in
+    unfold stablesFrom stablesAt weaveFrom markFrom upToDid reported ended linesText logText headText linesFrom restFrom historiesFit in
+    unfold acceptsWith in
+    unfold rises follows liveIn tableHolds inOrder baseFits readLines readSecond readFirst readLog in
     unfold logBytes versionAt liveDone live asks dry becameDry rose lineBytes bytesOf in
     unfold unless openFull openRefusal opened openSite blockedBy blocked mayRunNow ready attempt tryFrom madeReady nothingOrders idPending idDone in
     unfold neverNow holdsNever overtaken notOvertaken overtakenIds atHighest in
     unfold alreadyDone readOvertaken tableFull addRefusal arrived add changeOf lineOf valuesAfter inProgress future without logFull finished in
-    unfold finishFound finish withdrawRefusal withdraw persistent aboveMark stableFull stableRefusal stabled stable restarted restartAs restart cutAbove cut stale redoRefusal behind pick in
+    unfold finishFound finish withdrawRefusal withdraw persistent aboveMark stableFull stableRefusal stabled stable restarted restartAs in
+    unfold restart cutAbove baseCut cut stale redoRefusal behind pick in
     unfold drain delivered redoRead redo end writableUpdate writable perform step in
     unfold turnOf opening calling obey onCommand turn poll in
     tt

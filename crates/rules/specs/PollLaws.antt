@@ -3,8 +3,8 @@ use mathlib.Core.Path.{_≡_, refl, sym, ap, ap₂, subst, _∙_}
 use mathlib.Core.Bool.{Bool, true, false, cond, not, _&&_, _||_}
 use mathlib.Core.List.{List, [], _∷_, _++_, map, map-append}
 use mathlib.Core.List.{List·Memᴰ as Mem, List·Memᴰ·head as here, List·Memᴰ·tail as there, Memᴰ·map, Memᴰ·append-left, Memᴰ·append-right}
-use mathlib.Core.Option.{none}
-use Prim.Native.Nat.{ℕ, zero, suc, _+_, _≤_, _<_}
+use mathlib.Core.Option.{Option, none}
+use Prim.Native.Nat.{ℕ, zero, suc, _+_, _-_, _≤_, _<_}
 use native.Mathlib.Omega.{arith}
 use borrow.Author.Tests.{ne-eqb}
 use lib.Dec.{T, leb, eqb, eqb-refl, eqb→eq}
@@ -12,18 +12,19 @@ use lib.ListN.{length, take, drop, length-drop, take-append-drop}
 use lib.Seq.{drop-append-le}
 use Rattle.forms.specs.Lists.{any, keep, sum}
 use Rattle.forms.specs.ListLaws.{Nodup, nodup-right, nodup-mid, mem-split, mem-along, sum-append, sum-mid, keep-append, keep-all, T-true, true-T}
-use Rattle.forms.specs.Forms.{Update, Change, Did, Line}
+use Rattle.forms.specs.Forms.{Base, Update, Change, Did, Line}
 use Rattle.rules.specs.Log.{dids}
 use Rattle.forms.specs.declared.Refusal.the-variants.{NoSuchHistory}
-use Rattle.rules.specs.Book.{touches}
+use Rattle.rules.specs.Book.{baseOf, touches}
 use Rattle.rules.specs.Checks.{changesRefusal}
 use Rattle.forms.specs.Limits.{liveLimit}
-use Rattle.rules.specs.State.{Operation, State, asks, dry, live, liveDone, withPending, withLog, withWaiting, withMarks}
+use Rattle.rules.specs.State.{Operation, State, startOf, doneIn, asks, dry, live, liveDone, withPending, withLog, withWaiting}
+use Rattle.rules.specs.State.{withMarks}
 use Rattle.rules.specs.Calls.{attempt, tryAll, overtaken, notOvertaken, arrived, changeOf, lineOf, without, restarted}
 use Rattle.rules.specs.Good.{Good, operationIds, didIds}
 use Rattle.rules.specs.CheckLaws.{formed-updates, formed-changes}
 use Rattle.rules.specs.PendingLaws.{try-same}
-use Rattle.rules.specs.Poll.{tell, asksIn, changesIn, busy, PollRefused, PollDry, PollBusy, poll}
+use Rattle.rules.specs.Poll.{volatile, tell, asksIn, changesIn, busy, PollRefused, PollDry, PollBusy, poll}
 
 -- ### None of them, and a number that is 0
 
@@ -56,8 +57,10 @@ unfolding dry busy asks touches asksIn changesIn
 dry-is st h =
     ap₂ (λ (a b : Bool). a && b)
     (none-sum (asks h) (asksIn h) (λ x. none-sum (λ (u : Update). eqb (u .history) h) (λ u. tell (eqb (u .history) h)) (λ u. tells (eqb (u .history) h)) (x .updates)) (st .pending))
-    (none-sum (touches h) (changesIn h) (λ d. none-sum (λ (x : Change). eqb (x .history) h) (λ x. tell (eqb (x .history) h)) (λ x. tells (eqb (x .history) h)) (d .changes)) (drop (st .persistentTo) (st .log)))
-    ∙ both-zero (sum (asksIn h) (st .pending)) (sum (changesIn h) (drop (st .persistentTo) (st .log)))
+    (none-sum (touches h) (changesIn h)
+    (λ d. none-sum (λ (x : Change). eqb (x .history) h) (λ x. tell (eqb (x .history) h)) (λ x. tells (eqb (x .history) h)) (d .changes))
+    (volatile st))
+    ∙ both-zero (sum (asksIn h) (st .pending)) (sum (changesIn h) (volatile st))
 
 -- The poll by the number alone.
 pub poll-is : (h : ℕ) (st : State) → poll h st ≡ cond (leb (st .histories) h) (PollRefused NoSuchHistory) (cond (eqb (busy st h) 0) PollDry PollBusy)
@@ -71,29 +74,31 @@ sum-map f [] = refl
 sum-map f (x ∷ l) = ap (λ (n : ℕ). f x + n) (sum-map f l)
 
 -- Tries change no update.
-pub asks-tried : (h : ℕ) (log : List Did) (xs : List Operation) → sum (asksIn h) (tryAll log xs) ≡ sum (asksIn h) xs
+pub asks-tried : (σ : Base) (h : ℕ) (log : List Did) (xs : List Operation) → sum (asksIn h) (tryAll σ log xs) ≡ sum (asksIn h) xs
 unfolding asksIn attempt
-asks-tried h log xs =
-    sym (sum-map (asksIn h) (tryAll log xs))
-    ∙ ap (sum (λ (n : ℕ). n)) (try-same (asksIn h) log (λ others x. refl) xs)
+asks-tried σ h log xs =
+    sym (sum-map (asksIn h) (tryAll σ log xs))
+    ∙ ap (sum (λ (n : ℕ). n)) (try-same σ (asksIn h) log (λ others x. refl) xs)
     ∙ sum-map (asksIn h) xs
 
 -- A line has an update in the histories of its operation.
-pub line-asks : (h : ℕ) (log : List Did) (x : Operation) → changesIn h (lineOf log x) ≡ asksIn h x
+pub line-asks : (σ : Base) (h : ℕ) (log : List Did) (x : Operation) → changesIn h (lineOf σ log x) ≡ asksIn h x
 unfolding changesIn asksIn lineOf changeOf
-line-asks h log x = go (x .updates)
+line-asks σ h log x = go (x .updates)
   where
-    go : (us : List Update) → sum (λ (y : Change). tell (eqb (y .history) h)) (map (changeOf log) us) ≡ sum (λ (u : Update). tell (eqb (u .history) h)) us
+    go : (us : List Update) →
+        sum (λ (y : Change). tell (eqb (y .history) h)) (map (changeOf σ log) us) ≡ sum (λ (u : Update). tell (eqb (u .history) h)) us
     go [] = refl
     go (u ∷ us) = ap (λ (n : ℕ). tell (eqb (u .history) h) + n) (go us)
 
 -- An operation added: its updates more.
 pub busy-added : (i : ℕ) (us : List Update) (st : State) (h : ℕ) →
-    busy (withPending (tryAll (st .log) (arrived i us st)) st) h ≡ busy st h + asksIn h (record { id = i; updates = us; running = false })
+    busy (withPending (tryAll (startOf st) (st .log) (arrived i us st)) st) h ≡ busy st h + asksIn h
+    (record { id = i; updates = us; running = false })
 unfolding busy arrived
 busy-added i us st h =
     let x : Operation = record { id = i; updates = us; running = false } in
-    omega (arith, asks-tried h (st .log) (st .pending ++ (x ∷ [])), sum-append (asksIn h) (st .pending) (x ∷ []))
+    omega (arith, (asks-tried (startOf st)) h (st .log) (st .pending ++ (x ∷ [])), sum-append (asksIn h) (st .pending) (x ∷ []))
 
 -- Without the one of distinct ids: the others, as they stood.
 pub without-mid : (a : List Operation) (x : Operation) (b : List Operation) → Nodup (operationIds (a ++ x ∷ b)) → without (x .id) (a ++ x ∷ b) ≡ a ++ b
@@ -158,27 +163,29 @@ sum-parts {A} n p (x ∷ l) = go (p x) (sum-parts n p l)
 -- A finish: the updates that were in progress are volatile, those of the operations overtaken count no more. (They are dropped before the
 -- tries here, which comes to the same: `drop-before-tries`.)
 pub busy-finished : (st : State) (x : Operation) (h : ℕ) → Good st → Mem x (st .pending) →
-    (let log = st .log ++ (lineOf (st .log) x ∷ []) in
+    (let log = st .log ++ (lineOf (startOf st) (st .log) x ∷ []) in
     let left = without (x .id) (st .pending) in
-    busy (withLog log (withPending (tryAll log (notOvertaken log left)) st)) h + sum (asksIn h) (keep (overtaken log) left) ≡ busy st h)
+    busy (withLog log (withPending (tryAll (startOf st) log (notOvertaken (startOf st) log left)) st)) h + sum (asksIn h)
+    (keep (overtaken (startOf st) log) left) ≡ busy st h)
 unfolding busy notOvertaken
 busy-finished st x h G m =
-    let log = st .log ++ (lineOf (st .log) x ∷ []) in
+    let log = st .log ++ (lineOf (startOf st) (st .log) x ∷ []) in
     let left = without (x .id) (st .pending) in
     omega (
       arith,
-      sum-parts (asksIn h) (overtaken log) left,
-      asks-tried h log (keep (λ (y : Operation). not (overtaken log y)) left),
+      sum-parts (asksIn h) (overtaken (startOf st) log) left,
+      asks-tried (startOf st) h log (keep (λ (y : Operation). not (overtaken (startOf st) log y)) left),
       asks-without h x (st .pending) (pending-once st G) m,
-      volatile-more h (st .persistentTo) (st .log) (lineOf (st .log) x ∷ []) (G .persistentBelow),
-      line-asks h (st .log) x,
+      volatile-more h (st .persistentTo - startOf st .upTo) (st .log) (lineOf (startOf st) (st .log) x ∷ [])
+          (omega (arith, G .persistentBelow)),
+      line-asks (startOf st) h (st .log) x,
     )
 
 -- A redo: the updates of the lines that ran more; lines that wait do not count.
-pub busy-redone : (st : State) (more waiting : List Did) (h : ℕ) → st .persistentTo ≤ length (st .log) →
+pub busy-redone : (st : State) (more waiting : List Did) (h : ℕ) → st .persistentTo ≤ doneIn st →
     busy (withLog (st .log ++ more) (withWaiting waiting st)) h ≡ busy st h + sum (changesIn h) more
 unfolding busy
-busy-redone st more waiting h le = omega (arith, volatile-more h (st .persistentTo) (st .log) more le)
+busy-redone st more waiting h le = omega (arith, volatile-more h (st .persistentTo - startOf st .upTo) (st .log) more (omega arith))
 
 -- What stands from a position on, in two parts.
 pub drop-take : {A : Type 0} (p q : ℕ) (l : List A) → p ≤ q → drop p l ≡ drop p (take q l) ++ drop q l
@@ -189,20 +196,28 @@ drop-take (suc p) (suc q) (x ∷ l) le = drop-take p q l (omega arith)
 
 -- Persistent: the updates of the lines that are volatile no longer fewer.
 pub busy-persistent : (st : State) (q s h : ℕ) → st .persistentTo ≤ q →
-    busy (withMarks q s st) h + sum (changesIn h) (drop (st .persistentTo) (take q (st .log))) ≡ busy st h
+    busy (withMarks q s st) h + sum (changesIn h)
+    (drop (st .persistentTo - startOf st .upTo) (take (q - startOf st .upTo) (st .log))) ≡ busy st h
 unfolding busy
 busy-persistent st q s h le =
-    let p = st .persistentTo in
-    omega (arith, ap (sum (changesIn h)) (drop-take p q (st .log) le), sum-append (changesIn h) (drop p (take q (st .log))) (drop q (st .log)))
+    let p = st .persistentTo - startOf st .upTo in
+    let q = q - startOf st .upTo in
+    omega (
+      arith,
+      ap (sum (changesIn h)) (drop-take p q (st .log) (omega arith)),
+      sum-append (changesIn h) (drop p (take q (st .log))) (drop q (st .log)),
+    )
 
 drop-all : {A : Type 0} (l : List A) → drop (length l) l ≡ []
 drop-all [] = refl
 drop-all (x ∷ l) = drop-all l
 
 -- "After restart all are 0."
-pub busy-restarted : (room n : ℕ) (lines : List Line) (h : ℕ) → busy (restarted room n lines) h ≡ 0
+pub busy-restarted : (room n : ℕ) (β : Option Base) (lines : List Line) (h : ℕ) → busy (restarted room n β lines) h ≡ 0
 unfolding busy restarted
-busy-restarted room n lines h = omega (arith, ap (sum (changesIn h)) (drop-all (dids lines)))
+busy-restarted room n β lines h =
+    let q : baseOf β .upTo + length (dids lines) - baseOf β .upTo ≡ length (dids lines) = omega arith in
+    omega (arith, ap (λ (i : ℕ). sum (changesIn h) (drop i (dids lines))) q, ap (sum (changesIn h)) (drop-all (dids lines)))
 
 -- ### How large it can be
 
@@ -263,9 +278,9 @@ busy-live st h G =
       G .leftBelow,
       G .stableBelow,
       few (asksIn h) (st .pending) asked,
-      few (changesIn h) (drop (st .persistentTo) (st .log)) changed,
-      length-drop (st .persistentTo) (st .log),
-      length-drop (st .leftTo) (st .log),
+      few (changesIn h) (volatile st) changed,
+      length-drop (st .persistentTo - startOf st .upTo) (st .log),
+      length-drop (st .leftTo - startOf st .upTo) (st .log),
     )
   where
     few : {A : Type 0} (n : A → ℕ) (l : List A) → ((x : A) → Mem x l → n x ≤ 1) → sum n l ≤ length l
@@ -275,11 +290,11 @@ busy-live st h G =
     asked : (x : Operation) → Mem x (st .pending) → asksIn h x ≤ 1
     asked x m = once-few (λ (u : Update). u .history) h (x .updates) (formed-updates (st .histories) (x .updates) (G .pendingFormed x m .passes) .once)
 
-    changed : (d : Did) → Mem d (drop (st .persistentTo) (st .log)) → changesIn h d ≤ 1
+    changed : (d : Did) → Mem d (volatile st) → changesIn h d ≤ 1
     changed d m =
         line-once (st .histories) h d
-        (G .formed d (mem-along (take-append-drop (st .persistentTo) (st .log))
-        (Memᴰ·append-right (take (st .persistentTo) (st .log)) m)) .passes)
+        (G .formed d (mem-along (take-append-drop (st .persistentTo - startOf st .upTo) (st .log))
+        (Memᴰ·append-right (take (st .persistentTo - startOf st .upTo) (st .log)) m)) .passes)
 
 -- "each at most 64"
 pub busy-few : (st : State) (h : ℕ) → Good st → busy st h ≤ liveLimit

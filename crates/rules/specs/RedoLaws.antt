@@ -14,13 +14,13 @@ use Rattle.forms.specs.Decimal.Step.{got, bad}
 use Rattle.forms.specs.Lists.{any, sum}
 use Rattle.forms.specs.ListLaws.{Nodup, nodup-right, nodup-sub, nodup-move, mem-at, mem-along, mem-snoc, mem-widen, sum-mid, sum-append}
 use Rattle.forms.specs.ListLaws.{Prefix}
-use Rattle.forms.specs.Forms.{Did, Answer, Redone, didLine}
+use Rattle.forms.specs.Forms.{Base, Did, Answer, Redone, didLine}
 use Rattle.forms.specs.Reading.{readDid}
 use Rattle.forms.specs.DidLaws.{readDid-read}
 use Rattle.forms.specs.declared.Refusal.the-variants.{Unreadable, IdPending, AlreadyDone, TableFull, NoRoom, OutOfTurn}
 use Rattle.rules.specs.Book.{canRun}
 use Rattle.forms.specs.Limits.{liveLimit}
-use Rattle.rules.specs.State.{State, ok, logBytes, liveDone, live, lineBytes, withLog, withWaiting, linesIn}
+use Rattle.rules.specs.State.{State, ok, logBytes, startOf, liveDone, live, lineBytes, withLog, withWaiting, linesIn}
 use Rattle.rules.specs.Calls.{idPending, idDone, tableFull, logFull, stale, redoRefusal, drain, delivered, redoRead, redo, end, Call}
 use Rattle.rules.specs.Calls.{perform, step}
 use Rattle.rules.specs.Good.{Good, FormedDid, Ran, didIds, operationIds, Rises}
@@ -38,24 +38,24 @@ use Rattle.rules.specs.WorkLaws.{good-ok, true-not-false}
 
 -- What each run of a waiting line keeps, in a site of n histories with marks s and p: the lines, their bytes and their number, and the live
 -- ids.
-record Draining (n s p bytes count : ℕ) (C : List ℕ) (old log waiting : List Did) : Type 0 where
+record Draining (σ : Base) (n s p bytes count : ℕ) (C : List ℕ) (old log waiting : List Did) : Type 0 where
   front : Prefix old log
   formed : (d : Did) → Mem d log → FormedDid n d
-  ran : Ran log
+  ran : Ran σ log
   waitingFormed : (d : Did) → Mem d waiting → FormedDid n d
   weight : sum lineBytes log + sum lineBytes waiting ≡ bytes
   number : length log + length waiting ≡ count
   low : p ≤ length log
   ids : Nodup (didIds (drop s log) ++ (didIds waiting ++ C))
 
-draining-one : (n s p bytes count : ℕ) (C : List ℕ) (old : List Did) → s ≤ p → (log a : List Did) (d : Did) (b : List Did) →
-    T (canRun log d) →
-    Draining n s p bytes count C old log (a ++ d ∷ b) → Draining n s p bytes count C old (log ++ d ∷ []) (a ++ b)
-draining-one n s p bytes count C old le log a d b t D =
+draining-one : (σ : Base) (n s p bytes count : ℕ) (C : List ℕ) (old : List Did) → s ≤ p → (log a : List Did) (d : Did) (b : List Did) →
+    T (canRun σ log d) →
+    Draining σ n s p bytes count C old log (a ++ d ∷ b) → Draining σ n s p bytes count C old (log ++ d ∷ []) (a ++ b)
+draining-one σ n s p bytes count C old le log a d b t D =
     record {
       front = (D .front .0 ++ d ∷ [], ap {B = List Did} (λ l. l ++ d ∷ []) (D .front .1) ∙ append-assoc old (D .front .0) (d ∷ []));
       formed = λ e m. formed-one e (mem-snoc log m);
-      ran = ran-snoc log d (D .ran) t;
+      ran = ran-snoc σ log d (D .ran) t;
       waitingFormed = λ e m. D .waitingFormed e (mem-widen d a b m);
       weight = omega (arith, D .weight, sum-mid lineBytes a d b, sum-append lineBytes log (d ∷ []));
       number = omega (arith, D .number, length-append a (d ∷ b), length-append a b, length-append log (d ∷ []));
@@ -79,32 +79,45 @@ redo-good : (d : Did) (st : State) → Good st → FormedDid (st .histories) d �
     idDone (d .id) st ≡ false →
     live st < liveLimit → length (logBytes st) + sum lineBytes (st .waiting) + lineBytes d ≤ st .room →
     (let out =
-    drain (suc (length (st .waiting))) (st .log) (st .waiting ++ d ∷ []) in Good (withLog (out .log) (withWaiting (out .waiting) st)))
+    drain (startOf st) (suc (length (st .waiting))) (st .log) (st .waiting ++ d ∷ []) in
+    Good (withLog (out .log) (withWaiting (out .waiting) st)))
 unfolding live liveDone logBytes
 redo-good d st G F on e7 e8 e10 e12 =
     record {
       histories = G .histories;
+      head = G .head;
       formed = D .formed;
       ran = D .ran;
       waitingFormed = D .waitingFormed;
-      quiet = drain-quiet (suc (length (st .waiting))) (st .log) lines (omega (arith, length-append (st .waiting) (d ∷ [])));
+      quiet = drain-quiet (startOf st) (suc (length (st .waiting))) (st .log) lines (omega (arith, length-append (st .waiting) (d ∷ [])));
       fits =
           omega (
             arith,
             D .weight,
             ap (sum lineBytes) grown,
             sum-append lineBytes (st .log) more,
-            ap (λ (l : List Did). length (logText (st .histories) (weave l (st .stables)))) grown,
-            length-grown (st .histories) (st .log) more (st .stables) (G .below),
+            ap (λ (l : List Did). length (logText (st .histories) (st .base) (weave l (st .stables)))) grown,
+            length-grown (st .histories) (st .base) (st .log) more (st .stables) (G .below),
           );
       roomLimit = G .roomLimit;
-      rises = subst Rises (sym lines′) (rises-dids (linesIn st) more (G .rises));
+      rises = subst (Rises (startOf st)) (sym lines′) (rises-dids (startOf st) (linesIn st) more (G .rises));
       below = λ s k. let le = G .below s k in omega (arith, ap length grown, length-append (st .log) more);
+      baseBelow = G .baseBelow;
       leftBelow = omega (arith, G .leftBelow, mark′);
       stableBelow = omega (arith, G .stableBelow, mark′);
-      persistentBelow = D .low;
+      persistentBelow = omega (arith, D .low);
       few =
-          omega (arith, D .number, D .low, G .leftBelow, G .stableBelow, G .persistentBelow, length-drop (st .leftTo) (st .log), length-drop (st .leftTo) log′);
+          omega (
+            arith,
+            D .number,
+            D .low,
+            G .baseBelow,
+            G .leftBelow,
+            G .stableBelow,
+            G .persistentBelow,
+            length-drop (st .leftTo - startOf st .upTo) (st .log),
+            length-drop (st .leftTo - startOf st .upTo) log′,
+          );
       ids = D .ids;
       idle = G .idle;
       nobodyWaits = λ off. absurd (true-not-false (st .restoring) on off);
@@ -118,7 +131,7 @@ redo-good d st G F on e7 e8 e10 e12 =
     lines = st .waiting ++ d ∷ []
 
     log′ : List Did
-    log′ = drain (suc (length (st .waiting))) (st .log) lines .log
+    log′ = drain (startOf st) (suc (length (st .waiting))) (st .log) lines .log
 
     bytes : ℕ
     bytes = sum lineBytes (st .log) + (sum lineBytes (st .waiting) + lineBytes d)
@@ -130,7 +143,9 @@ redo-good d st G F on e7 e8 e10 e12 =
     C = operationIds (st .pending)
 
     Keeps : List Did → List Did → Type 0
-    Keeps log waiting = Draining (st .histories) (st .leftTo) (st .persistentTo) bytes count C (st .log) log waiting
+    Keeps log waiting =
+        Draining (startOf st) (st .histories) (st .leftTo - startOf st .upTo) (st .persistentTo - startOf st .upTo) bytes count C
+        (st .log) log waiting
 
     formed-new : (e : Did) → (e ≡ d) ⊎ Mem e (st .waiting) → FormedDid (st .histories) e
     formed-new e (inl p) = subst (FormedDid (st .histories)) (sym p) F
@@ -145,16 +160,18 @@ redo-good d st G F on e7 e8 e10 e12 =
           waitingFormed = λ e k. formed-new e (mem-snoc (st .waiting) k);
           weight = omega (arith, sum-append lineBytes (st .waiting) (d ∷ []));
           number = omega (arith, length-append (st .waiting) (d ∷ []));
-          low = G .persistentBelow;
+          low = omega (arith, G .persistentBelow);
           ids =
               rw (map-append (λ (e : Did). e .id) (st .waiting) (d ∷ []))
-              (ids-wait (d .id) (didIds (drop (st .leftTo) (st .log))) (didIds (st .waiting)) C (fresh-tested (d .id) st e7 e8) (G .ids));
+              (ids-wait (d .id) (didIds (drop (st .leftTo - startOf st .upTo) (st .log))) (didIds (st .waiting)) C
+              (fresh-tested (d .id) st e7 e8) (G .ids));
         }
 
-    D : Keeps log′ (drain (suc (length (st .waiting))) (st .log) lines .waiting)
+    D : Keeps log′ (drain (startOf st) (suc (length (st .waiting))) (st .log) lines .waiting)
     D =
-        drain-keeps Keeps
-        (λ log a e b t I. draining-one (st .histories) (st .leftTo) (st .persistentTo) bytes count C (st .log) (omega (arith, G .leftBelow, G .stableBelow)) log a e b t I)
+        drain-keeps (startOf st) Keeps
+        (λ log a e b t I. draining-one (startOf st) (st .histories) (st .leftTo - startOf st .upTo)
+        (st .persistentTo - startOf st .upTo) bytes count C (st .log) (omega (arith, G .leftBelow, G .stableBelow)) log a e b t I)
         (suc (length (st .waiting))) (st .log) lines before
 
     more : List Did
@@ -166,8 +183,8 @@ redo-good d st G F on e7 e8 e10 e12 =
     lines′ : weave log′ (st .stables) ≡ linesIn st ++ map didLine more
     lines′ = ap (λ (l : List Did). weave l (st .stables)) grown ∙ weave-append (st .log) more (st .stables) (G .below)
 
-    mark′ : mark (weave log′ (st .stables)) ≡ mark (linesIn st)
-    mark′ = ap mark lines′ ∙ mark-dids (linesIn st) more
+    mark′ : mark (startOf st) (weave log′ (st .stables)) ≡ mark (startOf st) (linesIn st)
+    mark′ = ap (mark (startOf st)) lines′ ∙ mark-dids (startOf st) (linesIn st) more
 
 pub good-redo : (line : List ℕ) (st st′ : State) (a : Answer) → Good st → redo line st ≡ ok st′ a → Good st′
 unfolding redo redoRead redoRefusal delivered tableFull logFull
@@ -201,13 +218,13 @@ redo-examines line st st′ ran examined e = go (readDid line) (unless-ok _ _ st
     go (got d rest) q =
         let k = suc (length (st .waiting)) in
         let lines = st .waiting ++ d ∷ [] in
-        let out = drain k (st .log) lines in
+        let out = drain (startOf st) k (st .log) lines in
         let r : ok (withLog (out .log) (withWaiting (out .waiting) st)) (Redone (length (out .log) - length (st .log)) (out .examined))
         ≡ ok st′ (Redone ran examined) = unless-ok _ _ st′ _ q .1 in
         let runs : length (out .log) - length (st .log) ≡ ran = cc in
         let looks : out .examined ≡ examined = cc in
         let most : out .examined ≤ suc ran * length lines =
-        drain-examines k (st .log) lines ran (omega (arith, runs, drain-longer k (st .log) lines)) in
+        drain-examines (startOf st) k (st .log) lines ran (omega (arith, runs, drain-longer (startOf st) k (st .log) lines)) in
         let w : length lines ≡ length (st .waiting) + 1 = length-append (st .waiting) (d ∷ []) in
         rw (sym looks, sym w, add-one ran) most
 
@@ -220,6 +237,7 @@ good-end st st′ a G e =
     good-ok _ st′ _ a (q .1)
     (record {
       histories = G .histories;
+      head = G .head;
       formed = G .formed;
       ran = G .ran;
       waitingFormed = λ d k. absurd (List·Memᴰ·not-nil k);
@@ -228,9 +246,10 @@ good-end st st′ a G e =
       roomLimit = G .roomLimit;
       rises = G .rises;
       below = G .below;
+      baseBelow = G .baseBelow;
       leftBelow = G .leftBelow;
       stableBelow = G .stableBelow;
-      persistentBelow = G .persistentBelow;
+      persistentBelow = omega (arith, G .persistentBelow);
       few = omega (arith, G .few);
       ids = nodup-sub D (W ++ C) C (G .ids) (nodup-right W C (nodup-right D (W ++ C) (G .ids))) (λ i k. Memᴰ·append-right W k);
       idle = λ on. absurd (true-not-false false on refl);

@@ -16,11 +16,12 @@ use Rattle.forms.specs.Refusals.{numberOf}
 use Rattle.forms.specs.Forms.{fieldText, fieldsText, itemsText, tailText, listText, updateText, changeText, oneText}
 use Rattle.forms.specs.Forms.{siteText, didText, stableText, lineText, redoText, numbersText, answerText, outcomeText}
 use Rattle.forms.specs.Reading as reading
-use Rattle.forms.specs.Reading.{readDid, readSite, readCommand, readWhole, readLine}
-use Rattle.rules.specs.Book.{touches, runsAt}
+use Rattle.forms.specs.Reading.{readBase, readDid, readSite, readCommand, readWhole, readLine}
+use Rattle.rules.specs.Book.{startCell, touches, runsAt}
 use Rattle.rules.specs.Checks.{check, andThen, wrongCount, noSuchHistory, historyTwice, updateMisfits}
 use Rattle.rules.specs.Checks.{formRefusal, updatesRefusal}
-use Rattle.rules.specs.Log.{ended, linesText, logText, linesFrom, linesOf, restFrom, stablesFrom, stablesAt, weaveFrom, markFrom}
+use Rattle.rules.specs.Log.{readSecond, baseFits, inOrder, headText, ended, linesText, logText, linesFrom, linesOf, restFrom}
+use Rattle.rules.specs.Log.{stablesFrom, stablesAt, weaveFrom, markFrom}
 use Rattle.rules.specs.Log.{historiesFit, rises, follows, liveIn, tableHolds}
 use Rattle.rules.specs.State.{logBytes, versionAt, liveDone, live, asks, dry, becameDry, rose, lineBytes}
 use Rattle.rules.specs.Calls.{unless, blockedBy, blocked, mayRunNow, ready, attempt, tryFrom, madeReady, neverNow, holdsNever, overtaken, notOvertaken, overtakenIds}
@@ -281,12 +282,13 @@ computed =
     unfold fieldText fieldsText itemsText tailText listText updateText changeText oneText siteText didText stableText lineText redoText in
     unfold numbersText answerText outcomeText in
     unfold reading.field reading.rule reading.doneRule reading.update reading.change reading.one reading.items reading.tail in
-    unfold reading.did reading.addForm reading.redoForm reading.numbered reading.command reading.line readDid readLine readSite readCommand readWhole in
-    unfold replacedWith profileOf enteredWith enterWith enterAllWith cellFromWith cellWith touches runsAt canRunWith in
+    unfold reading.did reading.addForm reading.redoForm reading.numbered reading.command reading.line readDid readLine reading.baseCell in
+    unfold reading.base readBase readSite readCommand readWhole in
+    unfold replacedWith profileOf enteredWith enterWith enterAllWith cellFromWith cellWith startCell touches runsAt canRunWith in
     unfold check andThen wrongCount noSuchHistory historyTwice updateMisfits changeMisfitsWith in
     unfold formRefusal updatesRefusal changesRefusalWith in
-    unfold stablesFrom stablesAt weaveFrom markFrom ended linesText logText linesFrom restFrom historiesFit acceptsWith in
-    unfold rises follows liveIn tableHolds readLines readFirst readLog in
+    unfold stablesFrom stablesAt weaveFrom markFrom ended linesText logText headText linesFrom restFrom historiesFit acceptsWith in
+    unfold rises follows liveIn tableHolds inOrder baseFits readLines readSecond readFirst readLog in
     unfold logBytes versionAt liveDone live asks dry becameDry rose lineBytes in
     unfold unless blockedBy blocked mayRunNow ready attempt tryFrom madeReady in
     unfold neverNow holdsNever overtaken notOvertaken overtakenIds nothingOrders idPending idDone in

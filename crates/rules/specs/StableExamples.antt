@@ -15,18 +15,19 @@ use Rattle.forms.specs.Refusals.{numberOf}
 use Rattle.forms.specs.Forms.{Did, fieldText, fieldsText, itemsText, tailText, listText, updateText, changeText, oneText}
 use Rattle.forms.specs.Forms.{siteText, didText, stableText, lineText, redoText, numbersText, answerText, outcomeText}
 use Rattle.forms.specs.Reading as reading
-use Rattle.forms.specs.Reading.{readDid, readLine, readSite, readCommand, readWhole}
+use Rattle.forms.specs.Reading.{readBase, readDid, readLine, readSite, readCommand, readWhole}
 use Rattle.forms.specs.declared.DoneRule.the-variants.{DidInc}
 use Rattle.forms.specs.declared.Refusal.the-variants.{AboveLimit, NoRoom, BadLog}
 use Rattle.rules.specs.Rules.{profileOf, replacedWith}
-use Rattle.rules.specs.Book.{touches, runsAt, canRunWith, cellFromWith, cellWith, enterAllWith, enterWith, enteredWith}
+use Rattle.rules.specs.Book.{startCell, touches, runsAt, canRunWith, cellFromWith, cellWith, enterAllWith, enterWith, enteredWith}
 use Rattle.rules.specs.Checks.{check, andThen, wrongCount, noSuchHistory, historyTwice, updateMisfits, changeMisfitsWith}
 use Rattle.rules.specs.Checks.{formRefusal, updatesRefusal, changesRefusalWith}
-use Rattle.rules.specs.Log.{stablesFrom, stablesAt, weaveFrom, markFrom, upToDid, reported, ended, didsText, linesText, logText}
+use Rattle.rules.specs.Log.{readSecond, baseFits, inOrder, headText, stablesFrom, stablesAt, weaveFrom, markFrom, upToDid, reported}
+use Rattle.rules.specs.Log.{ended, didsText, linesText, logText}
 use Rattle.rules.specs.Log.{linesFrom, restFrom, historiesFit, acceptsWith, rises, follows, liveIn, tableHolds}
-use Rattle.rules.specs.Log.{readLines, readFirst, readLog}
+use Rattle.rules.specs.Log.{closing, readLines, readFirst, readLog}
 use Rattle.rules.specs.State.{logBytes, versionAt, liveDone, live, asks, dry, becameDry, rose, lineBytes, bytesOf}
-use Rattle.rules.specs.Calls.{unless, openFull, openRefusal, opened, openSite, blockedBy, blocked, mayRunNow, ready, attempt}
+use Rattle.rules.specs.Calls.{baseCut, unless, openFull, openRefusal, opened, openSite, blockedBy, blocked, mayRunNow, ready, attempt}
 use Rattle.rules.specs.Calls.{tryFrom, madeReady, neverNow, holdsNever, overtaken, notOvertaken, overtakenIds, nothingOrders}
 use Rattle.rules.specs.Calls.{idPending, idDone, alreadyDone, readOvertaken, atHighest, tableFull, addRefusal, arrived, add}
 use Rattle.rules.specs.Calls.{changeOf, lineOf, valuesAfter, inProgress, future, without, logFull, finished, finishFound, finish}
@@ -37,7 +38,7 @@ use Rattle.rules.specs.Keeper.{sameBytes}
 use Rattle.rules.specs.Session.{turnOf, opening, calling, obey, onCommand, turn, replies, restReply, sessionIn}
 use Rattle.rules.specs.Examples.{same-bytes}
 use Rattle.rules.specs.RuleTable.{begins, answers}
-use Rattle.rules.specs.OldLog.{readOldLinesWith, readOldFirstWith, readOldWith, notUpgraded, upgraded, closing, upgradedLines}
+use Rattle.rules.specs.OldLog.{readOldLinesWith, readOldFirstWith, readOldWith, notUpgraded, upgraded, upgradedLines}
 use Rattle.rules.specs.OldLog.{upgradedText, upgradeAs, upgrade}
 
 -- ### Sessions
@@ -182,19 +183,20 @@ computed =
     unfold numbersText answerText outcomeText in
     unfold reading.field reading.rule reading.doneRule reading.update reading.change reading.one reading.items reading.tail reading.did in
     unfold reading.addForm reading.redoForm reading.numbered reading.command reading.line in
-    unfold readDid readLine readSite readCommand readWhole in
-    unfold replacedWith profileOf enteredWith enterWith enterAllWith cellFromWith cellWith touches runsAt canRunWith in
+    unfold readDid readLine reading.baseCell reading.base readBase readSite readCommand readWhole in
+    unfold replacedWith profileOf enteredWith enterWith enterAllWith cellFromWith cellWith startCell touches runsAt canRunWith in
     unfold check andThen wrongCount noSuchHistory historyTwice updateMisfits changeMisfitsWith in
     unfold formRefusal updatesRefusal changesRefusalWith in
-    unfold stablesFrom stablesAt weaveFrom markFrom upToDid reported ended didsText linesText logText linesFrom restFrom historiesFit in
-    unfold acceptsWith rises follows liveIn tableHolds readLines readFirst readLog in
+    unfold stablesFrom stablesAt weaveFrom markFrom upToDid reported ended didsText linesText logText headText linesFrom restFrom in
+    unfold historiesFit in
+    unfold acceptsWith rises follows liveIn tableHolds inOrder baseFits readLines readSecond readFirst readLog in
     unfold logBytes versionAt liveDone live asks dry becameDry rose lineBytes bytesOf in
     unfold unless openFull openRefusal opened openSite blockedBy blocked mayRunNow ready attempt tryFrom madeReady in
     unfold neverNow holdsNever overtaken notOvertaken overtakenIds nothingOrders idPending idDone in
     unfold alreadyDone readOvertaken atHighest tableFull addRefusal arrived add changeOf lineOf valuesAfter inProgress future in
     unfold without logFull finished finishFound finish in
     unfold persistent aboveMark stableFull stableRefusal stabled stable show in
-    unfold restarted restartAs restart cutAbove cut stale redoRefusal behind pick in
+    unfold restarted restartAs restart cutAbove baseCut cut stale redoRefusal behind pick in
     unfold drain delivered redoRead redo end writableUpdate writable perform step in
     unfold turnOf opening calling obey onCommand turn replies restReply sessionIn in
     tt
@@ -246,9 +248,9 @@ changeovers =
     unfold word digitsWithin digits more number fieldText fieldsText itemsText tailText listText changeText oneText in
     unfold siteText didText stableText lineText readDid readSite readWhole in
     unfold reading.field reading.doneRule reading.change reading.one reading.items reading.tail reading.did in
-    unfold replacedWith profileOf enteredWith enterWith enterAllWith cellFromWith cellWith touches runsAt canRunWith in
+    unfold replacedWith profileOf enteredWith enterWith enterAllWith cellFromWith cellWith startCell touches runsAt canRunWith in
     unfold check andThen wrongCount noSuchHistory historyTwice changeMisfitsWith formRefusal changesRefusalWith in
-    unfold ended linesText logText linesFrom historiesFit acceptsWith in
+    unfold ended linesText logText headText linesFrom historiesFit acceptsWith in
     record {
       torn = refl;
       bare = refl;

@@ -8,11 +8,15 @@ use Rattle.forms.specs.Decimal.{Step}
 use Rattle.forms.specs.Decimal.Step.{got, bad}
 use Rattle.forms.specs.Forms.{Update, Did}
 use Rattle.forms.specs.Reading.{readDid}
-use Rattle.forms.specs.declared.Refusal.the-variants.{Unreadable, TableFull, AboveLimit}
+use Rattle.forms.specs.declared.Refusal.the-variants.{Unreadable, TableFull}
 use Rattle.rules.specs.Checks.{check}
 use Rattle.rules.specs.Log.{readLog}
 use Rattle.rules.specs.State.{State, Reply, refused, ok, logBytes}
-use Rattle.rules.specs.Calls.{unless, tableFull, addRefusalWhen, added, finish, withdraw, persistent, stable, show, restartAs, cutAbove, redoRefusalWhen, delivered, end, Call, Add, Finish, Withdraw, Persistent, Stable, Show, Cut, Redo, End, writable}
+use Rattle.rules.specs.Calls.{unless, tableFull, addRefusalWhen, added, finish, withdraw, persistent, stable, show, restartAs}
+use Rattle.rules.specs.Calls.{cutRefusal, redoRefusalWhen}
+use Rattle.rules.specs.Calls.{delivered, end, Call, Add, Finish, Withdraw, Persistent, Stable, Show, Cut, Changeover, Redo, End}
+use Rattle.rules.specs.Calls.{writable}
+use Rattle.rules.specs.Trim.{trimText, trimRefusal}
 
 unfoldable pub addWhen : Bool → ℕ → List Update → State → Reply
 addWhen full i us st = unless (addRefusalWhen full i us st) (added i us st)
@@ -31,8 +35,14 @@ lastly full (ok st answer) = unless (check full TableFull none) (ok st answer)
 
 unfoldable pub cutWhen : Bool → ℕ → ℕ → State → Reply
 cutWhen full k room st =
-    unless (check (cutAbove k room st) AboveLimit none)
+    unless (cutRefusal k room st)
     (lastly full (restartAs room (readLog (take k (logBytes st)))))
+
+-- A changeover is a restart.
+unfoldable pub changeoverWhen : Bool → ℕ → ℕ → State → Reply
+changeoverWhen full n room st =
+    unless (trimRefusal n room st)
+    (lastly full (restartAs room (readLog (trimText n st))))
 
 unfoldable pub performWhen : Bool → Call → State → Reply
 performWhen full (Add i us) st = addWhen full i us st
@@ -42,6 +52,7 @@ performWhen full (Persistent n) st = persistent n st
 performWhen full (Stable n) st = stable n st
 performWhen full (Show h) st = show h st
 performWhen full (Cut k room) st = cutWhen full k room st
+performWhen full (Changeover n room) st = changeoverWhen full n room st
 performWhen full (Redo line) st = redoWhen full line st
 performWhen full End st = end st
 
@@ -49,7 +60,8 @@ performWhen full End st = end st
 unfoldable pub stepWhen : Bool → Call → State → Reply
 stepWhen full c st = unless (check (not (writable c)) Unreadable none) (performWhen full c st)
 
--- the test of 10 that a call comes to: "An add or redo is refused 10 exactly when the site has 64, or" from outside; a cut from outside only
+-- the test of 10 that a call comes to: "An add or redo is refused 10 exactly when the site has 64, or" from outside; a cut or changeover
+-- from outside only
 abbrev pub meets : Bool → Call → State → Bool
 meets full (Add i us) st = full || tableFull st
 meets full (Finish i) st = false
@@ -58,5 +70,6 @@ meets full (Persistent n) st = false
 meets full (Stable n) st = false
 meets full (Show h) st = false
 meets full (Cut k room) st = full
+meets full (Changeover n room) st = full
 meets full (Redo line) st = full || tableFull st
 meets full End st = false

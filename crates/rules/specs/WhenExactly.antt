@@ -14,15 +14,15 @@ use Rattle.forms.specs.Reading.{readDid}
 use Rattle.forms.specs.declared.Refusal.{Refusal}
 use Rattle.forms.specs.declared.Refusal.the-variants.{Unreadable}
 use Rattle.forms.specs.declared.Refusal.the-variants.{TableFull, NoRoom}
-use Rattle.forms.specs.declared.Refusal.the-variants.{AboveLimit}
 use Rattle.rules.specs.Checks.{check}
 use Rattle.rules.specs.Log.{readLog}
 use Rattle.rules.specs.State.{State, Reply, refused, logBytes}
 use Rattle.rules.specs.Calls.{unless, tableFull}
 use Rattle.rules.specs.Calls.{logFull, added}
-use Rattle.rules.specs.Calls.{restartAs, cutAbove, cut, delivered, Call}
-use Rattle.rules.specs.Calls.{Add, Finish, Withdraw, Persistent, Stable, Show, Cut, Redo, End, writable, perform, step}
-use Rattle.rules.specs.When.{addWhen, redoReadWhen, redoWhen, lastly, cutWhen, performWhen, stepWhen, meets}
+use Rattle.rules.specs.Calls.{restartAs, cutRefusal, cut, changeover, delivered, Call}
+use Rattle.rules.specs.Trim.{trimText, trimRefusal}
+use Rattle.rules.specs.Calls.{Add, Finish, Withdraw, Persistent, Stable, Show, Cut, Changeover, Redo, End, writable, perform, step}
+use Rattle.rules.specs.When.{addWhen, redoReadWhen, redoWhen, lastly, cutWhen, changeoverWhen, performWhen, stepWhen, meets}
 use Rattle.rules.specs.WhenLaws.{ten-why, addBefore, redoBefore}
 
 -- ### "checked after 15"
@@ -37,14 +37,28 @@ pub cut-when : (full : Bool) (k room : ℕ) (st : State) → stepWhen full (Cut 
 unfolding step stepWhen perform performWhen cut cutWhen
 cut-when full k room st =
     ap (unless (check (not (writable (Cut k room))) Unreadable none))
-    (unless-lastly (check (cutAbove k room st) AboveLimit none) full (restartAs room (readLog (take k (logBytes st)))))
+    (unless-lastly (cutRefusal k room st) full (restartAs room (readLog (take k (logBytes st)))))
     ∙ unless-lastly (check (not (writable (Cut k room))) Unreadable none) full (cut k room st)
+
+-- So it is of a changeover.
+pub changeover-when : (full : Bool) (n room : ℕ) (st : State) →
+    stepWhen full (Changeover n room) st ≡ lastly full (step (Changeover n room) st)
+unfolding step stepWhen perform performWhen changeover changeoverWhen
+changeover-when full n room st =
+    ap (unless (check (not (writable (Changeover n room))) Unreadable none))
+    (unless-lastly (trimRefusal n room st) full (restartAs room (readLog (trimText n st))))
+    ∙ unless-lastly (check (not (writable (Changeover n room))) Unreadable none) full (changeover n room st)
 
 -- One that the site alone refuses is refused with the same number, whatever the flag.
 pub cut-refused : (full : Bool) (k room : ℕ) (st : State) (r : Refusal) → step (Cut k room) st ≡ refused r →
     stepWhen full (Cut k room) st ≡ refused r
 unfolding lastly
 cut-refused full k room st r e = cut-when full k room st ∙ ap (lastly full) e
+
+pub changeover-refused : (full : Bool) (n room : ℕ) (st : State) (r : Refusal) → step (Changeover n room) st ≡ refused r →
+    stepWhen full (Changeover n room) st ≡ refused r
+unfolding lastly
+changeover-refused full n room st r e = changeover-when full n room st ∙ ap (lastly full) e
 
 -- ### "exactly when"
 
@@ -61,6 +75,7 @@ takesEntry (Persistent n) = false
 takesEntry (Stable n) = false
 takesEntry (Show h) = false
 takesEntry (Cut k room) = false
+takesEntry (Changeover n room) = false
 takesEntry (Redo line) = true
 takesEntry End = false
 
@@ -74,6 +89,7 @@ full-same (Persistent n) st t e = refl
 full-same (Stable n) st t e = refl
 full-same (Show h) st t e = refl
 full-same (Cut k room) st t e = absurd (true-T false t)
+full-same (Changeover n room) st t e = absurd (true-T false t)
 full-same (Redo line) st t e = go (readDid line)
   where
     go : (x : Step Did) → unless (check (not (writable (Redo line))) Unreadable none) (redoReadWhen false x st) ≡
@@ -97,6 +113,7 @@ entry-exactly full c st t comes = (λ p. why c t (ten-why full c st p), λ q. ba
     why (Stable n) u q = absurd q
     why (Show h) u q = absurd q
     why (Cut k room) u q = absurd (true-T false u)
+    why (Changeover n room) u q = absurd (true-T false u)
     why (Redo line) u q = q
     why End u q = absurd q
 

@@ -23,10 +23,13 @@ use Rattle.rules.specs.Log.{Journal, journal, noJournal, readLog}
 use Rattle.rules.specs.State.{Operation, State, Reply, refused, ok, settle, logBytes}
 use Rattle.rules.specs.Calls.{unless, nothingOrders, idPending, idDone, alreadyDone, readOvertaken, atHighest, tableFull, stale}
 use Rattle.rules.specs.Calls.{logFull, addRefusal, added, add, inProgress, finished, finishFound, finish, withdrawRefusal, withdraw}
-use Rattle.rules.specs.Calls.{persistent, stable, show, end, restartAs, cutAbove, cut, redoRefusal, delivered, redoRead, redo, Call}
-use Rattle.rules.specs.Calls.{Add, Finish, Withdraw, Persistent, Stable, Show, Cut, Redo, End, writable, perform, step, stableRefusal}
-use Rattle.rules.specs.CheckLaws.{refused-not-ok, some-not-none, unless-check}
-use Rattle.rules.specs.When.{addWhen, redoReadWhen, redoWhen, lastly, cutWhen, performWhen, stepWhen, meets}
+use Rattle.rules.specs.Calls.{persistent, stable, show, end, stableRefusal, restartAs, cutAbove, baseCut, cutRefusal, cut, changeover}
+use Rattle.rules.specs.Calls.{redoRefusal, delivered, redoRead, redo, Call}
+use Rattle.rules.specs.Trim.{trimAbove, trimFull, trimText, trimRefusal}
+use Rattle.rules.specs.Calls.{Add, Finish, Withdraw, Persistent, Stable, Show, Cut, Changeover, Redo, End, writable, perform, step}
+use Rattle.rules.specs.Calls.{stableRefusal}
+use Rattle.rules.specs.CheckLaws.{refused-not-ok, some-not-none, unless-ok, unless-check}
+use Rattle.rules.specs.When.{addWhen, redoReadWhen, redoWhen, lastly, cutWhen, changeoverWhen, performWhen, stepWhen, meets}
 use Rattle.rules.specs.Good.{Good}
 use Rattle.rules.specs.GoodLaws.{good-step}
 use Rattle.rules.specs.Checks.{changesRefusalWith}
@@ -164,7 +167,7 @@ redo-ten full (got d rest) st =
     chain-ten (redoBefore d st) full (tableFull st) (check (logFull d st) NoRoom none) (delivered d st) (redo-settles d st)
 
 perform-ten : (full : Bool) (c : Call) (st : State) → TenOr (performWhen full c st) (perform c st)
-unfolding performWhen perform redoWhen redo cutWhen cut
+unfolding performWhen perform redoWhen redo cutWhen cut changeoverWhen changeover
 perform-ten full (Add i us) st = add-ten full i us st
 perform-ten full (Finish i) st = inr refl
 perform-ten full (Withdraw i) st = inr refl
@@ -172,7 +175,9 @@ perform-ten full (Persistent n) st = inr refl
 perform-ten full (Stable n) st = inr refl
 perform-ten full (Show h) st = inr refl
 perform-ten full (Cut k room) st =
-    unless-ten (check (cutAbove k room st) AboveLimit none) _ _ (lastly-ten full (restartAs room (readLog (take k (logBytes st)))))
+    unless-ten (cutRefusal k room st) _ _ (lastly-ten full (restartAs room (readLog (take k (logBytes st)))))
+perform-ten full (Changeover n room) st =
+    unless-ten (trimRefusal n room st) _ _ (lastly-ten full (restartAs room (readLog (trimText n st))))
 perform-ten full (Redo line) st = redo-ten full (readDid line) st
 perform-ten full End st = inr refl
 
@@ -183,7 +188,7 @@ step-ten full c st = unless-ten (check (not (writable c)) Unreadable none) (perf
 
 -- 01 is the rule without a flag.
 perform-off : (c : Call) (st : State) → performWhen false c st ≡ perform c st
-unfolding performWhen perform addWhen add addRefusal redoWhen redo redoReadWhen redoRead redoRefusal cutWhen cut
+unfolding performWhen perform addWhen add addRefusal redoWhen redo redoReadWhen redoRead redoRefusal cutWhen cut changeoverWhen changeover
 perform-off (Add i us) st = refl
 perform-off (Finish i) st = refl
 perform-off (Withdraw i) st = refl
@@ -191,7 +196,9 @@ perform-off (Persistent n) st = refl
 perform-off (Stable n) st = refl
 perform-off (Show h) st = refl
 perform-off (Cut k room) st =
-    ap (λ (x : Reply). unless (check (cutAbove k room st) AboveLimit none) x) (lastly-off (restartAs room (readLog (take k (logBytes st)))))
+    ap (λ (x : Reply). unless (cutRefusal k room st) x) (lastly-off (restartAs room (readLog (take k (logBytes st)))))
+perform-off (Changeover n room) st =
+    ap (λ (x : Reply). unless (trimRefusal n room st) x) (lastly-off (restartAs room (readLog (trimText n st))))
 perform-off (Redo line) st = go (readDid line)
   where
     go : (x : Step Did) → redoReadWhen false x st ≡ redoRead x st
@@ -280,7 +287,7 @@ lastly-ok false (ok s b) st a p t = t
 
 pub restart-not-ten : (room : ℕ) (j : Journal) → restartAs room j ≡ refused TableFull → ⊥
 unfolding restartAs isTenth numberOf
-restart-not-ten room (journal n log) p = ok-not-ten _ _ p
+restart-not-ten room (journal n β lines) p = ok-not-ten _ _ p
 restart-not-ten room noJournal p = differs BadLog refl (refused-same BadLog TableFull p)
 
 finish-not-ten : (x : Option Operation) (st : State) → finishFound x st ≡ refused TableFull → ⊥
@@ -289,7 +296,7 @@ finish-not-ten none st p = differs WrongState refl (refused-same WrongState Tabl
 finish-not-ten (some x) st p = unless-not-ten _ _ (check-not-ten _ NoRoom none refl none-not-ten) (ok-not-ten _ _) p
 
 perform-why : (full : Bool) (c : Call) (st : State) → performWhen full c st ≡ refused TableFull → T (meets full c st)
-unfolding performWhen addWhen redoWhen redoReadWhen cutWhen finish withdraw withdrawRefusal persistent stable stableRefusal show end delivered isTenth numberOf
+unfolding performWhen addWhen redoWhen redoReadWhen cutWhen changeoverWhen trimRefusal finish withdraw withdrawRefusal persistent stable stableRefusal show end delivered isTenth numberOf
 perform-why full (Add i us) st p =
     chain-why (addBefore i us st) (full || tableFull st) none (added i us st) (add-settles i us st) none-not-ten (ok-not-ten _ _) p
 perform-why full (Finish i) st p =
@@ -304,7 +311,11 @@ perform-why full (Stable n) st p =
 perform-why full (Show h) st p = unless-not-ten _ _ (check-not-ten _ NoSuchHistory none refl none-not-ten) (ok-not-ten _ _) p
 perform-why full (Cut k room) st p =
     lastly-why full (restartAs room (readLog (take k (logBytes st)))) (restart-not-ten room (readLog (take k (logBytes st))))
-    (unless-over _ _ (check-not-ten (cutAbove k room st) AboveLimit none refl none-not-ten) p)
+    (unless-over _ _ (check-not-ten (cutAbove k room st) AboveLimit _ refl (check-not-ten (baseCut k st) BadLog none refl none-not-ten)) p)
+perform-why full (Changeover n room) st p =
+    lastly-why full (restartAs room (readLog (trimText n st))) (restart-not-ten room (readLog (trimText n st)))
+    (unless-over _ _ (check-not-ten (trimAbove n room st) AboveLimit _ refl
+    (check-not-ten (trimFull n room st) NoRoom none refl none-not-ten)) p)
 perform-why full (Redo line) st p = go (readDid line) p
   where
     go : (x : Step Did) → redoReadWhen full x st ≡ refused TableFull → T (full || tableFull st)
@@ -320,7 +331,7 @@ unfolding stepWhen isTenth numberOf
 ten-why full c st p = perform-why full c st (unless-over _ _ (check-not-ten (not (writable c)) Unreadable none refl none-not-ten) p)
 
 perform-met : (full : Bool) (c : Call) (st after : State) (a : Answer) → performWhen full c st ≡ ok after a → T (meets full c st) → ⊥
-unfolding performWhen addWhen redoWhen redoReadWhen cutWhen
+unfolding performWhen addWhen redoWhen redoReadWhen cutWhen changeoverWhen
 perform-met full (Add i us) st after a p t =
     chain-ok (addBefore i us st) (full || tableFull st) none (added i us st) (add-settles i us st) after a p t
 perform-met full (Finish i) st after a p t = t
@@ -329,7 +340,9 @@ perform-met full (Persistent n) st after a p t = t
 perform-met full (Stable n) st after a p t = t
 perform-met full (Show h) st after a p t = t
 perform-met full (Cut k room) st after a p t =
-    lastly-ok full (restartAs room (readLog (take k (logBytes st)))) after a (unless-check (cutAbove k room st) AboveLimit _ after a p .1) t
+    lastly-ok full (restartAs room (readLog (take k (logBytes st)))) after a (unless-ok (cutRefusal k room st) _ after a p .1) t
+perform-met full (Changeover n room) st after a p t =
+    lastly-ok full (restartAs room (readLog (trimText n st))) after a (unless-ok (trimRefusal n room st) _ after a p .1) t
 perform-met full (Redo line) st after a p t = go (readDid line) p
   where
     go : (x : Step Did) → redoReadWhen full x st ≡ ok after a → ⊥

@@ -5,7 +5,7 @@ use mathlib.Core.Bool.{Bool, true, false, cond, not}
 use mathlib.Core.List.{List, [], _∷_, _++_, map-append, Memᴰ·map, Memᴰ·of-map}
 use mathlib.Core.List.{List·Memᴰ as Mem, List·Memᴰ·head as here, List·Memᴰ·tail as there, List·Memᴰ·not-nil, Memᴰ·append-right}
 use mathlib.Core.Option.{Option, none, some}
-use Prim.Native.Nat.{ℕ, _+_, _≤_, _<_}
+use Prim.Native.Nat.{ℕ, _+_, _-_, _≤_, _<_}
 use native.Mathlib.Omega.{arith}
 use lib.Dec.{T, T-not, eqb, eqb-refl}
 use lib.ListN.{length, length-append, length-drop, drop}
@@ -16,13 +16,15 @@ use Rattle.forms.specs.ListLaws.{and-right, all-at}
 use Rattle.forms.specs.Forms.{Update, Did, Answer, didLine}
 use Rattle.forms.specs.declared.Refusal.the-variants.{NothingOrders, IdPending, AlreadyDone, ReadOvertaken, HighestVersion, TableFull, WrongState, NoRoom, OutOfTurn}
 use Rattle.forms.specs.Limits.{liveLimit}
-use Rattle.rules.specs.State.{Operation, State, ok, logBytes, liveDone, live, lineBytes, withPending, withLog, linesIn}
+use Rattle.rules.specs.State.{Operation, State, ok, logBytes, startOf, liveDone, live, lineBytes, withPending, withLog, linesIn}
 use Rattle.rules.specs.Calls.{mayRunNow, tryAll, neverNow, holdsNever, overtaken, notOvertaken, idPending, idDone, alreadyDone, tableFull}
 use Rattle.rules.specs.Calls.{addRefusal, arrived, add, lineOf, inProgress, without, logFull, finished, finishFound, finish, withdrawRefusal}
 use Rattle.rules.specs.Calls.{withdraw}
 use Rattle.rules.specs.Calls.{writableUpdate}
 use Rattle.rules.specs.Good.{Good, FormedDid, FormedOperation, didIds, operationIds, Rises}
 use Rattle.rules.specs.FitLaws.{length-grown, few-did-lines}
+use Rattle.rules.specs.HeadLaws.{head-low, head-places}
+use Rattle.rules.specs.Book.{startCell}
 use Rattle.rules.specs.CheckLaws.{refused-not-ok, check-none, andThen-none, unless-ok, unless-check, not-lt, not-le, or-false-left, or-false-right}
 use Rattle.rules.specs.WeaveLaws.{weave-append, mark-dids, rises-did}
 use Rattle.rules.specs.Log.{weave, mark}
@@ -41,7 +43,7 @@ true-not-false b p q = let z : _≡_ {A = ℕ} 0 1 = cc in omega arith
 
 -- ### Other pending operations
 
-good-pending : (st : State) → Good st → Pending (st .histories) (operationIds (st .pending)) (st .log) (st .pending)
+good-pending : (st : State) → Good st → Pending (startOf st) (st .histories) (operationIds (st .pending)) (st .log) (st .pending)
 good-pending st G =
     record {
       idsAre = refl;
@@ -53,13 +55,14 @@ good-pending st G =
 
 module _ (st : State) (xs : List Operation) where
   -- The same site with other pending operations.
-  good-with : Good st → st .restoring ≡ false → Pending (st .histories) (operationIds xs) (st .log) xs →
+  good-with : Good st → st .restoring ≡ false → Pending (startOf st) (st .histories) (operationIds xs) (st .log) xs →
       length (st .waiting) + length xs + length (liveDone st) ≤ liveLimit →
       Nodup (didIds (liveDone st) ++ (didIds (st .waiting) ++ operationIds xs)) → Good (withPending xs st)
   unfolding live liveDone logBytes
   good-with G off P few ids =
       record {
         histories = G .histories;
+        head = G .head;
         formed = G .formed;
         ran = G .ran;
         waitingFormed = G .waitingFormed;
@@ -68,6 +71,7 @@ module _ (st : State) (xs : List Operation) where
         roomLimit = G .roomLimit;
         rises = G .rises;
         below = G .below;
+        baseBelow = G .baseBelow;
         leftBelow = G .leftBelow;
         stableBelow = G .stableBelow;
         persistentBelow = G .persistentBelow;
@@ -79,32 +83,33 @@ module _ (st : State) (xs : List Operation) where
         running = P .may;
         noNever = P .noNever;
         apart =
-            apart-unblocked (st .histories) (operationIds xs) (st .log) xs P
+            apart-unblocked (startOf st) (st .histories) (operationIds xs) (st .log) xs P
             (nodup-right (didIds (st .waiting)) (operationIds xs) (nodup-right (didIds (liveDone st)) (didIds (st .waiting) ++ operationIds xs) ids));
       }
 
 -- "the future operations are tried once"
-good-tried : (st : State) → Good st → st .restoring ≡ false → Good (withPending (tryAll (st .log) (st .pending)) st)
+good-tried : (st : State) → Good st → st .restoring ≡ false → Good (withPending (tryAll (startOf st) (st .log) (st .pending)) st)
 unfolding live
 good-tried st G off =
     let n = st .histories in
     let log = st .log in
     let xs = st .pending in
-    good-with st (tryAll log xs) G off
-    (subst (λ (ids : List ℕ). Pending n ids log (tryAll log xs)) (sym (try-ids log xs)) (pending-try n (operationIds xs) log xs (good-pending st G)))
-    (omega (arith, G .few, try-length (st .log) (st .pending)))
-    (subst (λ (ids : List ℕ). Nodup (didIds (liveDone st) ++ (didIds (st .waiting) ++ ids))) (sym (try-ids log xs)) (G .ids))
+    good-with st (tryAll (startOf st) log xs) G off
+    (subst (λ (ids : List ℕ). Pending (startOf st) n ids log (tryAll (startOf st) log xs)) (sym (try-ids (startOf st) log xs))
+    (pending-try (startOf st) n (operationIds xs) log xs (good-pending st G)))
+    (omega (arith, G .few, try-length (startOf st) (st .log) (st .pending)))
+    (subst (λ (ids : List ℕ). Nodup (didIds (liveDone st) ++ (didIds (st .waiting) ++ ids))) (sym (try-ids (startOf st) log xs)) (G .ids))
 
 -- ### Add
 
 add-good : (i : ℕ) (us : List Update) (st : State) → Good st → st .restoring ≡ false →
     FormedOperation (st .histories) (record { id = i; updates = us; running = false }) → idPending i st ≡ false →
-    idDone i st ≡ false → (T (any (neverNow (st .log)) us) → ⊥) → live st < liveLimit → Good (withPending (arrived i us st) st)
+    idDone i st ≡ false → (T (any (neverNow (startOf st) (st .log)) us) → ⊥) → live st < liveLimit → Good (withPending (arrived i us st) st)
 unfolding arrived live holdsNever
 add-good i us st G off F e7 e8 never e10 =
     good-with st (st .pending ++ x ∷ []) G off
-    (subst (λ (ids : List ℕ). Pending (st .histories) ids (st .log) (st .pending ++ x ∷ [])) (sym more)
-    (pending-more (st .histories) (operationIds (st .pending)) (st .log) (st .pending) x (good-pending st G) F refl never))
+    (subst (λ (ids : List ℕ). Pending (startOf st) (st .histories) ids (st .log) (st .pending ++ x ∷ [])) (sym more)
+    (pending-more (startOf st) (st .histories) (operationIds (st .pending)) (st .log) (st .pending) x (good-pending st G) F refl never))
     (omega (arith, length-append (st .pending) (x ∷ [])))
     (subst (λ (ids : List ℕ). Nodup (didIds (liveDone st) ++ (didIds (st .waiting) ++ ids))) (sym more)
     (ids-pend i (didIds (liveDone st)) (didIds (st .waiting)) (operationIds (st .pending)) (fresh-tested i st e7 e8) (G .ids)))
@@ -139,11 +144,13 @@ good-add i us st st′ a G le w e =
 -- ### Withdraw
 
 -- What is left of the pending operations may still run.
-pending-without : (i : ℕ) (st : State) → Good st → Pending (st .histories) (operationIds (without i (st .pending))) (st .log) (without i (st .pending))
+pending-without : (i : ℕ) (st : State) → Good st →
+    Pending (startOf st) (st .histories) (operationIds (without i (st .pending))) (st .log) (without i (st .pending))
 unfolding without
 pending-without i st G =
     let f : Operation → Bool = λ x. not (eqb (x .id) i) in
-    pending-part (st .histories) (operationIds (st .pending)) (st .log) (st .pending) (keep f (st .pending)) (st .log) (good-pending st G)
+    pending-part (startOf st) (st .histories) (operationIds (st .pending)) (st .log) (st .pending) (keep f (st .pending)) (st .log)
+    (good-pending st G)
     (λ y k. mem-of-keep f (st .pending) k .0)
     (λ y k r. G .running y (mem-of-keep f (st .pending) k .0) r)
     (λ y k t. G .noNever y (mem-of-keep f (st .pending) k .0) t)
@@ -175,20 +182,23 @@ module _ {A : Type 0} (f : A → Bool) where
 
 -- An operation in progress done, and taken from the pending ones, with those that it overtook.
 finish-good : (st : State) (x : Operation) → Good st → Mem x (st .pending) → T (x .running) → st .restoring ≡ false →
-    length (logBytes st) + sum lineBytes (st .waiting) + lineBytes (lineOf (st .log) x) ≤ st .room →
-    (let log = st .log ++ lineOf (st .log) x ∷ [] in Good (withLog log (withPending (notOvertaken log (without (x .id) (st .pending))) st)))
+    length (logBytes st) + sum lineBytes (st .waiting) + lineBytes (lineOf (startOf st) (st .log) x) ≤ st .room →
+    (let log = st .log ++ lineOf (startOf st) (st .log) x ∷ [] in
+    Good (withLog log (withPending (notOvertaken (startOf st) log (without (x .id) (st .pending))) st)))
 unfolding live liveDone logBytes without notOvertaken lineOf
 finish-good st x G at on off fits =
     record {
       histories = G .histories;
+      head = G .head;
       formed = λ e k. formed-one e (mem-snoc (st .log) k);
-      ran = ran-snoc (st .log) d (G .ran) (line-runs (st .log) x may);
+      ran = ran-snoc (startOf st) (st .log) d (G .ran) (line-runs (startOf st) (st .log) x may);
       waitingFormed = G .waitingFormed;
       quiet = λ e k. absurd (List·Memᴰ·not-nil (mem-along (G .nobodyWaits off) k));
-      fits = omega (arith, length-grown (st .histories) (st .log) (d ∷ []) (st .stables) (G .below));
+      fits = omega (arith, length-grown (st .histories) (st .base) (st .log) (d ∷ []) (st .stables) (G .below));
       roomLimit = G .roomLimit;
-      rises = subst Rises (sym lines′) (rises-did (linesIn st) d (G .rises));
+      rises = subst (Rises (startOf st)) (sym lines′) (rises-did (startOf st) (linesIn st) d (G .rises));
       below = λ s k. let le = G .below s k in omega (arith, length-append (st .log) (d ∷ []));
+      baseBelow = G .baseBelow;
       leftBelow = omega (arith, G .leftBelow, mark′);
       stableBelow = omega (arith, G .stableBelow, mark′);
       persistentBelow = omega (arith, G .persistentBelow, length-append (st .log) (d ∷ []));
@@ -197,8 +207,8 @@ finish-good st x G at on off fits =
             arith,
             G .few,
             length-append (st .log) (d ∷ []),
-            length-drop (st .leftTo) (st .log),
-            length-drop (st .leftTo) log′,
+            length-drop (st .leftTo - startOf st .upTo) (st .log),
+            length-drop (st .leftTo - startOf st .upTo) log′,
             length-keep-less f at gone,
             length-keep stays (keep f (st .pending)),
             low,
@@ -210,12 +220,12 @@ finish-good st x G at on off fits =
       running = P .may;
       noNever = P .noNever;
       apart =
-          apart-unblocked (st .histories) (operationIds left) log′ left P
+          apart-unblocked (startOf st) (st .histories) (operationIds left) log′ left P
           (nodup-right W (operationIds left) (nodup-right D (W ++ operationIds left) fewer));
     }
   where
     d : Did
-    d = lineOf (st .log) x
+    d = lineOf (startOf st) (st .log) x
 
     log′ : List Did
     log′ = st .log ++ d ∷ []
@@ -223,14 +233,14 @@ finish-good st x G at on off fits =
     lines′ : weave log′ (st .stables) ≡ linesIn st ++ didLine d ∷ []
     lines′ = weave-append (st .log) (d ∷ []) (st .stables) (G .below)
 
-    mark′ : mark (weave log′ (st .stables)) ≡ mark (linesIn st)
-    mark′ = ap mark lines′ ∙ mark-dids (linesIn st) (d ∷ [])
+    mark′ : mark (startOf st) (weave log′ (st .stables)) ≡ mark (startOf st) (linesIn st)
+    mark′ = ap (mark (startOf st)) lines′ ∙ mark-dids (startOf st) (linesIn st) (d ∷ [])
 
     f : Operation → Bool
     f y = not (eqb (y .id) (x .id))
 
     stays : Operation → Bool
-    stays y = not (overtaken log′ y)
+    stays y = not (overtaken (startOf st) log′ y)
 
     left : List Operation
     left = keep stays (keep f (st .pending))
@@ -240,24 +250,32 @@ finish-good st x G at on off fits =
     from y k = mem-of-keep f (st .pending) (mem-of-keep stays (keep f (st .pending)) k .0)
 
     D : List ℕ
-    D = didIds (drop (st .leftTo) (st .log))
+    D = didIds (drop (st .leftTo - startOf st .upTo) (st .log))
 
     W : List ℕ
     W = didIds (st .waiting)
 
-    may : T (all (mayRunNow (st .log)) (x .updates))
+    may : T (all (mayRunNow (startOf st) (st .log)) (x .updates))
     may = G .running x at on
 
-    low : st .leftTo ≤ length (st .log)
+    low : st .leftTo - startOf st .upTo ≤ length (st .log)
     low = omega (arith, G .leftBelow, G .stableBelow, G .persistentBelow)
 
-    short : length (st .log) < top
-    short = omega (arith, G .fits, G .roomLimit, few-did-lines (st .histories) (st .log) (st .stables))
+    short : (h : ℕ) → startCell (startOf st) h .place + length (st .log) < top
+    short h = omega (
+      arith,
+      G .fits,
+      G .roomLimit,
+      few-did-lines (st .histories) (st .base) (st .log) (st .stables),
+      head-low (st .histories) (st .base) (G .head),
+      head-places (st .histories) (st .base) (G .head) h,
+    )
 
     formed-one : (e : Did) → (e ≡ d) ⊎ Mem e (st .log) → FormedDid (st .histories) e
     formed-one e (inl p) =
         subst (FormedDid (st .histories)) (sym p)
-        (line-good (st .histories) (st .log) x (each-once (st .histories) (st .log) (G .formed)) short (G .pendingFormed x at) may)
+        (line-good (startOf st) (st .histories) (st .log) x (each-once (st .histories) (st .log) (G .formed)) short
+        (G .pendingFormed x at) may)
     formed-one e (inr k) = G .formed e k
 
     gone : T (f x) → ⊥
@@ -266,17 +284,17 @@ finish-good st x G at on off fits =
     other : (y : Operation) → Mem y left → x .id ≡ y .id → ⊥
     other y k e = T-not (eqb (y .id) (x .id)) (from y k .1) (rw e (eqb-refl (y .id)))
 
-    still : (y : Operation) → Mem y left → T (y .running) → T (all (mayRunNow log′) (y .updates))
+    still : (y : Operation) → Mem y left → T (y .running) → T (all (mayRunNow (startOf st) log′) (y .updates))
     still y k r =
         let q = from y k .0 in
-        still-may (st .log) x y (unblocked-apart (st .pending) (G .apart) x y at q (other y k) on r) (G .running y q r)
+        still-may (startOf st) (st .log) x y (unblocked-apart (st .pending) (G .apart) x y at q (other y k) on r) (G .running y q r)
 
-    P : Pending (st .histories) (operationIds left) log′ left
+    P : Pending (startOf st) (st .histories) (operationIds left) log′ left
     P =
-        pending-part (st .histories) (operationIds (st .pending)) (st .log) (st .pending) left log′ (good-pending st G)
+        pending-part (startOf st) (st .histories) (operationIds (st .pending)) (st .log) (st .pending) left log′ (good-pending st G)
         (λ y k. from y k .0)
         still
-        (λ y k. stay-no-never log′ y (mem-of-keep stays (keep f (st .pending)) k .1) (still y k))
+        (λ y k. stay-no-never (startOf st) log′ y (mem-of-keep stays (keep f (st .pending)) k .1) (still y k))
 
     fewer : Nodup (D ++ (W ++ operationIds left))
     fewer = ids-without D W stays (keep f (st .pending)) (ids-without D W f (st .pending) (G .ids))
@@ -295,8 +313,10 @@ finish-good st x G at on off fits =
           pends = λ k. out (Memᴰ·of-map (λ (y : Operation). y .id) left k);
         }
 
-    ids : Nodup (didIds (drop (st .leftTo) log′) ++ (W ++ operationIds left))
-    ids = rw (ids-snoc (λ (e : Did). e .id) (st .leftTo) (st .log) d low) (ids-do (x .id) D W (operationIds left) fresh fewer)
+    ids : Nodup (didIds (drop (st .leftTo - startOf st .upTo) log′) ++ (W ++ operationIds left))
+    ids =
+        rw (ids-snoc (λ (e : Did). e .id) (st .leftTo - startOf st .upTo) (st .log) d low)
+        (ids-do (x .id) D W (operationIds left) fresh fewer)
 
 pub good-finish : (i : ℕ) (st st′ : State) (a : Answer) → Good st → finish i st ≡ ok st′ a → Good st′
 unfolding finish finishFound finished inProgress logFull
@@ -309,10 +329,10 @@ good-finish i st st′ a G e =
     go (some x) p off r =
         let b = unless-check _ NoRoom _ st′ a r in
         let k = find-at (inProgress i) (st .pending) x p in
-        let log = st .log ++ lineOf (st .log) x ∷ [] in
+        let log = st .log ++ lineOf (startOf st) (st .log) x ∷ [] in
         let left = without (x .id) (st .pending) in
         good-ok _ st′ _ a (b .1)
-        (subst (λ (xs : List Operation). Good (withLog log (withPending xs st))) (sym (drop-before-tries log left .left))
-        (good-tried (withLog log (withPending (notOvertaken log left) st))
+        (subst (λ (xs : List Operation). Good (withLog log (withPending xs st))) (sym (drop-before-tries (startOf st) log left .left))
+        (good-tried (withLog log (withPending (notOvertaken (startOf st) log left) st))
         (finish-good st x G (k .0) (and-right (eqb (x .id) i) (x .running) (k .1)) off (not-lt (st .room) _ (b .0)))
         off))

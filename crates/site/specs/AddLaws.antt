@@ -19,12 +19,13 @@ use Rattle.forms.specs.HeldLaws.{updates-back}
 use Rattle.forms.specs.declared.AskedHeld.{AskedHeld}
 use Rattle.forms.specs.declared.ReplyForm.{ReplyForm}
 use Rattle.forms.specs.declared.Refusal.{Refusal}
-use Rattle.forms.specs.declared.Refusal.the-variants.{NothingOrders, IdPending, AlreadyDone, ReadOvertaken, HighestVersion, TableFull, OutOfTurn}
+use Rattle.forms.specs.declared.Refusal.the-variants.{NothingOrders, IdPending, AlreadyDone, ReadOvertaken, HighestVersion, TableFull}
+use Rattle.forms.specs.declared.Refusal.the-variants.{OutOfTurn}
 use Rattle.rules.specs.Checks.{check, andThen, updatesRefusal}
 use Rattle.rules.specs.CheckLaws.{check-none, andThen-none, formed-updates, not-le}
 use Rattle.rules.specs.Poll.{asksIn, busy}
 use Rattle.rules.specs.PollLaws.{busy-added, busy-few}
-use Rattle.rules.specs.State.{Operation, State, refused, ok, live, withPending}
+use Rattle.rules.specs.State.{Operation, State, refused, ok, startOf, live, withPending}
 use Rattle.rules.specs.Calls.{Call, unless, writable, writableUpdate, perform, step, tryAll, madeReady}
 use Rattle.rules.specs.Calls.{add, addRefusal, arrived, nothingOrders, idPending, idDone, alreadyDone, readOvertaken, atHighest, tableFull}
 use Rattle.history.specs.declared.History.{History}
@@ -59,19 +60,22 @@ module _ (x : CheckInputs) (hs : List History) (i : ℕ) (us : List Update) (st 
   abbrev others : Option Refusal
   others =
       check (nothingOrders us) NothingOrders
-      (conflictRefusal (x .pending) (x .done || any (alreadyDone st) us) (any (readOvertaken st) us) (any (atHighest st) us) (x .full) false)
+      (conflictRefusal (x .pending) (x .done || any (alreadyDone st) us) (any (readOvertaken st) us) (any (atHighest st) us)
+      (x .full) false)
 
   pub add-refusal-is : addRefusal i us st ≡ check (x .restoring) OutOfTurn (andThen (updatesRefusal (x .count) us) others)
   unfolding addRefusal conflictRefusal check
   add-refusal-is =
       sym (λ j. check (s .restoring j) OutOfTurn (andThen (updatesRefusal (s .count j) us) (check (nothingOrders us) NothingOrders
-      (conflictRefusal (s .pending j) (s .done j || any (alreadyDone st) us) (any (readOvertaken st) us) (any (atHighest st) us) (s .full j) false))))
+      (conflictRefusal (s .pending j) (s .done j || any (alreadyDone st) us) (any (readOvertaken st) us) (any (atHighest st) us)
+      (s .full j) false))))
 
   pub nothing-orders-is : nothingOrders us ≡ true → Refused NothingOrders ≡ verdictOf others
   unfolding check verdictOf
   nothing-orders-is e = rw e refl
 
-  pub conflict-is : updatesRefusal (x .count) us ≡ none → nothingOrders us ≡ false → (e : Entry) → Enters (addedOperation i us) e → (done overtaken highest : Bool) →
+  pub conflict-is : updatesRefusal (x .count) us ≡ none → nothingOrders us ≡ false → (e : Entry) → Enters (addedOperation i us) e →
+      (done overtaken highest : Bool) →
       done ≡ (x .done || any (alreadyDoneIn (cellsOf hs)) (operationOf e .updates)) →
       overtaken ≡ any (readOvertakenIn (cellsOf hs)) (operationOf e .updates) →
       highest ≡ any (atHighestIn (cellsOf hs)) (operationOf e .updates) →
@@ -81,7 +85,9 @@ module _ (x : CheckInputs) (hs : List History) (i : ℕ) (us : List Update) (st 
       h ∙ λ j. verdictOf (check (sym orders j) NothingOrders (conflictRefusal (x .pending) (ran j) (late j) (top-is j) (x .full) false))
     where
       within : InFirst (x .count) e
-      within = asked-first (x .count) e (enters .usable) (ap (λ (y : Operation). updatesRefusal (x .count) (y .updates)) (enters .operation) ∙ formed)
+      within =
+          asked-first (x .count) e (enters .usable)
+          (ap (λ (y : Operation). updatesRefusal (x .count) (y .updates)) (enters .operation) ∙ formed)
 
       ran : done ≡ (x .done || any (alreadyDone st) us)
       ran =
@@ -135,14 +141,15 @@ pub add-performs : (i : ℕ) (us : List Update) (st : State) → i ≤ top → T
 unfolding writable perform
 add-performs i us st le w = step-performs (Call.Add i us) st (ap₂ _&&_ (le-leb i top le) (T-true (all writableUpdate us) w))
 
-pub add-refused : (i : ℕ) (us : List Update) (st : State) → i ≤ top → T (all writableUpdate us) → (q : Refusal) → addRefusal i us st ≡ some q →
+pub add-refused : (i : ℕ) (us : List Update) (st : State) → i ≤ top → T (all writableUpdate us) → (q : Refusal) →
+    addRefusal i us st ≡ some q →
     step (Call.Add i us) st ≡ refused q
 unfolding add unless
 add-refused i us st le w q e = add-performs i us st le w ∙ rw e refl
 
 pub add-accepted : (i : ℕ) (us : List Update) (st : State) → i ≤ top → T (all writableUpdate us) → addRefusal i us st ≡ none →
-    step (Call.Add i us) st ≡ ok (withPending (tryAll (st .log) (arrived i us st)) st)
-    (Added (madeReady (arrived i us st) (tryAll (st .log) (arrived i us st))))
+    step (Call.Add i us) st ≡ ok (withPending (tryAll (startOf st) (st .log) (arrived i us st)) st)
+    (Added (madeReady (arrived i us st) (tryAll (startOf st) (st .log) (arrived i us st))))
 unfolding add unless
 add-accepted i us st le w e = add-performs i us st le w ∙ rw e refl
 
@@ -176,18 +183,19 @@ module _ (s : Representation) (bytes : List ℕ) (v : Sound s bytes) (i : ℕ) (
           formed-updates (s .count) us (free-of i us st free .formed) .known u (subst (λ (z : Operation). Mem u (z .updates)) e k)
       go (inr p) = formed-updates (s .count) (y .updates) (v .good .pendingFormed y p .passes) .known u k
 
-  tried : tryAllIn (cellsOf (s .histories)) (operationsOf q) ≡ tryAll (st .log) (arrived i us st)
+  tried : tryAllIn (cellsOf (s .histories)) (operationsOf q) ≡ tryAll (startOf st) (st .log) (arrived i us st)
   unfolding Sound
   tried =
-      ap (tryAllIn (cellsOf (s .histories))) entries ∙ try-all-is (s .count) (st .log) (s .histories) (arrived i us st) (v .carries .book) arrived-low
+      ap (tryAllIn (cellsOf (s .histories))) entries
+      ∙ try-all-is (startOf st) (s .count) (st .log) (s .histories) (arrived i us st) (v .carries .book) arrived-low
 
-  ready : Means ns (madeReady (arrived i us st) (tryAll (st .log) (arrived i us st)))
+  ready : Means ns (madeReady (arrived i us st) (tryAll (startOf st) (st .log) (arrived i us st)))
   ready = means-is ids (ap₂ madeReady entries tried)
 
   abbrev after : Representation
   after = withQueue tq (s .restoring) (s .reserved) numbers s
 
-  counted : (h : ℕ) → h < s .count → getD numbers h 0 ≡ busy (withPending (tryAll (st .log) (arrived i us st)) st) h
+  counted : (h : ℕ) → h < s .count → getD numbers h 0 ≡ busy (withPending (tryAll (startOf st) (st .log) (arrived i us st)) st) h
   unfolding Sound
   counted h lt =
       omega (
@@ -200,14 +208,16 @@ module _ (s : Representation) (bytes : List ℕ) (v : Sound s bytes) (i : ℕ) (
       )
 
   pub add-does : (ys : List ℕ) →
-      AcceptsCall bytes (step (Call.Add i us) st) (record { site = after; reply = record { form = ReplyForm.Added; first = ns; second = listed 0 ys } }) bytes
+      AcceptsCall bytes (step (Call.Add i us) st)
+      (record { site = after; reply = record { form = ReplyForm.Added; first = ns; second = listed 0 ys } }) bytes
   unfolding Sound outcomeWith
   add-does ys =
-      accepts-step s bytes (Call.Add i us) (withPending (tryAll (st .log) (arrived i us st)) st)
-      (Added (madeReady (arrived i us st) (tryAll (st .log) (arrived i us st)))) _ bytes v
+      accepts-step s bytes (Call.Add i us) (withPending (tryAll (startOf st) (st .log) (arrived i us st)) st)
+      (Added (madeReady (arrived i us st) (tryAll (startOf st) (st .log) (arrived i us st)))) _ bytes v
       (add-accepted i us st le w free)
-      (says-lists _ (madeReady (arrived i us st) (tryAll (st .log) (arrived i us st))) [] ready (means-none ys))
-      (carries-queue s bytes st (v .carries) tq (s .restoring) (s .reserved) numbers (tryAll (st .log) (arrived i us st)) (st .waiting)
+      (says-lists _ (madeReady (arrived i us st) (tryAll (startOf st) (st .log) (arrived i us st))) [] ready (means-none ys))
+      (carries-queue s bytes st (v .carries) tq (s .restoring) (s .reserved) numbers (tryAll (startOf st) (st .log) (arrived i us st))
+      (st .waiting)
       (ap (λ (z : Bool). pendingIn z after) idle ∙ queue ∙ tried)
       (ap (λ (z : Bool). waitingIn z after) idle ∙ sym (ap (λ (z : Bool). waitingIn z s) idle))
       (v .carries .reserved) counted)
@@ -221,7 +231,8 @@ unfolding heldUpdates
 asks-long a us e = ap (λ (h : AskedHeld). length (h .first)) e
 
 -- an add that passed all checks
-module _ (s : Representation) (bytes : List ℕ) (v : Sound s bytes) (i : ℕ) (us : List Update) (free : addRefusal i us (stateOf s bytes) ≡ none) where
+module _ (s : Representation) (bytes : List ℕ) (v : Sound s bytes) (i : ℕ) (us : List Update)
+    (free : addRefusal i us (stateOf s bytes) ≡ none) where
   -- there is room for one entry more
   pub add-room : length (s .finished) + length (s .queue) < 64
   unfolding Sound

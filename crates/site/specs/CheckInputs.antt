@@ -10,7 +10,7 @@ use Rattle.forms.specs.declared.Refusal.{Refusal}
 use Rattle.forms.specs.declared.Refusal.the-variants.{IdPending, AlreadyDone, ReadOvertaken, HighestVersion, TableFull, NoRoom}
 use Rattle.rules.specs.Book.{cell}
 use Rattle.rules.specs.Checks.{check}
-use Rattle.rules.specs.State.{State, logBytes, lineBytes}
+use Rattle.rules.specs.State.{State, logBytes, startOf, lineBytes}
 use Rattle.rules.specs.Calls.{idPending, idDone, tableFull}
 use Rattle.history.specs.declared.History.{History}
 use Rattle.history.specs.Entries.{cellsOf}
@@ -23,7 +23,7 @@ pub record Sees (x : CheckInputs) (hs : List History) (i : ℕ) (st : State) : T
   pub pending : x .pending ≡ idPending i st
   pub done : x .done ≡ idDone i st
   pub full : x .full ≡ tableFull st
-  pub book : (h : ℕ) → h < x .count → cellsOf hs h ≡ cell h (st .log)
+  pub book : (h : ℕ) → h < x .count → cellsOf hs h ≡ cell (startOf st) h (st .log)
 
 -- So many bytes of the log buffer are neither in use nor reserved.
 abbrev pub LeavesLines : ℕ → State → Type 0

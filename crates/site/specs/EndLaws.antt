@@ -3,14 +3,13 @@ use Prim.Native.Nat.{ℕ, _+_}
 use mathlib.Core.Path.{_≡_, refl, ap, _∙_}
 use mathlib.Core.Bool.{Bool, true, false}
 use mathlib.Core.List.{List, [], _∷_, map}
-use lib.ListN.{drop}
 use Rattle.forms.specs.Lists.{sum}
 use Rattle.forms.specs.Held.{outcomeWith, Numbers, listed}
 use Rattle.forms.specs.Forms.{Did, Ended}
 use Rattle.forms.specs.declared.ReplyForm.{ReplyForm}
 use Rattle.forms.specs.declared.Refusal.the-variants.{OutOfTurn}
 use Rattle.rules.specs.Checks.{check}
-use Rattle.rules.specs.Poll.{asksIn, changesIn, busy}
+use Rattle.rules.specs.Poll.{asksIn, changesIn, volatile, busy}
 use Rattle.rules.specs.State.{refused, ok}
 use Rattle.rules.specs.Calls.{Call, unless, writable, perform, step, end}
 use Rattle.history.specs.declared.Entry.{Entry}
@@ -42,9 +41,10 @@ end-busy : (s : Representation) (bytes : List ℕ) → s .restoring ≡ true →
     busy (stateOf s bytes) h ≡ busy (withOpen [] [] false (stateOf s bytes)) h
 unfolding busy
 end-busy s bytes e h =
-    ap (λ (b : Bool). sum (asksIn h) (pendingIn b s) + sum (changesIn h) (drop (s .persistent .0) (stateOf s bytes .log))) e
+    ap (λ (b : Bool). sum (asksIn h) (pendingIn b s) + sum (changesIn h) (volatile (stateOf s bytes))) e
 
-pub end-does : (s : Representation) (bytes : List ℕ) → Sound s bytes → s .restoring ≡ true → (q : List Entry) → q ≡ [] → (a : Numbers) (ys : List ℕ) →
+pub end-does : (s : Representation) (bytes : List ℕ) → Sound s bytes → s .restoring ≡ true → (q : List Entry) → q ≡ [] →
+    (a : Numbers) (ys : List ℕ) →
     Means a (map idOf (s .queue)) →
     AcceptsCall bytes (step Call.End (stateOf s bytes))
     (record { site = withQueue q false 0 (s .busy) s; reply = record { form = ReplyForm.Ended; first = a; second = listed 0 ys } }) bytes

@@ -1,5 +1,5 @@
--- The entry of an id. A live operation (a line that waits, an operation that is not done, or one that is done and has not left the table) has
--- one entry until it leaves; "a freed entry is used again".
+-- The entry of an id. A live operation (a line that waits, an operation that is not done, or one that is done and has not left the table)
+-- has one entry until it leaves; "a freed entry is used again".
 use Prim.Native.Nat.{ℕ}
 use native.Mathlib.Omega.{arith}
 use mathlib.Core.Path.{_≡_, refl, sym, ap, ap₂, subst, _∙_}

@@ -57,6 +57,8 @@ represented s m =
     record {
       count = s .count;
       used = s .used;
+      head = s .head;
+      base = s .base;
       done = s .done;
       persistent = s .persistent;
       stable = s .stable;
@@ -76,8 +78,8 @@ represented s m =
 abbrev pub view : Site → Lent → State
 view s m = stateOf (represented s m) (m .log)
 
--- The invariant of a site and what is lent to it: opening and restart establish it, and every call keeps it. It does not look at the lists of a
--- reply, so that `received` leaves them out.
+-- The invariant of a site and what is lent to it: opening and restart establish it, and every call keeps it. It does not look at the lists
+-- of a reply, so that `received` leaves them out.
 pub record ValidSite (w : Representation) (t : Table) (log order rows : List ℕ) : Type 0 where
   pub sound : Sound w log
   -- each entry has one place in the order and a row of its own
@@ -108,9 +110,9 @@ pub record RefusedAs (s : Site) (old : Lent) (q : Refusal) (r : CallResult) (new
   pub site : r .site ≡ s
   pub kept : new ≡ old
 
--- "An accepted call alters no byte of a lent buffer past those in use, or handed out, after it": of the log's buffer; of the table's rows, those
--- of the entries that are live; of the histories' numbers, those of the site's histories; of the lists' numbers, those that the reply counts. In
--- the order each number is in use, live or free: it has the same numbers as `numbers`, in another order.
+-- "An accepted call alters no byte of a lent buffer past those in use, or handed out, after it": of the log's buffer; of the table's rows,
+-- those of the entries that are live; of the histories' numbers, those of the site's histories; of the lists' numbers, those that the reply
+-- counts. In the order each number is in use, live or free: it has the same numbers as `numbers`, in another order.
 pub record AcceptedAs (numbers : List ℕ) (old : Lent) (st : State) (a : Answer) (r : CallResult) (new : Lent) : Type 0 where
   pub answer : Says (replied (r .reply) (new .lists)) (Accepted a)
   pub valid : Valid (r .site) new

@@ -24,7 +24,8 @@ use Rattle.table.specs.Order.{tally}
 use Rattle.table.specs.Tables.{liveNumbers, Owns, Frame}
 use Rattle.site.specs.declared.Site.{Site}
 use Rattle.site.specs.declared.CallResult.{CallResult}
-use Rattle.site.specs.Representation.{Representation, linesOfJournal, linesRead, stateOf, Carries, Represents, Sound}
+use Rattle.site.specs.Representation.{Representation, linesOfJournal, linesRead, baseOfJournal, baseRead, stateOf, Carries}
+use Rattle.site.specs.Representation.{Represents, Sound}
 use Rattle.site.specs.Model.{Lent, lent, represented, Few, Says, DoesWith, Does}
 
 -- ### Replies
@@ -57,12 +58,17 @@ says-lists r xs ys a b =
 pub lines-are : (s : Representation) (bytes : List ℕ) (st : State) → Represents s bytes st → linesRead s bytes ≡ linesIn st
 lines-are s bytes st h = ap (λ (b : List ℕ). linesOfJournal (readLog b)) (h .carries .text) ∙ ap linesOfJournal (good-reads st (h .good))
 
+-- .. and the base line
+pub base-are : (s : Representation) (bytes : List ℕ) (st : State) → Represents s bytes st → baseRead s bytes ≡ st .base
+base-are s bytes st h = ap (λ (b : List ℕ). baseOfJournal (readLog b)) (h .carries .text) ∙ ap baseOfJournal (good-reads st (h .good))
+
 -- What a site holds is its view.
 pub view-is : (s : Representation) (bytes : List ℕ) (st : State) → Represents s bytes st → stateOf s bytes ≡ st
 view-is s bytes st h =
     λ i. record {
       histories = c .count i;
       room = c .room i;
+      base = base-are s bytes st h i;
       log = (ap dids (lines-are s bytes st h) ∙ dids-weave (st .log) (st .stables)) i;
       stables = (ap stablesOf (lines-are s bytes st h) ∙ c .stables) i;
       pending = c .pending i;
@@ -86,6 +92,8 @@ withBook histories persisted stabilised busy w =
     record {
       count = w .count;
       used = w .used;
+      head = w .head;
+      base = w .base;
       done = w .done;
       persistent = w .persistent;
       stable = w .stable;
@@ -138,6 +146,8 @@ withRows finished marks queue w =
     record {
       count = w .count;
       used = w .used;
+      head = w .head;
+      base = w .base;
       done = w .done;
       persistent = w .persistent;
       stable = w .stable;
@@ -153,10 +163,12 @@ withRows finished marks queue w =
       marks = marks;
     }
 
-pub accepts-rows : (old : List ℕ) (x : Reply) (w : Representation) (reply : Replied) (new : List ℕ) {f : List Entry} {k : List ℕ} {q : List Entry} → f ≡ w .finished → k ≡ w .marks → q ≡ w .queue →
+pub accepts-rows : (old : List ℕ) (x : Reply) (w : Representation) (reply : Replied)
+    (new : List ℕ) {f : List Entry} {k : List ℕ} {q : List Entry} → f ≡ w .finished → k ≡ w .marks → q ≡ w .queue →
     AcceptsCall old x (record { site = w; reply = reply }) new → AcceptsCall old x (record { site = withRows f k q w; reply = reply }) new
 accepts-rows old x w reply new f k q a =
-    subst (λ (z : Representation). AcceptsCall old x (record { site = z; reply = reply }) new) (λ i. withRows (sym f i) (sym k i) (sym q i) w) a
+    subst (λ (z : Representation). AcceptsCall old x (record { site = z; reply = reply }) new)
+    (λ i. withRows (sym f i) (sym k i) (sym q i) w) a
 
 -- What a call keeps of a table: each entry has one place in the order and a row of its own, the entries have these numbers, and only rows
 -- of entries that are live after the call differ.
@@ -205,7 +217,8 @@ pub refuses : (s : Site) (old : Lent) (reply : Reply) (q : Refusal) (r : CallRes
 refuses s old = refuses-with (old .order) s old
 
 -- .. the log too, where the writer found no room
-pub refuses-full : (numbers : List ℕ) (s : Site) (old : Lent) (new : List ℕ) (reply : Reply) (q : Refusal) (r : CallResult) → reply ≡ refused q →
+pub refuses-full : (numbers : List ℕ) (s : Site) (old : Lent) (new : List ℕ) (reply : Reply) (q : Refusal) (r : CallResult) →
+    reply ≡ refused q →
     new ≡ old .log → Says (replied (r .reply) (old .lists)) (Refused q) → r .site ≡ s →
     DoesWith numbers s old reply r (lent new (old .rows) (old .order) (old .book) (old .lists))
 refuses-full numbers s old new reply q r e f says same =
@@ -214,7 +227,8 @@ refuses-full numbers s old new reply q r e f says same =
 
 -- A call that the specification accepts: the site after it holds the next state.
 pub accepts-call : (old : List ℕ) (reply : Reply) (st : State) (a : Answer) (r : Taken) (new : List ℕ) → reply ≡ ok st a →
-    Says (r .reply) (Accepted a) → Represents (r .site) new st → drop (r .site .used) new ≡ drop (r .site .used) old → AcceptsCall old reply r new
+    Says (r .reply) (Accepted a) → Represents (r .site) new st → drop (r .site .used) new ≡ drop (r .site .used) old →
+    AcceptsCall old reply r new
 accepts-call old reply st a r new e says h past =
     record {
       next = st;
@@ -232,8 +246,10 @@ unfolding step check unless
 step-performs c st e = rw e refl
 
 -- A call that is accepted: the site after it carries the next state, which the specification's laws make good.
-pub accepts-step : (s : Representation) (old : List ℕ) (c : Call) (st : State) (a : Answer) (r : Taken) (new : List ℕ) → Sound s old → step c (stateOf s old) ≡ ok st a →
-    Says (r .reply) (Accepted a) → Carries (r .site) new st → drop (r .site .used) new ≡ drop (r .site .used) old → AcceptsCall old (step c (stateOf s old)) r new
+pub accepts-step : (s : Representation) (old : List ℕ) (c : Call) (st : State) (a : Answer) (r : Taken) (new : List ℕ) → Sound s old →
+    step c (stateOf s old) ≡ ok st a →
+    Says (r .reply) (Accepted a) → Carries (r .site) new st → drop (r .site .used) new ≡ drop (r .site .used) old →
+    AcceptsCall old (step c (stateOf s old)) r new
 unfolding Sound settle
 accepts-step s old c st a r new v e says carries past =
     accepts-call old (step c (stateOf s old)) st a r new e says (record { carries = carries; good = good }) past

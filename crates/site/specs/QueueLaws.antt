@@ -18,6 +18,8 @@ withQueue q restoring reserved busy s =
     record {
       count = s .count;
       used = s .used;
+      head = s .head;
+      base = s .base;
       done = s .done;
       persistent = s .persistent;
       stable = s .stable;
@@ -39,6 +41,7 @@ withOpen pending waiting restoring st =
     record {
       histories = st .histories;
       room = st .room;
+      base = st .base;
       log = st .log;
       stables = st .stables;
       pending = pending;
@@ -61,6 +64,8 @@ carries-queue s bytes st c q restoring reserved numbers pending waiting p w n b 
       text = c .text;
       count = c .count;
       room = c .room;
+      head = c .head;
+      base = c .base;
       done = c .done;
       persistent = c .persistent;
       stable = c .stable;

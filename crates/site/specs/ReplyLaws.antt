@@ -16,7 +16,8 @@ use Rattle.site.specs.LineLaws.{Appended, behind-past, behind-length}
 pub drop-more : (u v : ℕ) (x y : List ℕ) → u ≤ v → drop u x ≡ drop u y → drop v x ≡ drop v y
 drop-more u v x y le e =
     let n : v ≡ u + (v - u) = omega (arith, le) in
-    ap (λ (j : ℕ). drop j x) n ∙ sym (drop-drop (v - u) u x) ∙ ap (drop (v - u)) e ∙ drop-drop (v - u) u y ∙ ap (λ (j : ℕ). drop j y) (sym n)
+    ap (λ (j : ℕ). drop j x) n ∙ sym (drop-drop (v - u) u x) ∙ ap (drop (v - u)) e ∙ drop-drop (v - u) u y
+    ∙ ap (λ (j : ℕ). drop j y) (sym n)
 
 -- ### One list
 
@@ -77,7 +78,8 @@ lists-joined {old} {at} {xs} {n} {mid} {ys} {m} {new} f g few =
 module _ {old xs : List ℕ} {n : ℕ} {mid ys : List ℕ} {m : ℕ} {new : List ℕ} (f : Lists old 0 xs n mid) (g : Lists mid n ys m new) where
   pub means-first : Means (listed n new) xs
   unfolding numbersOf
-  means-first = record { fits = record { few = f .few; within = omega (arith, g .room, list-length g) }; list = list-before g ∙ means-list f .list }
+  means-first =
+      record { fits = record { few = f .few; within = omega (arith, g .room, list-length g) }; list = list-before g ∙ means-list f .list }
 
   pub past-two : drop (n + m) new ≡ drop (n + m) old
   past-two = list-past g ∙ drop-more (0 + n) (n + m) mid old (omega arith) (list-past f)

@@ -1,15 +1,16 @@
 -- The site with the rows of its table, and the bytes of its log, as a state of the specification; and the invariant of the two.
-use Prim.Native.Nat.{ℕ, _≤_, _<_}
+use Prim.Native.Nat.{ℕ, _-_, _≤_, _<_}
 use mathlib.Core.Path.{_≡_}
 use mathlib.Core.Bool.{Bool, true, false}
 use mathlib.Core.List.{List, [], map}
+use mathlib.Core.Option.{Option, none}
 use lib.ListN.{length, take, drop, getD}
 use Rattle.forms.specs.Lists.{sum}
-use Rattle.forms.specs.Forms.{Did, Line}
+use Rattle.forms.specs.Forms.{Base, Did, Line}
 use Rattle.forms.specs.declared.LogNumber.{LogNumber}
 use Rattle.rules.specs.Book.{cell}
-use Rattle.rules.specs.Log.{Journal, journal, noJournal, dids, stablesOf, readLog}
-use Rattle.rules.specs.State.{Operation, State, logBytes, linesIn, stableTo, versionAt, liveDone, lineBytes}
+use Rattle.rules.specs.Log.{Journal, journal, noJournal, dids, stablesOf, headText, readLog}
+use Rattle.rules.specs.State.{Operation, State, logBytes, startOf, doneIn, linesIn, stableTo, versionAt, liveDone, lineBytes}
 use Rattle.rules.specs.CoverLaws.{marksBefore}
 use Rattle.rules.specs.Poll.{busy as busyIn}
 use Rattle.rules.specs.Good.{Good}
@@ -21,6 +22,8 @@ use Rattle.history.specs.Entries.{cellsOf, operationOf, didOfEntry}
 pub record Representation : Type 0 where
   pub count : ℕ
   pub used : ℕ
+  pub head : ℕ
+  pub base : LogNumber
   pub done : LogNumber
   pub persistent : LogNumber
   pub stable : LogNumber
@@ -47,12 +50,20 @@ waitingIn true s = map didOfEntry (s .queue)
 waitingIn false s = []
 
 abbrev pub linesOfJournal : Journal → List Line
-linesOfJournal (journal n lines) = lines
+linesOfJournal (journal n β lines) = lines
 linesOfJournal noJournal = []
+
+abbrev pub baseOfJournal : Journal → Option Base
+baseOfJournal (journal n β lines) = β
+baseOfJournal noJournal = none
 
 -- the lines that the bytes in use say
 abbrev pub linesRead : Representation → List ℕ → List Line
 linesRead s bytes = linesOfJournal (readLog (take (s .used) bytes))
+
+-- the base line that they say, if there is one
+abbrev pub baseRead : Representation → List ℕ → Option Base
+baseRead s bytes = baseOfJournal (readLog (take (s .used) bytes))
 
 -- The state that a site and the bytes of its log buffer are: the log is read off the bytes in use.
 abbrev pub stateOf : Representation → List ℕ → State
@@ -60,6 +71,7 @@ stateOf s bytes =
     record {
       histories = s .count;
       room = length bytes;
+      base = baseRead s bytes;
       log = dids (linesRead s bytes);
       stables = stablesOf (linesRead s bytes);
       pending = pendingIn (s .restoring) s;
@@ -77,7 +89,10 @@ pub record Carries (s : Representation) (bytes : List ℕ) (st : State) : Type 0
   pub text : take (s .used) bytes ≡ logBytes st
   pub count : s .count ≡ st .histories
   pub room : length bytes ≡ st .room
-  pub done : s .done .0 ≡ length (st .log)
+  -- the bytes of the site line and the base line, and the operations that this stands for
+  pub head : s .head ≡ length (headText (st .histories) (st .base))
+  pub base : s .base .0 ≡ startOf st .upTo
+  pub done : s .done .0 ≡ doneIn st
   pub persistent : s .persistent .0 ≡ st .persistentTo
   pub stable : s .stable .0 ≡ stableTo st
   pub left : s .left .0 ≡ st .leftTo
@@ -88,7 +103,7 @@ pub record Carries (s : Representation) (bytes : List ℕ) (st : State) : Type 0
   pub waiting : waitingIn (s .restoring) s ≡ st .waiting
   pub reserved : s .reserved ≡ sum lineBytes (st .waiting)
   pub historiesLong : length (s .histories) ≡ 16
-  pub book : (h : ℕ) → h < s .count → cellsOf (s .histories) h ≡ cell h (st .log)
+  pub book : (h : ℕ) → h < s .count → cellsOf (s .histories) h ≡ cell (startOf st) h (st .log)
   pub persistedLong : length (s .persisted) ≡ 16
   pub persisted : (h : ℕ) → h < s .count → getD (s .persisted) h 0 ≡ versionAt (st .persistentTo) h st
   pub stabilisedLong : length (s .stabilised) ≡ 16
@@ -97,7 +112,7 @@ pub record Carries (s : Representation) (bytes : List ℕ) (st : State) : Type 0
   pub busy : (h : ℕ) → h < s .count → getD (s .busy) h 0 ≡ busyIn st h
   -- done operations that have not left the table, in log order, and the stable mark when the line of each was written
   pub finished : map didOfEntry (s .finished) ≡ liveDone st
-  pub marks : s .marks ≡ drop (st .leftTo) (marksBefore 0 (linesIn st))
+  pub marks : s .marks ≡ drop (st .leftTo - startOf st .upTo) (marksBefore (startOf st .upTo) (linesIn st))
 
 -- The site holds the state st: it carries its parts, and st is one that calls reach.
 pub record Represents (s : Representation) (bytes : List ℕ) (st : State) : Type 0 where

@@ -1,4 +1,5 @@
--- Laws of the checks that an add and a redo share: what is read of a valid site is so in its stateOf, and a verdict is that of the specification.
+-- Laws of the checks that an add and a redo share: what is read of a valid site is so in its stateOf, and a verdict is that of the
+-- specification.
 use Prim.Native.Nat.{ℕ, _+_}
 use native.Mathlib.Omega.{arith}
 use mathlib.Core.Path.{_≡_, refl, sym, ap, _∙_}
@@ -45,7 +46,8 @@ unfolding idDone
 id-done s bytes st c i = has-line i (s .finished) ∙ ap (any (λ (d : Did). eqb (d .id) i)) (c .finished)
 
 -- 10: the entries of the table
-pub live-is : (s : Representation) (bytes : List ℕ) → Carries s bytes (stateOf s bytes) → length (s .finished) + length (s .queue) ≡ live (stateOf s bytes)
+pub live-is : (s : Representation) (bytes : List ℕ) → Carries s bytes (stateOf s bytes) →
+    length (s .finished) + length (s .queue) ≡ live (stateOf s bytes)
 unfolding live
 live-is s bytes c = omega (arith, go (s .restoring), done)
   where
@@ -57,9 +59,11 @@ live-is s bytes c = omega (arith, go (s .restoring), done)
     done = sym (length-map (s .finished) didOfEntry) ∙ ap length (c .finished)
 
 -- what is read of a valid site is so in its stateOf
-pub site-sees : (s : Representation) (bytes : List ℕ) → Sound s bytes → (i : ℕ) (pending done full : Bool) → pending ≡ any (hasId i) (s .queue) →
+pub site-sees : (s : Representation) (bytes : List ℕ) → Sound s bytes → (i : ℕ) (pending done full : Bool) →
+    pending ≡ any (hasId i) (s .queue) →
     done ≡ any (hasId i) (s .finished) → full ≡ leb 64 (length (s .finished) + length (s .queue)) →
-    Sees (record { restoring = s .restoring; count = s .count; pending = pending; done = done; full = full }) (s .histories) i (stateOf s bytes)
+    Sees (record { restoring = s .restoring; count = s .count; pending = pending; done = done; full = full }) (s .histories) i
+    (stateOf s bytes)
 unfolding Sound tableFull
 site-sees s bytes v i pending done full p d f =
     record {

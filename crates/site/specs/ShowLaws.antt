@@ -11,7 +11,7 @@ use Rattle.forms.specs.Forms.{Shown}
 use Rattle.forms.specs.declared.Refusal.the-variants.{NoSuchHistory}
 use Rattle.rules.specs.Checks.{check}
 use Rattle.rules.specs.Book.{cell}
-use Rattle.rules.specs.State.{State, refused, ok, stableTo, versionAt}
+use Rattle.rules.specs.State.{State, refused, ok, startOf, stableTo, versionAt}
 use Rattle.rules.specs.LogLaws.{histories-most}
 use Rattle.rules.specs.Calls.{Call, unless, writable, perform, step, show}
 use Rattle.history.specs.declared.History.{History}
@@ -28,7 +28,8 @@ pub show-performs : (h : ℕ) (st : State) → h ≤ top → step (Call.Show h) 
 unfolding writable perform
 show-performs h st le = step-performs (Call.Show h) st (le-leb h top le)
 
-pub show-refused : (s : Representation) (bytes : List ℕ) (h : ℕ) → h ≤ top → s .count ≤ h → step (Call.Show h) (stateOf s bytes) ≡ refused NoSuchHistory
+pub show-refused : (s : Representation) (bytes : List ℕ) (h : ℕ) → h ≤ top → s .count ≤ h →
+    step (Call.Show h) (stateOf s bytes) ≡ refused NoSuchHistory
 unfolding show check unless
 show-refused s bytes h le past = show-performs h (stateOf s bytes) le ∙ rw (le-leb (s .count) h past) refl
 
@@ -36,16 +37,18 @@ show-refused s bytes h le past = show-performs h (stateOf s bytes) le ∙ rw (le
 pub show-accepted : (s : Representation) (bytes : List ℕ) (h : ℕ) → Sound s bytes → h ≤ top → h < s .count →
     step (Call.Show h) (stateOf s bytes)
     ≡ ok (stateOf s bytes)
-    (Shown h (cellsOf (s .histories) h .version) (getD (s .persisted) h 0) (getD (s .stabilised) h 0) (cellsOf (s .histories) h .place) (cellsOf (s .histories) h .profile))
+    (Shown h (cellsOf (s .histories) h .version) (getD (s .persisted) h 0) (getD (s .stabilised) h 0) (cellsOf (s .histories) h .place)
+    (cellsOf (s .histories) h .profile))
 unfolding show check unless Sound
 show-accepted s bytes h v le below =
     show-performs h (stateOf s bytes) le
-    ∙ rw (lt-leb (s .count) h below) (λ i. ok (stateOf s bytes) (Shown h (now-h i .version) (persisted i) (stabilised i) (now-h i .place) (now-h i .profile)))
+    ∙ rw (lt-leb (s .count) h below) (λ i. ok (stateOf s bytes)
+    (Shown h (now-h i .version) (persisted i) (stabilised i) (now-h i .place) (now-h i .profile)))
   where
     c : Carries s bytes (stateOf s bytes)
     c = v .carries
 
-    now-h : cell h (stateOf s bytes .log) ≡ cellsOf (s .histories) h
+    now-h : cell (startOf (stateOf s bytes)) h (stateOf s bytes .log) ≡ cellsOf (s .histories) h
     now-h = sym (c .book h below)
 
     persisted : versionAt (s .persistent .0) h (stateOf s bytes) ≡ getD (s .persisted) h 0

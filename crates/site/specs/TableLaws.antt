@@ -21,10 +21,17 @@ emptyTable = record { finished = 0; queue = 0 }
 
 pub usable-fewer : (o ws : List ℕ) (n m : ℕ) → Usable o ws n → m ≤ n → Usable o ws m
 usable-fewer o ws n m u le =
-    record { long = u .long; few = omega (arith, u .few, le); within = λ i l. u .within i (omega (arith, l, le)); each = λ i l. u .each i (omega (arith, l, le)) }
+    record {
+      long = u .long;
+      few = omega (arith, u .few, le);
+      within = λ i l. u .within i (omega (arith, l, le));
+      each =
+          λ i l. u .each i (omega (arith, l, le));
+    }
 
 pub owns-fewer : (t s : Table) (o ws : List ℕ) → Owns t o ws → liveCount s ≤ liveCount t → Owns s o ws
-owns-fewer t s o ws u le = record { usable = usable-fewer o ws (liveCount t) (liveCount s) (u .usable) le; within = u .within; once = u .once }
+owns-fewer t s o ws u le =
+    record { usable = usable-fewer o ws (liveCount t) (liveCount s) (u .usable) le; within = u .within; once = u .once }
 
 -- .. in the same words, in which nothing was written
 pub frame-same : (live ws : List ℕ) → Frame live ws ws
@@ -60,11 +67,13 @@ no-rows o ws n m e = ap (rowsIn o ws n) e ∙ range-none o ws n
 -- ### The laws as calls use them
 
 -- the two lists of rows have as many as the table counts
-pub live-length : (t : Table) (o ws : List ℕ) → Owns t o ws → length (finishedRows t o ws) + length (queueRows t o ws) ≡ t .finished + t .queue
+pub live-length : (t : Table) (o ws : List ℕ) → Owns t o ws →
+    length (finishedRows t o ws) + length (queueRows t o ws) ≡ t .finished + t .queue
 live-length t o ws own = ap₂ _+_ (finished-length t o ws own) (queue-length t o ws own)
 
 -- the table that a call hands back
-pub becomes-as : {o old : List ℕ} {t s : Table} {p new : List ℕ} {f q : List Entry} → s ≡ t → Becomes o old t p new f q → Becomes o old s p new f q
+pub becomes-as : {o old : List ℕ} {t s : Table} {p new : List ℕ} {f q : List Entry} → s ≡ t → Becomes o old t p new f q →
+    Becomes o old s p new f q
 becomes-as {o} {old} {t} {s} {p} {new} {f} {q} e b = subst (λ (z : Table). Becomes o old z p new f q) (sym e) b
 
 -- one step, and then a pass over the future operations

@@ -1,7 +1,7 @@
 -- What is held of a line's updates, as a list, for every value that the code can have.
-use Prim.Native.Nat.{ℕ, zero, suc}
 use mathlib.Core.Path.{_≡_}
-use mathlib.Core.List.{List, [], _∷_}
+use mathlib.Core.List.{List}
+pub use Rattle.forms.specs.Lists.{padded}
 use Rattle.forms.specs.Forms.{Update, Change, Did}
 use Rattle.forms.specs.Held.{asUpdate, asAsked, asChange, asDone, noUpdate, noChange, firstFour}
 use Rattle.forms.specs.declared.AskedHeld.{AskedHeld}
@@ -9,12 +9,6 @@ use Rattle.forms.specs.declared.DoneHeld.{DoneHeld}
 use Rattle.forms.specs.declared.DidLine.{DidLine}
 use Rattle.rules.specs.State.{State, Reply}
 use Rattle.rules.specs.Calls.{unless, redoRefusal, delivered}
-
--- The first n of a list, and blanks where it is shorter.
-unfoldable pub padded : {A : Type 0} → A → ℕ → List A → List A
-padded blank zero xs = []
-padded blank (suc n) [] = blank ∷ padded blank n []
-padded blank (suc n) (x ∷ xs) = x ∷ padded blank n xs
 
 -- The updates that are held: as many as are counted, of which the first four are known.
 abbrev pub updatesHeld : AskedHeld → List Update

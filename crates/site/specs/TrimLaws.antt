@@ -1,4 +1,5 @@
--- Laws of what is held of a line's updates: every value of the code holds a list that can be written; a call with what is held of a list is the call with it.
+-- Laws of what is held of a line's updates: every value of the code holds a list that can be written; a call with what is held of a list is
+-- the call with it.
 use Prim.Native.Nat.{ℕ, zero, suc, _≤_, _<_}
 use native.Mathlib.Omega.{arith}
 use mathlib.Core.Path.{_≡_, refl, sym, ap, subst, _∙_}
@@ -17,6 +18,7 @@ use Rattle.forms.specs.Forms.{Update, Change, Did}
 use Rattle.forms.specs.Writable.{WritableUpdate, WritableChange, WritableDid, Each}
 use Rattle.forms.specs.Held.{asUpdate, asAsked, asChange, asDone, noUpdate, noChange, firstFour, heldUpdates, heldChanges, heldDid}
 use Rattle.forms.specs.HeldLaws.{four-at}
+use Rattle.forms.specs.BaseHeldLaws.{padded-length, padded-at}
 use Rattle.forms.specs.declared.Asked.{Asked}
 use Rattle.forms.specs.declared.Done.{Done}
 use Rattle.forms.specs.declared.AskedHeld.{AskedHeld}
@@ -40,32 +42,15 @@ each-cons {A} W y l w ws x m = one (List·Memᴰ·cases-cons m)
     one (inr k) = ws x k
 
 module _ {A : Type 0} (blank : A) where
-  pub padded-length : (n : ℕ) (xs : List A) → length (padded blank n xs) ≡ n
-  unfolding padded
-  padded-length zero xs = refl
-  padded-length (suc n) [] = ap suc (padded-length n [])
-  padded-length (suc n) (x ∷ xs) = ap suc (padded-length n xs)
-
   -- past the count there is none
   padded-past : (n : ℕ) (xs : List A) (i : ℕ) → n ≤ i → getD (padded blank n xs) i blank ≡ blank
-  unfolding padded
   padded-past zero xs i h = refl
   padded-past (suc n) xs zero h = absurd (omega arith)
   padded-past (suc n) [] (suc i) h = padded-past n [] i (omega arith)
   padded-past (suc n) (x ∷ xs) (suc i) h = padded-past n xs i (omega arith)
 
-  -- below the count, what stands in that place
-  padded-at : (n : ℕ) (xs : List A) (i : ℕ) → i < n → getD (padded blank n xs) i blank ≡ getD xs i blank
-  unfolding padded
-  padded-at zero xs i h = absurd (omega arith)
-  padded-at (suc n) [] zero h = refl
-  padded-at (suc n) [] (suc i) h = padded-at n [] i (omega arith)
-  padded-at (suc n) (x ∷ xs) zero h = refl
-  padded-at (suc n) (x ∷ xs) (suc i) h = padded-at n xs i (omega arith)
-
   -- at most four are all held
   padded-all : (xs : List A) → length xs ≤ 4 → padded blank (length xs) (firstFour (λ x. x) blank xs) ≡ xs
-  unfolding padded
   padded-all [] h = refl
   padded-all (a ∷ []) h = refl
   padded-all (a ∷ b ∷ []) h = refl
@@ -75,10 +60,11 @@ module _ {A : Type 0} (blank : A) where
 
   -- what holds in each place below the count holds of all
   padded-each : (W : A → Type 0) (n : ℕ) (xs : List A) → ((i : ℕ) → i < n → W (getD xs i blank)) → Each W (padded blank n xs)
-  unfolding padded
   padded-each W zero xs h = λ x m. absurd (List·Memᴰ·not-nil m)
-  padded-each W (suc n) [] h = each-cons W blank (padded blank n []) (h 0 (omega arith)) (padded-each W n [] (λ i l. h (suc i) (omega arith)))
-  padded-each W (suc n) (y ∷ ys) h = each-cons W y (padded blank n ys) (h 0 (omega arith)) (padded-each W n ys (λ i l. h (suc i) (omega arith)))
+  padded-each W (suc n) [] h =
+      each-cons W blank (padded blank n []) (h 0 (omega arith)) (padded-each W n [] (λ i l. h (suc i) (omega arith)))
+  padded-each W (suc n) (y ∷ ys) h =
+      each-cons W y (padded blank n ys) (h 0 (omega arith)) (padded-each W n ys (λ i l. h (suc i) (omega arith)))
 
   each-at : (W : A → Type 0) (xs : List A) → Each W xs → (i : ℕ) → i < length xs → W (getD xs i blank)
   each-at W [] h i l = absurd (omega (arith, l))
@@ -118,13 +104,16 @@ module _ {A B : Type 0} (f : A → B) (g : B → A) (blank : A) (W : A → Type 
 
   -- four values that stand for what is held in the four places
   four-stand : W blank → {a b c d : B} → Stands f W (getD (padded blank n (firstFour g (f blank) xs)) 0 blank) a →
-      Stands f W (getD (padded blank n (firstFour g (f blank) xs)) 1 blank) b → Stands f W (getD (padded blank n (firstFour g (f blank) xs)) 2 blank) c →
+      Stands f W (getD (padded blank n (firstFour g (f blank) xs)) 1 blank) b →
+      Stands f W (getD (padded blank n (firstFour g (f blank) xs)) 2 blank) c →
       Stands f W (getD (padded blank n (firstFour g (f blank) xs)) 3 blank) d →
-      ((a ∷ b ∷ c ∷ d ∷ []) ≡ firstFour f blank (padded blank n (firstFour g (f blank) xs))) × Each W (padded blank n (firstFour g (f blank) xs))
+      ((a ∷ b ∷ c ∷ d ∷ []) ≡ firstFour f blank (padded blank n (firstFour g (f blank) xs))) × Each W
+      (padded blank n (firstFour g (f blank) xs))
   four-stand empty p q r s = (
     (λ i. p .is i ∷ q .is i ∷ r .is i ∷ s .is i ∷ []),
     four-each blank W empty n _ _ _ _ (λ i l k. subst W (padded-at blank n (firstFour g (f blank) xs) i l)
-        (four (λ j. W (getD (padded blank n (firstFour g (f blank) xs)) j blank)) (p .writable) (q .writable) (r .writable) (s .writable) i k)),
+        (four (λ j. W (getD (padded blank n (firstFour g (f blank) xs)) j blank)) (p .writable) (q .writable) (r .writable)
+        (s .writable) i k)),
   )
 
 -- ### Updates and did lines
@@ -147,8 +136,10 @@ asked-held h p q r s =
     record { is = λ i. record { count = sym n i; first = k .0 i }; writable = k .1 }
 
 pub did-held : (l : DidLine) → l .id ≤ top → {a b c d : Done} →
-    Stands asDone WritableChange (getD (changesHeld (l .held)) 0 noChange) a → Stands asDone WritableChange (getD (changesHeld (l .held)) 1 noChange) b →
-    Stands asDone WritableChange (getD (changesHeld (l .held)) 2 noChange) c → Stands asDone WritableChange (getD (changesHeld (l .held)) 3 noChange) d →
+    Stands asDone WritableChange (getD (changesHeld (l .held)) 0 noChange) a →
+    Stands asDone WritableChange (getD (changesHeld (l .held)) 1 noChange) b →
+    Stands asDone WritableChange (getD (changesHeld (l .held)) 2 noChange) c →
+    Stands asDone WritableChange (getD (changesHeld (l .held)) 3 noChange) d →
     Stands heldDid WritableDid (didHeld l) (record { id = l .id; held = record { count = l .held .count; first = a ∷ b ∷ c ∷ d ∷ [] } })
 unfolding heldDid heldChanges
 did-held l le p q r s =
@@ -170,11 +161,14 @@ updates-writable us w = all-of writableUpdate us (λ u m. update-writable u (w u
 
 -- ### What is held of a list is as good as the list
 
-many-refused : {A : Type 0} (history : A → ℕ) (misfits : A → Bool) (n : ℕ) (xs : List A) → 4 < length xs → formRefusal history misfits n xs ≡ some WrongCount
+many-refused : {A : Type 0} (history : A → ℕ) (misfits : A → Bool) (n : ℕ) (xs : List A) → 4 < length xs →
+    formRefusal history misfits n xs ≡ some WrongCount
 unfolding formRefusal wrongCount check
 many-refused history misfits n xs h =
-    ap (λ (b : Bool). check b WrongCount (check (noSuchHistory n (map history xs)) NoSuchHistory (check (historyTwice (map history xs)) HistoryTwice
-    (check (any misfits xs) OperandRange none)))) (ap (λ (b : Bool). eqb (length xs) 0 || b) (lt-ltb 4 (length xs) h) ∙ or-true (eqb (length xs) 0))
+    ap (λ (b : Bool). check b WrongCount (check (noSuchHistory n (map history xs)) NoSuchHistory
+    (check (historyTwice (map history xs)) HistoryTwice
+    (check (any misfits xs) OperandRange none))))
+    (ap (λ (b : Bool). eqb (length xs) 0 || b) (lt-ltb 4 (length xs) h) ∙ or-true (eqb (length xs) 0))
 
 -- four or fewer are all held, and of more as many
 held-same : {A : Type 0} (blank : A) (xs : List A) → (padded blank (length xs) (firstFour (λ x. x) blank xs) ≡ xs)

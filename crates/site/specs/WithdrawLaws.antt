@@ -44,11 +44,13 @@ withdraw-performs : (i : ℕ) (st : State) → i ≤ top → step (Call.Withdraw
 unfolding writable perform
 withdraw-performs i st le = step-performs (Call.Withdraw i) st (le-leb i top le)
 
-pub withdraw-refused-turn : (s : Representation) (bytes : List ℕ) (i : ℕ) → i ≤ top → s .restoring ≡ true → step (Call.Withdraw i) (stateOf s bytes) ≡ refused OutOfTurn
+pub withdraw-refused-turn : (s : Representation) (bytes : List ℕ) (i : ℕ) → i ≤ top → s .restoring ≡ true →
+    step (Call.Withdraw i) (stateOf s bytes) ≡ refused OutOfTurn
 unfolding withdraw withdrawRefusal check unless
 withdraw-refused-turn s bytes i le e = withdraw-performs i (stateOf s bytes) le ∙ rw e refl
 
-pub withdraw-refused-state : (s : Representation) (bytes : List ℕ) (i : ℕ) → i ≤ top → s .restoring ≡ false → firstAt (isEntry i false) (s .queue) ≡ Nothing →
+pub withdraw-refused-state : (s : Representation) (bytes : List ℕ) (i : ℕ) → i ≤ top → s .restoring ≡ false →
+    firstAt (isEntry i false) (s .queue) ≡ Nothing →
     step (Call.Withdraw i) (stateOf s bytes) ≡ refused WrongState
 unfolding withdraw withdrawRefusal check unless
 withdraw-refused-state s bytes i le e nothing = withdraw-performs i (stateOf s bytes) le ∙ rw (e, no-future i (s .queue) nothing) refl
@@ -57,8 +59,10 @@ withdraw-refused-state s bytes i le e nothing = withdraw-performs i (stateOf s b
 abbrev pub withdrawnFrom : ℕ → Representation → List ℕ → State
 withdrawnFrom i s bytes = withPending (without i (pendingIn (s .restoring) s)) (stateOf s bytes)
 
-withdraw-accepted : (s : Representation) (bytes : List ℕ) (i k : ℕ) → i ≤ top → s .restoring ≡ false → firstAt (isEntry i false) (s .queue) ≡ At k →
-    step (Call.Withdraw i) (stateOf s bytes) ≡ ok (withdrawnFrom i s bytes) (Withdrawn (becameDry (stateOf s bytes) (withdrawnFrom i s bytes)))
+withdraw-accepted : (s : Representation) (bytes : List ℕ) (i k : ℕ) → i ≤ top → s .restoring ≡ false →
+    firstAt (isEntry i false) (s .queue) ≡ At k →
+    step (Call.Withdraw i) (stateOf s bytes) ≡ ok (withdrawnFrom i s bytes)
+    (Withdrawn (becameDry (stateOf s bytes) (withdrawnFrom i s bytes)))
 unfolding withdraw withdrawRefusal check unless
 withdraw-accepted s bytes i k le e found = withdraw-performs i (stateOf s bytes) le ∙ rw (e, any-future i (s .queue) k found) refl
 
@@ -153,7 +157,8 @@ module _ (s : Representation) (bytes : List ℕ) (i k : ℕ) (v : Sound s bytes)
       }) bytes
   unfolding Sound outcomeWith
   withdraw-does =
-      accepts-step s bytes (Call.Withdraw i) (withdrawnFrom i s bytes) (Withdrawn (becameDry (stateOf s bytes) (withdrawnFrom i s bytes))) _ bytes v
+      accepts-step s bytes (Call.Withdraw i) (withdrawnFrom i s bytes)
+      (Withdrawn (becameDry (stateOf s bytes) (withdrawnFrom i s bytes))) _ bytes v
       (withdraw-accepted s bytes i k le e found)
       (says-lists _ (becameDry (stateOf s bytes) (withdrawnFrom i s bytes)) []
       (means-is dried (dried-is before after (stateOf s bytes) (withdrawnFrom i s bytes) numbers-before numbers-after))

@@ -32,7 +32,10 @@ pub struct Site {
     pub count: usize,
     // bytes of the log buffer in use
     pub used: usize,
-    // how many operations are done, persistent, stable, and have left the table
+    // of these, the bytes of the site line and of the base line, with their ends
+    pub head: usize,
+    // how many operations the base line stands for, and how many are done, persistent, stable, and have left the table: with them
+    pub base: LogNumber,
     pub done: LogNumber,
     pub persistent: LogNumber,
     pub stable: LogNumber,

@@ -11,7 +11,7 @@ use lib.ListN.{getD, take, drop, take-append-drop}
 use lib.Seq.{take-add, take-take}
 use Rattle.forms.specs.Lists.{keep, below}
 use Rattle.forms.specs.ListLaws.{Nodup, mem-along, keep-append}
-use Rattle.forms.specs.Forms.{Change, Did}
+use Rattle.forms.specs.Forms.{Base, Change, Did}
 use Rattle.rules.specs.Book.{Cell, cell, entered, enterAll, enterAllWith, enterWith, runsAt, canRun}
 use Rattle.rules.specs.Poll.{busy}
 use Rattle.rules.specs.PollLaws.{dry-is}
@@ -67,40 +67,40 @@ stamped-entered h (x ∷ xs) c once runs = go (stamped-entered h xs c (once .1) 
     go below false q = below
 
 -- "the version after a `not` is the version it read": one line that ran
-version-line : (n h : ℕ) (log : List Did) (e : Entry) → FormedDid n (didOfEntry e) → T (canRun log (didOfEntry e))
-    → versionBy h (cell h log .version) (itemsOf e) ≡ cell h (log ++ (didOfEntry e ∷ [])) .version
+version-line : (σ : Base) (n h : ℕ) (log : List Did) (e : Entry) → FormedDid n (didOfEntry e) → T (canRun σ log (didOfEntry e))
+    → versionBy h (cell σ h log .version) (itemsOf e) ≡ cell σ h (log ++ (didOfEntry e ∷ [])) .version
 unfolding didOfEntry
-version-line n h log e F t =
+version-line σ n h log e F t =
     let d = didOfEntry e in
-    stamped-is h (cell h log .version) (itemsOf e)
-    ∙ stamped-entered h (d .changes) (cell h log) (once-formed n d F)
-    (λ x m q. subst (λ (k : ℕ). T (runsAt (cell k log) x)) q (can-run-at log d t x m))
-    ∙ sym (ap (λ (c : Cell). c .version) (cell-snoc h log d))
+    stamped-is h (cell σ h log .version) (itemsOf e)
+    ∙ stamped-entered h (d .changes) (cell σ h log) (once-formed n d F)
+    (λ x m q. subst (λ (k : ℕ). T (runsAt (cell σ k log) x)) q (can-run-at σ log d t x m))
+    ∙ sym (ap (λ (c : Cell). c .version) (cell-snoc σ h log d))
 
-versions-are : (n h : ℕ) (a : List Did) (es : List Entry) → ((d : Did) → Mem d (map didOfEntry es) → FormedDid n d)
-    → ((p : List Did) (d : Did) (q : List Did) → map didOfEntry es ≡ p ++ d ∷ q → T (canRun (a ++ p) d))
-    → versionFrom h (cell h a .version) es ≡ cell h (a ++ map didOfEntry es) .version
+versions-are : (σ : Base) (n h : ℕ) (a : List Did) (es : List Entry) → ((d : Did) → Mem d (map didOfEntry es) → FormedDid n d)
+    → ((p : List Did) (d : Did) (q : List Did) → map didOfEntry es ≡ p ++ d ∷ q → T (canRun σ (a ++ p) d))
+    → versionFrom h (cell σ h a .version) es ≡ cell σ h (a ++ map didOfEntry es) .version
 unfolding versionFrom
-versions-are n h a [] formed ran = ap (λ (l : List Did). cell h l .version) (sym (append-nil a))
-versions-are n h a (e ∷ es) formed ran =
+versions-are σ n h a [] formed ran = ap (λ (l : List Did). cell σ h l .version) (sym (append-nil a))
+versions-are σ n h a (e ∷ es) formed ran =
     let d = didOfEntry e in
     let ds = map didOfEntry es in
     ap (λ (v : ℕ). versionFrom h v es)
-    (version-line n h a e (formed d (here refl)) (subst (λ (l : List Did). T (canRun l d)) (append-nil a) (ran [] d ds refl)))
-    ∙ versions-are n h (a ++ (d ∷ [])) es (λ y m. formed y (there m))
-    (λ p y q k. subst (λ (l : List Did). T (canRun l y)) (sym (append-assoc a (d ∷ []) p))
+    (version-line σ n h a e (formed d (here refl)) (subst (λ (l : List Did). T (canRun σ l d)) (append-nil a) (ran [] d ds refl)))
+    ∙ versions-are σ n h (a ++ (d ∷ [])) es (λ y m. formed y (there m))
+    (λ p y q k. subst (λ (l : List Did). T (canRun σ l y)) (sym (append-assoc a (d ∷ []) p))
     (ran (d ∷ p) y q (ap (λ (l : List Did). d ∷ l) k)))
-    ∙ ap (λ (l : List Did). cell h l .version) (append-assoc a (d ∷ []) ds)
+    ∙ ap (λ (l : List Did). cell σ h l .version) (append-assoc a (d ∷ []) ds)
 
 -- The done operations behind the first s of a log: from the version after s + from of its lines to that after s + to.
-pub advance-is : (n h : ℕ) (log : List Did) (s from to v : ℕ) (es : List Entry) → ((d : Did) → Mem d log → FormedDid n d) → Ran log
-    → from ≤ to → map didOfEntry es ≡ drop s log → v ≡ cell h (take (s + from) log) .version
-    → versionFrom h v (drop from (take to es)) ≡ cell h (take (s + to) log) .version
-advance-is n h log s from to v es formed ran le e q =
+pub advance-is : (σ : Base) (n h : ℕ) (log : List Did) (s from to v : ℕ) (es : List Entry) → ((d : Did) → Mem d log → FormedDid n d) →
+    Ran σ log → from ≤ to → map didOfEntry es ≡ drop s log → v ≡ cell σ h (take (s + from) log) .version
+    → versionFrom h v (drop from (take to es)) ≡ cell σ h (take (s + to) log) .version
+advance-is σ n h log s from to v es formed ran le e q =
     ap (λ (w : ℕ). versionFrom h w part) q
-    ∙ versions-are n h a part inside runs
-    ∙ ap (λ (l : List Did). cell h (a ++ l) .version) same
-    ∙ ap (λ (l : List Did). cell h l .version) whole
+    ∙ versions-are σ n h a part inside runs
+    ∙ ap (λ (l : List Did). cell σ h (a ++ l) .version) same
+    ∙ ap (λ (l : List Did). cell σ h l .version) whole
   where
     a : List Did
     a = take (s + from) log
@@ -129,17 +129,17 @@ advance-is n h log s from to v es formed ran le e q =
     inside d m =
         formed d (mem-along (sym front) (Memᴰ·append-left (drop (s + to) log) (mem-along whole (Memᴰ·append-right a (mem-along same m)))))
 
-    runs : (p : List Did) (d : Did) (r : List Did) → map didOfEntry part ≡ p ++ d ∷ r → T (canRun (a ++ p) d)
+    runs : (p : List Did) (d : Did) (r : List Did) → map didOfEntry part ≡ p ++ d ∷ r → T (canRun σ (a ++ p) d)
     runs p d r f =
-        ran-prefix (take (s + to) log) (drop (s + to) log) (subst Ran front ran) (a ++ p) d r
+        ran-prefix σ (take (s + to) log) (drop (s + to) log) (subst (Ran σ) front ran) (a ++ p) d r
         (sym whole ∙ ap (λ (l : List Did). a ++ l) (sym same ∙ f) ∙ sym (append-assoc a p (d ∷ r)))
 
 -- .. where they are the first m entries of an order
-pub advance-rows : (n h : ℕ) (log : List Did) (s from to v m : ℕ) (o ws : List ℕ) → ((d : Did) → Mem d log → FormedDid n d) → Ran log
-    → from ≤ to → to ≤ m → map didOfEntry (rowsIn o ws 0 m) ≡ drop s log → v ≡ cell h (take (s + from) log) .version
-    → versionFrom h v (rowsIn o ws from to) ≡ cell h (take (s + to) log) .version
-advance-rows n h log s from to v m o ws formed ran le few e q =
-    ap (versionFrom h v) (range-part o ws from to m few) ∙ advance-is n h log s from to v (rowsIn o ws 0 m) formed ran le e q
+pub advance-rows : (σ : Base) (n h : ℕ) (log : List Did) (s from to v m : ℕ) (o ws : List ℕ) → ((d : Did) → Mem d log → FormedDid n d) →
+    Ran σ log → from ≤ to → to ≤ m → map didOfEntry (rowsIn o ws 0 m) ≡ drop s log → v ≡ cell σ h (take (s + from) log) .version
+    → versionFrom h v (rowsIn o ws from to) ≡ cell σ h (take (s + to) log) .version
+advance-rows σ n h log s from to v m o ws formed ran le few e q =
+    ap (versionFrom h v) (range-part o ws from to m few) ∙ advance-is σ n h log s from to v (rowsIn o ws 0 m) formed ran le e q
 
 -- ### Histories named in replies
 

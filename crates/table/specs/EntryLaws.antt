@@ -7,15 +7,16 @@ use mathlib.Core.Bool.{Bool}
 use mathlib.Core.List.{List, [], _∷_, map}
 use mathlib.Core.List.{List·Memᴰ as Mem, List·Memᴰ·not-nil, List·Memᴰ·cases-cons}
 use lib.ListN.{length, getD, take}
-use Rattle.forms.specs.Forms.{Update, Change, Did}
+use Rattle.forms.specs.Forms.{Base, Update, Change, Did}
 use Rattle.rules.specs.Rules.{mayRun, timing, isNever}
-use Rattle.rules.specs.Book.{Cell, cell, runsAt, canRun, canRunWith}
+use Rattle.rules.specs.Book.{Cell, runsAt, canRun, canRunWith}
 use Rattle.history.specs.Cells.{neverIn}
 use Rattle.history.specs.declared.History.{History}
 use Rattle.history.specs.declared.Item.{Item}
 use Rattle.history.specs.declared.Entry.{Entry}
 use Rattle.history.specs.Entries.{noHistory, cellOf, cellsOf, noItem, itemUpdate, itemChange, operationOf, didOfEntry, canRunIn}
 use Rattle.history.specs.Entries.{mayRunIn, UsableEntry}
+use Rattle.history.specs.AtLog.{HoldsBook}
 use Rattle.history.specs.Tests.{all-agree}
 use Rattle.table.specs.Tables.{canRunEntry}
 use Rattle.table.specs.Tries.{entryUpdates}
@@ -41,10 +42,11 @@ unfolding operationOf
 usable-history e w u m = item-low itemUpdate (λ (v : Update). v .history) (λ x. refl) e w u m
 
 -- An entry can run against the cells of the first n histories where it can against the log that they stand for.
-pub can-run-is : (n : ℕ) (log : List Did) (hs : List History) (e : Entry) → ((h : ℕ) → h < n → cellsOf hs h ≡ cell h log)
-    → ((x : Change) → Mem x (didOfEntry e .changes) → x .history < n) → canRunEntry (cellsOf hs) e ≡ canRun log (didOfEntry e)
+pub can-run-is : (σ : Base) (n : ℕ) (log : List Did) (hs : List History) (e : Entry) → HoldsBook σ n hs log
+    → ((x : Change) → Mem x (didOfEntry e .changes) → x .history < n) → canRunEntry (cellsOf hs) e ≡ canRun σ log (didOfEntry e)
 unfolding canRunIn canRunWith
-can-run-is n log hs e same low = all-agree _ _ (didOfEntry e .changes) (λ x m. ap (λ (c : Cell). runsAt c x) (same (x .history) (low x m)))
+can-run-is σ n log hs e same low =
+    all-agree _ _ (didOfEntry e .changes) (λ x m. ap (λ (c : Cell). runsAt c x) (same (x .history) (low x m)))
 
 -- What is found for an item and its history, as they were read, holds of the item against the cells of the histories.
 module _ (hs : List History) (y : Item) {h : History} {b : Bool} where

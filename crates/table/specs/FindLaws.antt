@@ -12,8 +12,8 @@ use lib.ListN.{length, getD, take, drop, length-map}
 use lib.Seq.{split-at, length-take-le}
 use Rattle.forms.specs.Lists.{any, keep, find}
 use Rattle.forms.specs.ListLaws.{Nodup, nodup-mid, keep-append, keep-all, true-T, mem-at, mem-along}
-use Rattle.forms.specs.Forms.{Did, Change}
-use Rattle.rules.specs.Book.{cell, canRun}
+use Rattle.forms.specs.Forms.{Base, Did, Change}
+use Rattle.rules.specs.Book.{canRun}
 use Rattle.rules.specs.State.{Operation}
 use Rattle.rules.specs.Calls.{inProgress, future, without, behind, pick, Pick}
 use Rattle.rules.specs.Calls.Pick.{nobody, this}
@@ -22,6 +22,7 @@ use Rattle.rules.specs.CheckLaws.{or-false-left, or-false-right}
 use Rattle.history.specs.declared.History.{History}
 use Rattle.history.specs.declared.Entry.{Entry}
 use Rattle.history.specs.Entries.{cellsOf, operationOf, didOfEntry}
+use Rattle.history.specs.AtLog.{HoldsBook}
 use Rattle.history.specs.Tests.{any-map, any-agree, map-map}
 use Rattle.table.specs.declared.Found.{Found}
 use Rattle.table.specs.declared.Found.the-variants.{At, Nothing}
@@ -190,41 +191,41 @@ without-is i running l k once e =
 -- ### Redo
 
 -- what is picked of a line and those behind it
-picked : List Did → Did → List Did → Bool → Pick
-picked log w ws b = elim b [ true ↦ this 1 w ws | false ↦ behind w (pick log ws) ]
+picked : (σ : Base) → List Did → Did → List Did → Bool → Pick
+picked σ log w ws b = elim b [ true ↦ this 1 w ws | false ↦ behind w (pick σ log ws) ]
 
-pick-mid : (log a : List Did) (d : Did) (b : List Did) → any (canRun log) a ≡ false → canRun log d ≡ true
-    → pick log (a ++ d ∷ b) ≡ this (suc (length a)) d (a ++ b)
+pick-mid : (σ : Base) (log a : List Did) (d : Did) (b : List Did) → any (canRun σ log) a ≡ false → canRun σ log d ≡ true
+    → pick σ log (a ++ d ∷ b) ≡ this (suc (length a)) d (a ++ b)
 unfolding picked pick behind
-pick-mid log [] d b e h = ap (picked log d b) h
-pick-mid log (w ∷ a) d b e h =
-    ap (picked log w (a ++ d ∷ b)) (or-false-left (canRun log w) (any (canRun log) a) e)
-    ∙ ap (behind w) (pick-mid log a d b (or-false-right (canRun log w) (any (canRun log) a) e) h)
+pick-mid σ log [] d b e h = ap (picked σ log d b) h
+pick-mid σ log (w ∷ a) d b e h =
+    ap (picked σ log w (a ++ d ∷ b)) (or-false-left (canRun σ log w) (any (canRun σ log) a) e)
+    ∙ ap (behind w) (pick-mid σ log a d b (or-false-right (canRun σ log w) (any (canRun σ log) a) e) h)
 
-pick-none : (log l : List Did) → any (canRun log) l ≡ false → pick log l ≡ nobody (length l)
+pick-none : (σ : Base) (log l : List Did) → any (canRun σ log) l ≡ false → pick σ log l ≡ nobody (length l)
 unfolding picked pick behind
-pick-none log [] e = refl
-pick-none log (w ∷ l) e =
-    ap (picked log w l) (or-false-left (canRun log w) (any (canRun log) l) e)
-    ∙ ap (behind w) (pick-none log l (or-false-right (canRun log w) (any (canRun log) l) e))
+pick-none σ log [] e = refl
+pick-none σ log (w ∷ l) e =
+    ap (picked σ log w l) (or-false-left (canRun σ log w) (any (canRun σ log) l) e)
+    ∙ ap (behind w) (pick-none σ log l (or-false-right (canRun σ log w) (any (canRun σ log) l) e))
 
-module _ (n : ℕ) (log : List Did) (hs : List History) (l : List Entry) (same : (h : ℕ) → h < n → cellsOf hs h ≡ cell h log)
+module _ (σ : Base) (n : ℕ) (log : List Did) (hs : List History) (l : List Entry) (same : HoldsBook σ n hs log)
     (low : (e : Entry) → Mem e l → (x : Change) → Mem x (didOfEntry e .changes) → x .history < n) where
-  agree : (a : List Entry) → ((e : Entry) → Mem e a → Mem e l) → any (canRun log) (map didOfEntry a) ≡ any (canRunEntry (cellsOf hs)) a
+  agree : (a : List Entry) → ((e : Entry) → Mem e a → Mem e l) → any (canRun σ log) (map didOfEntry a) ≡ any (canRunEntry (cellsOf hs)) a
   agree a into =
-      any-map didOfEntry (canRun log) a
+      any-map didOfEntry (canRun σ log) a
       ∙ sym
-      (any-agree (canRunEntry (cellsOf hs)) (λ (e : Entry). canRun log (didOfEntry e)) a
-      (λ e m. can-run-is n log hs e same (low e (into e m))))
+      (any-agree (canRunEntry (cellsOf hs)) (λ (e : Entry). canRun σ log (didOfEntry e)) a
+      (λ e m. can-run-is σ n log hs e same (low e (into e m))))
 
   -- The first line that can run is the one that the specification picks, and the queue without it holds the others.
   pub pick-is : (k : ℕ) → firstAt (canRunEntry (cellsOf hs)) l ≡ At k
-      → pick log (map didOfEntry l) ≡ this (k + 1) (didOfEntry (getD l k pastEntry)) (map didOfEntry (take k l ++ drop (k + 1) l))
+      → pick σ log (map didOfEntry l) ≡ this (k + 1) (didOfEntry (getD l k pastEntry)) (map didOfEntry (take k l ++ drop (k + 1) l))
   pick-is k e =
-      ap (pick log) (map-split didOfEntry l pastEntry k (f .lt))
-      ∙ pick-mid log (map didOfEntry (take k l)) (didOfEntry (getD l k pastEntry)) (map didOfEntry (drop (suc k) l))
+      ap (pick σ log) (map-split didOfEntry l pastEntry k (f .lt))
+      ∙ pick-mid σ log (map didOfEntry (take k l)) (didOfEntry (getD l k pastEntry)) (map didOfEntry (drop (suc k) l))
       (agree (take k l) (λ x m. whole x (Memᴰ·append-left (getD l k pastEntry ∷ drop (suc k) l) m)) ∙ f .miss)
-      (sym (can-run-is n log hs (getD l k pastEntry) same
+      (sym (can-run-is σ n log hs (getD l k pastEntry) same
       (low (getD l k pastEntry) (whole (getD l k pastEntry) (mem-at (getD l k pastEntry) (take k l) (drop (suc k) l))))) ∙ f .hit)
       ∙ ap₂ (λ (n : ℕ) (rest : List Did). this n (didOfEntry (getD l k pastEntry)) rest) looked
       (sym (map-rest didOfEntry l pastEntry k (f .lt)))
@@ -238,7 +239,7 @@ module _ (n : ℕ) (log : List Did) (hs : List History) (l : List Entry) (same :
       whole : (x : Entry) → Mem x (take k l ++ getD l k pastEntry ∷ drop (suc k) l) → Mem x l
       whole x m = mem-along (sym (split-at l k pastEntry (f .lt))) m
 
-  pub pick-nobody : firstAt (canRunEntry (cellsOf hs)) l ≡ Nothing → pick log (map didOfEntry l) ≡ nobody (length l)
+  pub pick-nobody : firstAt (canRunEntry (cellsOf hs)) l ≡ Nothing → pick σ log (map didOfEntry l) ≡ nobody (length l)
   pick-nobody e =
-      pick-none log (map didOfEntry l) (agree l (λ x m. m) ∙ first-missed (canRunEntry (cellsOf hs)) pastEntry l e)
+      pick-none σ log (map didOfEntry l) (agree l (λ x m. m) ∙ first-missed (canRunEntry (cellsOf hs)) pastEntry l e)
       ∙ ap nobody (length-map l didOfEntry)

@@ -33,7 +33,8 @@ set-last (y ∷ l) x e zero q = absurd (omega (arith, q))
 set-last {A} (y ∷ l) x e (suc n) q = ap (λ (k : List A). y ∷ k) (set-last l x e n (omega (arith, q)))
 
 -- Where the done ones stay, there are as many.
-pub done-stays : (u : Table) (p ws : List ℕ) → Owns u p ws → (v : Table) (r : List ℕ) → Owns v r ws → finishedRows v r ws ≡ finishedRows u p ws
+pub done-stays : (u : Table) (p ws : List ℕ) → Owns u p ws → (v : Table) (r : List ℕ) → Owns v r ws →
+    finishedRows v r ws ≡ finishedRows u p ws
     → v .finished ≡ u .finished
 done-stays u p ws own v r left e = sym (finished-length v r ws left) ∙ ap length e ∙ finished-length u p ws own
 
@@ -49,7 +50,8 @@ completed t o ws own i h e good u p z m v r q left new put =
     let first : Becomes o ws u p ws (F ++ (x ∷ [])) (take i Q ++ drop (i + 1) Q) =
     subst (λ (s : Table). Becomes o ws s p ws (F ++ (x ∷ [])) (take i Q ++ drop (i + 1) Q)) (sym z) (finished t o ws own i h e p m) in
     let rows = left .finishedIs ∙ first .finishedIs in
-    let many : v .finished ≡ t .finished + 1 = done-stays u p ws (first .owns) v r (left .owns) (left .finishedIs) ∙ ap (λ (s : Table). s .finished) z in
+    let many : v .finished ≡ t .finished + 1 =
+    done-stays u p ws (first .owns) v r (left .owns) (left .finishedIs) ∙ ap (λ (s : Table). s .finished) z in
     let last = rewritten v r ws (left .owns) e new good (v .finished - 1) (omega (arith, many)) put in
     record {
       owns = last .owns;

@@ -33,7 +33,7 @@ liveCount t = t .finished + t .queue
 abbrev pub finishedRows : Table → List ℕ → List ℕ → List Entry
 finishedRows t o ws = rowsIn o ws 0 (t .finished)
 
--- .. and the stable mark noted in the row of each: 02's "a report of a did line after it" covers the stable lines written before that did line
+-- .. and the stable mark noted in the row of each: 02's "a report of a did line after it" covers the stable lines before that did line
 abbrev pub marksIn : Table → List ℕ → List ℕ → List ℕ
 marksIn t o ws = map (markAt ws) (take (t .finished) o)
 

@@ -5,25 +5,26 @@ use mathlib.Core.Bool.{Bool, true, false, cond, not, _&&_, _||_}
 use mathlib.Core.List.{List, [], _∷_, _++_}
 use mathlib.Core.List.{List·Memᴰ as Mem, List·Memᴰ·head as here, List·Memᴰ·tail as there}
 use Rattle.forms.specs.Lists.{all}
-use Rattle.forms.specs.Forms.{Update, Did}
+use Rattle.forms.specs.Forms.{Base, Update, Did}
 use Rattle.rules.specs.Rules.{mayRun}
-use Rattle.rules.specs.Book.{Cell, cell}
+use Rattle.rules.specs.Book.{Cell}
 use Rattle.rules.specs.State.{Operation}
 use Rattle.rules.specs.Calls.{blocked, mayRunNow, ready, attempt, tryFrom, tryAll}
 use Rattle.history.specs.declared.History.{History}
 use Rattle.history.specs.Entries.{cellsOf, mayRunIn}
 use Rattle.history.specs.Tests.{all-agree}
 use Rattle.history.specs.CellLaws.{logCells}
+use Rattle.history.specs.AtLog.{HoldsBook}
 use Rattle.table.specs.declared.Marks.{Marks}
 use Rattle.table.specs.Tries.{readyIn, attemptIn, tryFromIn, tryAllIn, gather, held, MarksOf, readyBy, startsBy}
 use Rattle.table.specs.MarkLaws.{gather-append, free-is}
 
 -- ### Cells and the log
 
-try-log : (log : List Did) (tried xs : List Operation) → tryFromIn (logCells log) tried xs ≡ tryFrom log tried xs
+try-log : (σ : Base) (log : List Did) (tried xs : List Operation) → tryFromIn (logCells σ log) tried xs ≡ tryFrom σ log tried xs
 unfolding tryFromIn tryFrom attemptIn attempt readyIn ready mayRunIn mayRunNow
-try-log log tried [] = refl
-try-log log tried (x ∷ xs) = try-log log (tried ++ (attempt log (tried ++ xs) x ∷ [])) xs
+try-log σ log tried [] = refl
+try-log σ log tried (x ∷ xs) = try-log σ log (tried ++ (attempt σ log (tried ++ xs) x ∷ [])) xs
 
 module _ (n : ℕ) (a b : ℕ → Cell) (same : (h : ℕ) → h < n → a h ≡ b h) where
   attempt-agree : (others : List Operation) (x : Operation) → ((u : Update) → Mem u (x .updates) → u .history < n)
@@ -46,9 +47,9 @@ module _ (n : ℕ) (a b : ℕ → Cell) (same : (h : ℕ) → h < n → a h ≡ 
       ∙ try-agree (tried ++ (attemptIn b (tried ++ xs) x ∷ [])) xs (λ y m. low y (there m))
 
 -- The pass against the cells of the first n histories is the specification's against the log that they stand for.
-pub try-all-is : (n : ℕ) (log : List Did) (hs : List History) (xs : List Operation) → ((h : ℕ) → h < n → cellsOf hs h ≡ cell h log)
-    → ((x : Operation) → Mem x xs → (u : Update) → Mem u (x .updates) → u .history < n) → tryAllIn (cellsOf hs) xs ≡ tryAll log xs
-try-all-is n log hs xs same low = try-agree n (cellsOf hs) (logCells log) same [] xs low ∙ try-log log [] xs
+pub try-all-is : (σ : Base) (n : ℕ) (log : List Did) (hs : List History) (xs : List Operation) → HoldsBook σ n hs log
+    → ((x : Operation) → Mem x xs → (u : Update) → Mem u (x .updates) → u .history < n) → tryAllIn (cellsOf hs) xs ≡ tryAll σ log xs
+try-all-is σ n log hs xs same low = try-agree n (cellsOf hs) (logCells σ log) same [] xs low ∙ try-log σ log [] xs
 
 -- ### One try, by the marks
 

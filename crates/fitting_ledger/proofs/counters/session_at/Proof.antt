@@ -35,6 +35,12 @@ element-copy-out-t34 c = search needs
 element-copy-out-t38 : tie.Need-element-copy-out-t38
 element-copy-out-t38 c = search needs
 
+element-copy-out-t42 : tie.Need-element-copy-out-t42
+element-copy-out-t42 c = search needs
+
+element-copy-out-t46 : tie.Need-element-copy-out-t46
+element-copy-out-t46 c = search needs
+
 element-copy-out-t6-3 : tie.Need-element-copy-out-t6-3
 element-copy-out-t6-3 c = search needs
 
@@ -56,5 +62,7 @@ session-at-spec =
     element-copy-out-t30
     element-copy-out-t34
     element-copy-out-t38
+    element-copy-out-t42
+    element-copy-out-t46
     element-copy-out-t6-3
     returns)

@@ -16,8 +16,8 @@ bit-requires-2 c κs = search needs
 returns : tie.Need-returns
 unfolding wordsOf
 returns c =
-    let s = c .before .before .before .before .before .before .before .before .args .s .site in
-    ap₂ (λ (x y : ℕ). x ∷ s .count ∷ s .used ∷ s .done .0 ∷ s .persistent .0 ∷ s .stable .0 ∷ s .left .0 ∷ y ∷ s .reserved ∷ s .table .finished ∷ s .table .queue ∷ [])
+    let s = c .before .before .before .before .before .before .before .before .before .args .s .site in
+    ap₂ (λ (x y : ℕ). x ∷ s .count ∷ s .used ∷ s .head ∷ s .base .0 ∷ s .done .0 ∷ s .persistent .0 ∷ s .stable .0 ∷ s .left .0 ∷ y ∷ s .reserved ∷ s .table .finished ∷ s .table .queue ∷ [])
     (c .before .bit .ensures) (c .bit2 .ensures)
 
 pub words-of-spec : {M : Type 1} → statement M
