@@ -41,7 +41,7 @@ extern "C" {
 #define FL_UPDATES 4
 
 /* Words of a state's parts. */
-#define FL_COUNTER_WORDS 11
+#define FL_COUNTER_WORDS 13
 #define FL_ROW_WORDS 24
 #define FL_HISTORY_WORDS 6
 
@@ -72,6 +72,9 @@ enum {
 
 /* What fl_poll returns in place of FL_OK: the history is not dry, or it is. */
 enum { FL_BUSY = 1000, FL_DRY = 1001 };
+
+/* What fl_trim returns in place of FL_OK: this and the bytes used. */
+enum { FL_TRIMMED = 1000 };
 
 /*
  * A site's state. The owner lends it, and the buffer of its log beside it; both must stay where they are and as they are between calls.
@@ -109,7 +112,7 @@ enum {
     FL_SECOND_COUNT = 1,
     FL_LOG_NUMBER = 2, /* of a finish .. */
     FL_OVERTAKEN = 3,  /* .. and how many ids of its second list, the first ones, were overtaken */
-    FL_LINES = 2,      /* of a cut: the did lines that it kept .. */
+    FL_LINES = 2,      /* of a cut: the operations done after it, those of the base line and the did lines that it kept .. */
     FL_USED = 3,       /* .. and the bytes of the log in use */
     FL_RAN = 2,        /* of a redo: the lines that ran .. */
     FL_EXAMINED = 3,   /* .. and the examinations that it made */
@@ -156,6 +159,8 @@ uint64_t fl_redo_parts(uint64_t *counters, uint8_t *log, size_t log_bytes, uint6
                        uint64_t *answer, const uint8_t *line, size_t line_bytes);
 uint64_t fl_poll_parts(const uint64_t *counters, const uint8_t *log, size_t log_bytes, const uint64_t *rows, const uint8_t *order,
                        const uint64_t *histories, uint64_t history);
+uint64_t fl_trim_parts(const uint64_t *counters, const uint8_t *log, size_t log_bytes, const uint64_t *rows, const uint8_t *order,
+                       const uint64_t *histories, uint64_t n, uint8_t *fresh, size_t fresh_bytes);
 
 /* Whether the library that was linked is the one that this header speaks of: 1 or 0. Ask once, first. */
 static inline int fl_fits(void) {
@@ -283,7 +288,8 @@ static inline uint64_t fl_show(fl_site *site, uint64_t history, fl_reply *reply)
     return fl_show_parts(site->counters, site->log, site->log_bytes, site->rows, site->order, site->histories, reply->answer, history);
 }
 
-/* A supply cut that leaves the first `kept` bytes of the log, and a restart from them: FL_LINES and FL_USED. */
+/* A supply cut that leaves the first `kept` bytes of the log, and a restart from them: FL_LINES and FL_USED. FL_BAD_LOG also for a cut
+ * inside the site line or the base line. */
 static inline uint64_t fl_cut(fl_site *site, uint64_t kept, fl_reply *reply) {
     return fl_cut_parts(site->counters, site->log, site->log_bytes, site->rows, site->order, site->histories, reply->answer, kept);
 }
@@ -297,6 +303,17 @@ static inline uint64_t fl_redo(fl_site *site, const uint8_t *line, size_t line_b
 /* Polls a history: FL_DRY or FL_BUSY, FL_NO_SUCH_HISTORY, or FL_OUT_OF_TURN without a site. While restoring too. Nothing changes. */
 static inline uint64_t fl_poll(const fl_site *site, uint64_t history) {
     return fl_poll_parts(site->counters, site->log, site->log_bytes, site->rows, site->order, site->histories, history);
+}
+
+/*
+ * Copies the log into a fresh buffer, with a base line in place of its first n operations: FL_TRIMMED and the bytes used. Bytes behind them
+ * are as they were; so are the state, the log and, after a refusal, the fresh buffer. While restoring too.
+ * FL_ABOVE_LIMIT: n is above the stable mark, above 2^63 or below the log's own base, or fresh_bytes is above FL_LOG_BYTES. Only after
+ * these FL_NO_ROOM: the copy does not fit. FL_OUT_OF_TURN without a site.
+ * The changeover is fl_restart from all bytes of the copy, in its buffer, once they are stored; from then on the old log is not needed.
+ */
+static inline uint64_t fl_trim(const fl_site *site, uint64_t n, uint8_t *fresh, size_t fresh_bytes) {
+    return fl_trim_parts(site->counters, site->log, site->log_bytes, site->rows, site->order, site->histories, n, fresh, fresh_bytes);
 }
 
 /* The lists of a reply: fl_first has answer[FL_FIRST_COUNT] numbers, fl_second has answer[FL_SECOND_COUNT]. */

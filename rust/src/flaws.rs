@@ -137,6 +137,56 @@ flaws! {
     UpgradesNewLogs,
     /// The changeover refuses what restart would have no table for.
     UpgradesSmallLogsOnly,
+    /// The changeover of an older log reads a base line.
+    UpgradesLogsWithBase,
+    /// A base line above 1,024 bytes is unreadable.
+    BaseHeldToLineLimit,
+    /// Restart takes a base line behind the second line.
+    BaseAnywhere,
+    /// Restart takes a base line that lacks a history.
+    BaseLacksHistories,
+    /// Restart takes a base line whose histories do not rise.
+    BaseInAnyOrder,
+    /// Restart takes a base line of 2^63 + 1 operations.
+    BaseOneAboveTop,
+    /// Restart refuses a base line of 2^63 operations.
+    BaseOneBelowTop,
+    /// Restart takes a base line with a place one above its N.
+    BasePlacesOneAbove,
+    /// The histories start from nothing behind a base line.
+    BaseForgotten,
+    /// With a base line and no stable line the mark is 0.
+    BaseNotStable,
+    /// The operations of a base line do not count in a cut's reply.
+    BaseNotCounted,
+    /// The site's own cut takes a torn base line.
+    CutsInsideBase,
+    /// A report of fewer operations than the base line has is refused.
+    ReportsBelowBaseRefused,
+    /// A log is not copied while restoring.
+    TrimsAfterRestoring,
+    /// A log is copied from a number above the stable mark.
+    TrimsAboveStable,
+    /// A log is copied from a number above 2^63.
+    TrimsAboveTop,
+    /// A log is copied from a number below its own base.
+    TrimsBelowBase,
+    /// A log is copied into a fresh buffer above 65,536 bytes.
+    TrimsIntoAnyBuffer,
+    /// A copy that does not fit is refused 12 before 13.
+    TrimRoomBeforeLimit,
+    /// The base line of a copy has what the histories are now.
+    TrimsToNow,
+    /// Older stable lines are copied.
+    TrimCopiesStableLines,
+    /// A copy ends with a stable line at its own base too.
+    TrimAlwaysCloses,
+    /// A copy ends with no stable line.
+    TrimNeverCloses,
+    /// A refused copy is written as far as it fits.
+    TrimWritesWhenRefused,
+    /// A copy changes the byte behind it.
+    TrimWritesPastTheCopy,
     /// Redo goes by the version alone.
     RedoByVersionAlone,
     /// Only one waiting line runs after a delivery.

@@ -78,7 +78,23 @@ impl Did {
     }
 }
 
-/// A line of a log behind its site line.
+/// `(H V P O)`: a history's version, place and profile, as a base line has them.
+#[derive(Clone, Copy, Debug, PartialEq, Eq)]
+pub struct BaseCell {
+    pub history: u64,
+    pub version: u64,
+    pub place: u64,
+    pub profile: u64,
+}
+
+/// `(base N (H V P O)...)`: where a shorter log begins, after N operations.
+#[derive(Clone, Debug, PartialEq, Eq)]
+pub struct Base {
+    pub up_to: u64,
+    pub cells: Vec<BaseCell>,
+}
+
+/// A line of a log behind its site line and its base line.
 #[derive(Clone, Copy, Debug, PartialEq, Eq)]
 pub enum LogLine {
     Did(Did),

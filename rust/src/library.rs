@@ -35,6 +35,15 @@ mod linked {
             out_length: usize,
         ) -> usize;
 
+        pub fn log_trim(
+            log: *const u8,
+            log_length: usize,
+            kept: usize,
+            n: u64,
+            fresh: *mut u8,
+            fresh_length: usize,
+        ) -> u64;
+
         pub fn log_upgrade(log: *mut u8, log_length: usize, kept: usize) -> u64;
 
         pub fn keeper_keep(
@@ -183,6 +192,14 @@ impl Program for Library {
         // SAFETY: see above.
         fitting(unsafe {
             linked::site_restart(log.as_ptr(), log.len(), kept, out.as_mut_ptr(), out.len())
+        })
+    }
+
+    fn trim(&self, log: &[u8], kept: usize, n: u64, fresh: &mut [u8]) -> Outcome {
+        // SAFETY: see above.
+        outcome(unsafe {
+            let (address, length) = (fresh.as_mut_ptr(), fresh.len());
+            linked::log_trim(log.as_ptr(), log.len(), kept, n, address, length)
         })
     }
 

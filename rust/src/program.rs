@@ -49,6 +49,23 @@ pub trait Program {
     /// which 64 bytes are enough, or nothing when `out` is too short for it.
     fn restart(&self, log: &[u8], kept: usize, out: &mut [u8]) -> Option<usize>;
 
+    /// Restarts from the first `kept` bytes of a log buffer and goes on with a session. Gives the
+    /// length of the replies, that of the restart first, or nothing when `out` is too short for
+    /// them, or where the program has no such call.
+    fn session_from(
+        &self,
+        _input: &[u8],
+        _log: &mut [u8],
+        _kept: usize,
+        _out: &mut [u8],
+    ) -> Option<usize> {
+        None
+    }
+
+    /// Restarts from the first `kept` bytes of a log and copies it from `n` on into a fresh buffer.
+    /// Gives the bytes used there.
+    fn trim(&self, log: &[u8], kept: usize, n: u64, fresh: &mut [u8]) -> Outcome;
+
     /// Changes over an older log in the first `kept` bytes of a buffer. Gives the bytes in use.
     fn upgrade(&self, log: &mut [u8], kept: usize) -> Outcome;
 
@@ -142,11 +159,28 @@ impl Program for Second {
     }
 
     fn restart(&self, log: &[u8], kept: usize, out: &mut [u8]) -> Option<usize> {
-        let restarted: Answer = Site::restart(log, kept as u64, self.rules)
-            .map(|site| Reply::Restarted { lines: site.done(), bytes: site.used() });
-        let mut reply = Vec::new();
-        writer::answer(&mut reply, &restarted);
-        put(&reply, out)
+        put(&restart_reply(&Site::restart(log, kept as u64, self.rules)), out)
+    }
+
+    fn session_from(
+        &self,
+        input: &[u8],
+        log: &mut [u8],
+        kept: usize,
+        out: &mut [u8],
+    ) -> Option<usize> {
+        let restarted = Site::restart(log, kept as u64, self.rules);
+        let first = restart_reply(&restarted);
+        let session = match restarted {
+            Ok(site) => Session::of(site, self.rules),
+            Err(_) => Session::new(self.rules),
+        };
+        put(&[first, session::run_on(session, input, log).0].concat(), out)
+    }
+
+    fn trim(&self, log: &[u8], kept: usize, n: u64, fresh: &mut [u8]) -> Outcome {
+        let site = Site::restart(log, kept as u64, self.rules);
+        outcome(site.and_then(|site| site.trim(n, log, fresh)))
     }
 
     fn upgrade(&self, log: &mut [u8], kept: usize) -> Outcome {
@@ -170,6 +204,17 @@ impl Program for Second {
     fn records(&self, numbers: &mut [u64], count: usize, call: RecordCall) -> Outcome {
         outcome(Records::resume(numbers, count, self.rules).ok_or(NO_RECORDS)?.call(call))
     }
+}
+
+/// The reply line of a restart.
+fn restart_reply(restarted: &Result<Site, Refusal>) -> Vec<u8> {
+    let answer: Answer = match restarted {
+        Ok(site) => Ok(Reply::Restarted { lines: site.lines_kept(), bytes: site.used() }),
+        Err(refusal) => Err(*refusal),
+    };
+    let mut reply = Vec::new();
+    writer::answer(&mut reply, &answer);
+    reply
 }
 
 /// Puts a text at the front of a buffer, if it fits; gives its length.

@@ -1,12 +1,14 @@
 //! The library for controllers behind a safe type: a [`Site`] can only be had from [`Site::start`] or [`Site::restart`], and its words and
 //! the log that was lent to it can only be changed by its calls. That is what these ask for.
 
+mod linked;
+
 /// The greatest log buffer.
 pub const LOG_BYTES: usize = 65_536;
 /// The longest reply.
 pub const REPLY_BYTES: usize = 2_741;
 const VERSION: u64 = 1;
-const COUNTERS: usize = 11;
+const COUNTERS: usize = 13;
 const ROWS: usize = 64 * 24;
 const HISTORIES: usize = 16 * 6;
 const ORDER: usize = 64;
@@ -15,132 +17,7 @@ const NUMBERS: usize = 68;
 const UPDATES: usize = 4;
 const BUSY: u64 = 1_000;
 const DRY: u64 = 1_001;
-
-/// The library's functions. A slice passes as its address and its length, an array as its address.
-mod linked {
-    use super::*;
-
-    extern "C" {
-        pub fn fl_version() -> u64;
-        pub fn fl_state_bytes() -> usize;
-        pub fn fl_reply_bytes() -> usize;
-
-        pub fn fl_start_parts(
-            counters: &mut [u64; COUNTERS],
-            log: *mut u8,
-            log_bytes: usize,
-            rows: &[u64; ROWS],
-            order: &mut [u8; ORDER],
-            histories: &mut [u64; HISTORIES],
-            count: u64,
-        ) -> u64;
-
-        pub fn fl_restart_parts(
-            counters: &mut [u64; COUNTERS],
-            log: *const u8,
-            log_bytes: usize,
-            rows: &mut [u64; ROWS],
-            order: &mut [u8; ORDER],
-            histories: &mut [u64; HISTORIES],
-            kept: usize,
-        ) -> u64;
-
-        pub fn fl_line_parts(
-            counters: &mut [u64; COUNTERS],
-            log: *mut u8,
-            log_bytes: usize,
-            rows: &mut [u64; ROWS],
-            order: &mut [u8; ORDER],
-            histories: &mut [u64; HISTORIES],
-            line: *const u8,
-            line_bytes: usize,
-            reply: *mut u8,
-            reply_bytes: usize,
-        ) -> usize;
-
-        pub fn fl_log_used_parts(
-            counters: &[u64; COUNTERS],
-            log: *const u8,
-            log_bytes: usize,
-            rows: &[u64; ROWS],
-            order: &[u8; ORDER],
-            histories: &[u64; HISTORIES],
-        ) -> usize;
-
-        pub fn fl_add_parts(
-            counters: &mut [u64; COUNTERS],
-            log: *const u8,
-            log_bytes: usize,
-            rows: &mut [u64; ROWS],
-            order: &[u8; ORDER],
-            histories: &mut [u64; HISTORIES],
-            numbers: &mut [u64; NUMBERS],
-            answer: &mut [u64; ANSWER],
-            id: u64,
-            updates: &[u64; UPDATES * 4],
-            count: usize,
-        ) -> u64;
-
-        pub fn fl_finish_parts(
-            counters: &mut [u64; COUNTERS],
-            log: *mut u8,
-            log_bytes: usize,
-            rows: &mut [u64; ROWS],
-            order: &mut [u8; ORDER],
-            histories: &mut [u64; HISTORIES],
-            numbers: &mut [u64; NUMBERS],
-            answer: &mut [u64; ANSWER],
-            id: u64,
-        ) -> u64;
-
-        pub fn fl_persistent_parts(
-            counters: &mut [u64; COUNTERS],
-            log: *const u8,
-            log_bytes: usize,
-            rows: &[u64; ROWS],
-            order: &mut [u8; ORDER],
-            histories: &mut [u64; HISTORIES],
-            numbers: &mut [u64; NUMBERS],
-            answer: &mut [u64; ANSWER],
-            n: u64,
-        ) -> u64;
-
-        pub fn fl_stable_parts(
-            counters: &mut [u64; COUNTERS],
-            log: *mut u8,
-            log_bytes: usize,
-            rows: &[u64; ROWS],
-            order: &[u8; ORDER],
-            histories: &mut [u64; HISTORIES],
-            numbers: &mut [u64; NUMBERS],
-            answer: &mut [u64; ANSWER],
-            n: u64,
-        ) -> u64;
-
-        pub fn fl_end_parts(
-            counters: &mut [u64; COUNTERS],
-            log: *const u8,
-            log_bytes: usize,
-            rows: &[u64; ROWS],
-            order: &[u8; ORDER],
-            histories: &[u64; HISTORIES],
-            numbers: &mut [u64; NUMBERS],
-            answer: &mut [u64; ANSWER],
-        ) -> u64;
-
-        pub fn fl_poll_parts(
-            counters: &[u64; COUNTERS],
-            log: *const u8,
-            log_bytes: usize,
-            rows: &[u64; ROWS],
-            order: &[u8; ORDER],
-            histories: &[u64; HISTORIES],
-            history: u64,
-        ) -> u64;
-
-        pub fn fl_upgrade(log: *mut u8, log_bytes: usize, kept: usize, used: &mut usize) -> u64;
-    }
-}
+const TRIMMED: u64 = 1_000;
 
 /// The number of a refusal.
 #[derive(Clone, Copy, Debug, PartialEq, Eq)]
@@ -429,6 +306,29 @@ impl<'log> Site<'log> {
             DRY => Ok(true),
             BUSY => Ok(false),
             refusal => Err(Refusal(refusal)),
+        }
+    }
+
+    /// Copies the log into a fresh buffer, with a base line in place of its first n operations; gives the bytes used there. Once they are
+    /// stored, a restart from all of them is the changeover.
+    pub fn trim(&self, n: u64, fresh: &mut [u8]) -> Result<usize, Refusal> {
+        // SAFETY: see above.
+        let code = unsafe {
+            linked::fl_trim_parts(
+                &self.counters,
+                self.log.as_ptr(),
+                self.log.len(),
+                &self.rows,
+                &self.order,
+                &self.histories,
+                n,
+                fresh.as_mut_ptr(),
+                fresh.len(),
+            )
+        };
+        match code.checked_sub(TRIMMED) {
+            Some(used) => Ok(used as usize),
+            None => Err(Refusal(code)),
         }
     }
 }

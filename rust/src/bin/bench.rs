@@ -129,8 +129,9 @@ fn figures() -> Vec<Figure> {
         session("redo of 64 in reverse", redone(true)),
         session("mixed session", mixed()),
         restart(log.clone()),
-        hand_out(log),
+        hand_out(log.clone()),
         site_calls(),
+        trim(log),
     ]
 }
 
@@ -164,6 +165,19 @@ fn restart(log: Vec<u8>) -> Figure {
         move || {
             let length = program.restart(black_box(&log), log.len(), &mut out);
             assert!(length.is_some() && black_box(&out).starts_with(b"(ok "), "the log restarts");
+        }
+    })
+}
+
+/// A restart from a full log and a copy of it from its middle on, in bytes of the log.
+fn trim(log: Vec<u8>) -> Figure {
+    let site = Site::restart(&log, log.len() as u64, Rules::PAPER).expect("the log restarts");
+    let n = site.stable_mark() / 2;
+    figure("restart and trim to half", "MB/s", log.len() as f64 / 1e6, |program| {
+        let (log, mut fresh) = (log.clone(), vec![0; Site::LONGEST_LOG]);
+        move || {
+            let used = program.trim(black_box(&log), log.len(), n, &mut fresh);
+            assert!(black_box(used).is_ok(), "the copy fits");
         }
     })
 }

@@ -16,7 +16,7 @@ use crate::random::Random;
 use crate::resending::Resending;
 use crate::scribe::Scribe;
 use crate::trial::{shown_lines, without, Played, Trial};
-use crate::watch::{command_of, is_did, is_stable, line_of, Law, Watch};
+use crate::watch::{base_of, command_of, is_did, is_stable, line_of, Law, Watch};
 
 /// A session with a picked cut in it.
 #[derive(Clone)]
@@ -77,8 +77,13 @@ impl ClaimTrial {
         ClaimTrial { start: Some(start), ..list }
     }
 
+    /// What the claim says of the list, if it speaks of it, and a player does not do.
+    pub fn fault(&self, player: &dyn Player) -> Option<String> {
+        Claim::of(self)?.fault(player)
+    }
+
     /// A session by the law that begins as the list does.
-    fn watch(&self) -> Watch {
+    pub fn watch(&self) -> Watch {
         match &self.start {
             Some(start) => Watch::after(start, self.room, self.law),
             None => Watch::new(self.room, self.law),
@@ -99,9 +104,10 @@ impl ClaimTrial {
     pub fn has_lines_live_again(&self) -> bool {
         Claim::of(self).is_some_and(|claim| {
             let marks = claim.kept.iter().rev().find(|line| is_stable(line));
-            let stable = marks.map_or(0, |line| numbers(line)[0]);
+            let base = base_of(claim.kept.iter().map(String::as_str));
+            let stable = marks.map_or(base, |line| numbers(line)[0]);
             let dids = claim.kept.iter().filter(|line| is_did(line)).count() as u64;
-            dids > stable && !claim.lost.is_empty()
+            base + dids > stable && !claim.lost.is_empty()
         })
     }
 
@@ -161,7 +167,23 @@ impl Trial for ClaimTrial {
 
     /// The first program is not asked: the claim speaks of one program alone.
     fn difference(&self, _: &dyn Program, program: &dyn Program) -> Option<String> {
-        Claim::of(self)?.fault(program)
+        self.fault(&Whole { program })
+    }
+}
+
+/// Whoever can run lines as a list begins.
+pub trait Player {
+    fn play(&self, list: &ClaimTrial, pieces: &[Vec<u8>]) -> Played;
+}
+
+/// A program that runs them as one session.
+struct Whole<'p> {
+    program: &'p dyn Program,
+}
+
+impl Player for Whole<'_> {
+    fn play(&self, list: &ClaimTrial, pieces: &[Vec<u8>]) -> Played {
+        Played::by(self.program, pieces, list.room)
     }
 }
 
@@ -213,6 +235,7 @@ impl<'t> Claim<'t> {
                 }
                 _ if at == picked => return None,
                 (Some(Command::End), Ok(_)) => return None,
+                (None, Ok(_)) => return None,
                 (Some(Command::Redo(_)), answer) => {
                     let line = brought(piece)?;
                     if answer.is_ok() {
@@ -238,10 +261,10 @@ impl<'t> Claim<'t> {
     }
 
     /// What the claim says and the program does not do.
-    fn fault(&self, program: &dyn Program) -> Option<String> {
+    fn fault(&self, player: &dyn Player) -> Option<String> {
         let run = self.lines_that_run();
         let book = Book::of(&[self.kept.as_slice(), &run].concat(), self.histories);
-        let shown = self.show_all(program, self.trial.pieces.len());
+        let shown = self.show_all(player, self.trial.pieces.len());
         if shown != book.shown() {
             let book = book.shown();
             return Some(format!(
@@ -249,12 +272,12 @@ impl<'t> Claim<'t> {
             ));
         }
         if self.chosen.iter().all(|&chosen| chosen) {
-            let before = self.show_all(program, self.picked);
+            let before = self.show_all(player, self.picked);
             if shown != before {
                 return Some(format!("before the cut {before:?}, at the end {shown:?}\n"));
             }
         }
-        self.fault_of_log(program, &run).or_else(|| self.fault_of_end(program, &run))
+        self.fault_of_log(player, &run).or_else(|| self.fault_of_end(player, &run))
     }
 
     /// The chosen lines whose traced lines are all chosen, in first order.
@@ -270,11 +293,12 @@ impl<'t> Claim<'t> {
     }
 
     /// The log is the kept lines, then each line that has run, once, and no more.
-    fn fault_of_log(&self, program: &dyn Program, run: &[String]) -> Option<String> {
+    fn fault_of_log(&self, player: &dyn Player, run: &[String]) -> Option<String> {
         let (kept, mut run) = (self.kept.concat(), run.to_vec());
         let length = kept.len() + run.concat().len();
-        let played = self.play(program, self.trial.pieces.len(), &[]);
-        let log = String::from_utf8_lossy(&played.log[..length]).to_string();
+        let played = self.play(player, self.trial.pieces.len(), &[]);
+        let log = &played.log[..length.min(played.log.len())];
+        let log = String::from_utf8_lossy(log).to_string();
         let mut behind: Vec<&str> =
             log.get(kept.len()..).unwrap_or("").split_inclusive('\n').collect();
         run.sort();
@@ -282,11 +306,12 @@ impl<'t> Claim<'t> {
         if !log.starts_with(&kept) || behind != run {
             return Some(format!("the log should be {kept}{}, and is {log}\n", run.concat()));
         }
-        let lines = self.kept.iter().filter(|line| is_did(line)).count() + run.len();
+        let dids = self.kept.iter().filter(|line| is_did(line)).count() + run.len();
+        let lines = base_of(self.kept.iter().map(String::as_str)) + dids as u64;
         for (bytes, expected) in
             [(length, format!("(ok {lines} {length})")), (length + 1, "(refused 13)".to_string())]
         {
-            let reply = self.last_reply(program, &format!("(cut {bytes})\n"));
+            let reply = self.last_reply(player, &format!("(cut {bytes})\n"));
             if reply != expected {
                 return Some(format!("cut {bytes} should give {expected}, and gives {reply}\n"));
             }
@@ -295,7 +320,7 @@ impl<'t> Claim<'t> {
     }
 
     /// `end` names the other chosen lines in the order in which each first came.
-    fn fault_of_end(&self, program: &dyn Program, run: &[String]) -> Option<String> {
+    fn fault_of_end(&self, player: &dyn Player, run: &[String]) -> Option<String> {
         let mut named: Vec<&String> = Vec::new();
         for line in &self.came {
             if self.lost.contains(line) && !run.contains(line) && !named.contains(&line) {
@@ -304,26 +329,25 @@ impl<'t> Claim<'t> {
         }
         let ids: String = named.iter().map(|line| format!(" {}", id_of(line))).collect();
         let expected = format!("(ok (waiting{ids}))");
-        let reply = self.last_reply(program, "(end)\n");
+        let reply = self.last_reply(player, "(end)\n");
         (reply != expected).then(|| format!("end should give {expected}, and gives {reply}\n"))
     }
 
     /// Runs the first lines and some more.
-    fn play(&self, program: &dyn Program, lines: usize, more: &[Vec<u8>]) -> Played {
-        let pieces = [&self.trial.pieces[..lines], more].concat();
-        Played::by(program, &pieces, self.trial.room)
+    fn play(&self, player: &dyn Player, lines: usize, more: &[Vec<u8>]) -> Played {
+        player.play(self.trial, &[&self.trial.pieces[..lines], more].concat())
     }
 
-    fn last_reply(&self, program: &dyn Program, line: &str) -> String {
-        let played = self.play(program, self.trial.pieces.len(), &[line.as_bytes().to_vec()]);
+    fn last_reply(&self, player: &dyn Player, line: &str) -> String {
+        let played = self.play(player, self.trial.pieces.len(), &[line.as_bytes().to_vec()]);
         played.replies().pop().unwrap_or_default()
     }
 
     /// Version, place and profile of each history after the first lines.
-    fn show_all(&self, program: &dyn Program, lines: usize) -> Vec<[u64; 3]> {
+    fn show_all(&self, player: &dyn Player, lines: usize) -> Vec<[u64; 3]> {
         let shows: Vec<Vec<u8>> =
             (0..self.histories).map(|at| format!("(show {at})\n").into_bytes()).collect();
-        let replies = self.play(program, lines, &shows).replies();
+        let replies = self.play(player, lines, &shows).replies();
         let shown = &replies[replies.len().saturating_sub(shows.len())..];
         shown
             .iter()

@@ -3,20 +3,29 @@
 use std::collections::BTreeSet;
 
 use second::forms::{Answer, Operation, Reply, Update};
-use second::program::Second;
-use second::refusal::Refusal;
+use second::program::{Program, Second};
 use second::rules::{Rules, Timing};
 use second::session::Session;
 use second::site::Site;
 
-use crate::book::{id_of, numbers, Book};
-use crate::trial::{RestartTrial, SessionTrial, UpgradeTrial};
-use crate::watch::{is_did, is_stable, up_to_did, Law, Watch};
+use crate::book::{histories_of as touched, id_of, numbers, Book};
+use crate::going_on::GoingOn;
+use crate::trial::{RestartTrial, SessionTrial};
+use crate::upgraded::UpgradeTrial;
+use crate::watch::{base_of, is_base, is_did, up_to_did, Law, Watch};
 
 /// Runs a session and checks it after every line.
 pub fn check(trial: &SessionTrial) {
-    let mut watch = Watch::new(trial.room, Law::PAPER);
-    for piece in &trial.pieces {
+    check_lines(Watch::new(trial.room, Law::PAPER), &trial.pieces);
+}
+
+/// The same of a session at a site restarted from a log.
+pub fn check_going_on(trial: &GoingOn) {
+    check_lines(Watch::after(&trial.start, trial.room, Law::PAPER), &trial.pieces);
+}
+
+fn check_lines(mut watch: Watch, pieces: &[Vec<u8>]) {
+    for piece in pieces {
         let before = (watch.session.clone(), watch.log.clone());
         let answer = watch.answer(piece);
         check_change(&before, (&watch.session, &watch.log), &answer);
@@ -39,9 +48,8 @@ fn check_fewest(site: &Site, watch: &Watch) {
     }
 }
 
-/// A restart is accepted if the log without its stable lines was one before there were any, they
-/// rise and stay below the did lines, and what is live after it fits the table; and it shows what the
-/// log's text says.
+/// A restart is accepted if each line is one that a log has there, and what is live after it fits
+/// the table; and it shows what the log's text says.
 pub fn check_restart(trial: &RestartTrial) {
     let log = [trial.kept.as_slice(), &trial.rest].concat();
     if trial.above > 0 || log.len() > Site::LONGEST_LOG {
@@ -51,22 +59,22 @@ pub fn check_restart(trial: &RestartTrial) {
     let text = String::from_utf8_lossy(&log[..whole]);
     let restarted = Site::restart(&log, trial.kept.len() as u64, Rules::PAPER);
     let lines: Vec<String> = text.split_inclusive('\n').map(str::to_string).collect();
-    let dids: Vec<String> = lines.iter().filter(|line| !is_stable(line)).cloned().collect();
-    let older = dids.concat().into_bytes();
-    let reads = Site::upgrade(&mut older.clone(), older.len() as u64, Rules::PAPER);
-    let mark = mark_of(&lines).filter(|_| reads != Err(Refusal::BadLog));
-    let live = mark.map(|mark| dids.iter().skip(1 + mark as usize).map(|line| id_of(line)));
+    let mark = histories_of(&lines).and_then(|count| mark_of(&lines, count));
+    let base = base_of(lines.iter().map(String::as_str));
+    let dids: Vec<&String> = lines.iter().filter(|line| is_did(line)).collect();
+    let live = mark.map(|mark| dids.iter().skip((mark - base) as usize).map(|line| id_of(line)));
     let live: Option<Vec<u64>> = live.map(Iterator::collect);
     let fits =
         |ids: &Vec<u64>| ids.len() <= 64 && ids.iter().collect::<BTreeSet<_>>().len() == ids.len();
     assert_eq!(restarted.is_ok(), live.as_ref().is_some_and(fits), "{text}");
     let (Ok(site), Some(mark)) = (restarted, mark) else { return };
-    let done = dids.len() as u64 - 1;
+    let done = base + dids.len() as u64;
     assert_eq!((site.used(), site.done(), site.persistent_mark()), (whole, done, done));
-    assert_eq!((site.stable_mark(), site.left_mark()), (mark, mark));
+    assert_eq!((site.stable_mark(), site.left_mark(), site.base()), (mark, mark, base));
     assert_eq!(site.live() as u64, done - mark);
-    let now = Book::of(&dids, site.count()).shown();
-    let then = Book::of(&dids[..=mark as usize], site.count()).shown();
+    let now = Book::of(&lines, site.count()).shown();
+    let stable = text[..up_to_did(&text, mark)].split_inclusive('\n');
+    let then = Book::of(&stable.map(str::to_string).collect::<Vec<_>>(), site.count()).shown();
     for number in 0..site.count() {
         let shown = site.show(number).expect("the history exists");
         let (now, then) = (now[number as usize], then[number as usize]);
@@ -75,21 +83,59 @@ pub fn check_restart(trial: &RestartTrial) {
     }
 }
 
-/// What the last stable line of a log says, or 0; nothing if one of them is no line of a log, does not
-/// rise or is above the did lines before it.
-fn mark_of(lines: &[String]) -> Option<u64> {
-    let (mut mark, mut dids) = (0, 0);
-    for line in lines {
-        dids += u64::from(is_did(line));
-        if is_stable(line) {
-            let n = *numbers(line).first().unwrap_or(&0);
-            if *line != format!("(stable {n})\n") || n <= mark || n > dids {
-                return None;
-            }
+/// How many histories the first line of a log says, if it is a site line.
+fn histories_of(lines: &[String]) -> Option<u64> {
+    let count = *numbers(lines.first()?).first()?;
+    (lines[0] == format!("(site {count})\n") && (1..=16).contains(&count)).then_some(count)
+}
+
+/// What the last stable line of a log says, or its base line, or 0; nothing if a line behind the first
+/// is none that a log has there.
+fn mark_of(lines: &[String], count: u64) -> Option<u64> {
+    let base = lines.get(1).filter(|line| is_base(line));
+    if !base.is_none_or(|line| is_base_of(line, count)) {
+        return None;
+    }
+    let mut book = Book::at_head(lines, count);
+    let head = 1 + usize::from(base.is_some());
+    let (mut mark, mut done) = match base {
+        Some(line) => (numbers(line)[0], numbers(line)[0]),
+        None => (0, 0),
+    };
+    for line in &lines[head..] {
+        let n = *numbers(line).first().unwrap_or(&0);
+        if is_did(line) && is_did_of(line, count) && book.can_take(line) {
+            book.take_line(line);
+            done += 1;
+        } else if *line == format!("(stable {n})\n") && n > mark && n <= done {
             mark = n;
+        } else {
+            return None;
         }
     }
     Some(mark)
+}
+
+/// Whether a line with its end is a base line of a site with so many histories.
+fn is_base_of(line: &str, count: u64) -> bool {
+    let all = numbers(line);
+    let Some((&n, cells)) = all.split_first().filter(|all| all.1.len() as u64 == 4 * count) else {
+        return false;
+    };
+    let text: String = cells
+        .chunks(4)
+        .map(|cell| format!("({} {} {} {})", cell[0], cell[1], cell[2], cell[3]))
+        .collect();
+    let in_order = cells.chunks(4).map(|cell| cell[0]).eq(0..count);
+    let places = cells.chunks(4).all(|cell| cell[2] <= n);
+    line == format!("(base {n} {text})\n") && in_order && places && n <= 1 << 63
+}
+
+/// Whether a line with its end passes 1 to 5 at a site with so many histories.
+fn is_did_of(line: &str, count: u64) -> bool {
+    let text = line.trim_end_matches('\n').as_bytes();
+    let kept = Second::from_paper().keep(&mut vec![0; text.len() + 1], 0, text);
+    kept.is_ok() && touched(line).iter().all(|&history| history < count)
 }
 
 /// A log that was changed over restarts with the same did lines, all of them stable, none live.
@@ -147,29 +193,22 @@ fn check_site(site: &Site, log: &[u8]) {
     assert!(site.live() <= 64);
     let all = Site::restart(log, site.used() as u64, Rules::PAPER).expect("a log restarts");
     assert_eq!((all.done(), all.stable_mark(), all.used()), (done, stable, site.used()));
-    let whole = after_lines(site, log, done);
-    let (at_persistent, at_stable) =
-        (after_lines(site, log, persistent), after_lines(site, log, stable));
-    for number in 0..site.count() {
-        let shown = site.show(number).expect("the history exists");
-        let told = whole.show(number).expect("the log has the history");
-        assert_eq!(
-            (shown.profile, shown.version, shown.place),
-            (told.profile, told.version, told.place)
-        );
-        assert_eq!(Ok(shown.persistent), at_persistent.show(number).map(|then| then.version));
-        assert_eq!(Ok(shown.stable), at_stable.show(number).map(|then| then.version));
+    let [whole, at_persistent, at_stable] =
+        [done, persistent, stable].map(|operations| after_lines(site, log, operations));
+    for (number, told) in whole.into_iter().enumerate() {
+        let shown = site.show(number as u64).expect("the history exists");
+        assert_eq!([shown.version, shown.place, shown.profile], told);
+        let versions = [at_persistent[number][0], at_stable[number][0]];
+        assert_eq!([shown.persistent, shown.stable], versions);
     }
     check_running(site);
 }
 
-/// The site that the log gives after this many operations.
-fn after_lines(site: &Site, log: &[u8], operations: u64) -> Site {
+/// What the text of the log says of each history after this many operations.
+fn after_lines(site: &Site, log: &[u8], operations: u64) -> Vec<[u64; 3]> {
     let text = std::str::from_utf8(&log[..site.used()]).expect("a log is plain text");
-    let kept = up_to_did(text, operations);
-    let restarted = Site::restart(log, kept as u64, Rules::PAPER).expect("a log restarts");
-    assert_eq!(restarted.done(), operations);
-    restarted
+    let kept = text[..up_to_did(text, operations)].split_inclusive('\n').map(str::to_string);
+    Book::of(&kept.collect::<Vec<_>>(), site.count()).shown()
 }
 
 /// Whether an update of the operation can never run.

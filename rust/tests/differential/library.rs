@@ -11,7 +11,7 @@ fn its_sessions_agree() {
 }
 
 #[test]
-fn its_restarts_changeovers_keepers_and_records_agree() {
+fn its_restarts_changeovers_copies_keepers_and_records_agree() {
     assert_agrees(OTHERS.iter().flatten().map(Box::as_ref), &Library);
 }
 
@@ -97,7 +97,7 @@ fn a_sample_agrees() {
     };
     as_comparisons(&rounds::sessions(0)).for_each(agree);
     as_comparisons(&rounds::claims(0)).for_each(agree);
-    for round in [0, 1, 11] {
+    for round in [0, 1, 11, 15] {
         rounds::others(round).iter().map(Box::as_ref).for_each(agree);
     }
 }

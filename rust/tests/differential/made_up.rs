@@ -104,38 +104,60 @@ pub fn histories(random: &mut Random, count: u64) -> Vec<u64> {
     all
 }
 
+/// What a made-up log is like.
+#[derive(Clone, Copy)]
+struct Plan {
+    lines: usize,
+    /// How often, in a hundred, an id came before.
+    repeats: u64,
+    /// Behind how many did lines, in a hundred, a stable line stands.
+    marks: u64,
+    /// How often, in a hundred, it has a base line.
+    based: u64,
+}
+
 /// A log of made-up lines. Where a line does not fit, those behind it go on from it.
 pub fn log(random: &mut Random) -> Vec<u8> {
-    let lines = random.between(1, 20);
-    let repeats = random.pick(&[0, 5, 30]);
+    let (lines, repeats) = (random.between(1, 20), random.pick(&[0, 5, 30]));
     let marks = random.pick(&[0, 10, 40]);
-    lines_of_log(random, lines, repeats, marks)
+    lines_of_log(random, Plan { lines, repeats, marks, based: 40 })
 }
 
 /// One with 60 to 140 did lines: with few marks, so that about 64 of them are live.
 pub fn long_log(random: &mut Random) -> Vec<u8> {
     let lines = random.pick(&[60, 63, 64, 64, 65, 65, 66, 70, 128, 140]);
     let (repeats, marks) = (random.pick(&[0, 0, 0, 1]), random.pick(&[0, 0, 1, 3]));
-    lines_of_log(random, lines, repeats, marks)
+    lines_of_log(random, Plan { lines, repeats, marks, based: 30 })
 }
 
-/// A log as it would be before there were stable lines.
+/// A log as it would be before there were stable lines and base lines.
+pub fn older_log(random: &mut Random, long: bool) -> Vec<u8> {
+    let lines = if long { random.pick(&[60, 65, 128]) } else { random.between(1, 20) };
+    let repeats = if long { 0 } else { random.pick(&[0, 5, 30]) };
+    lines_of_log(random, Plan { lines, repeats, marks: 0, based: 0 })
+}
+
+/// A log without its stable lines.
 pub fn without_marks(log: &[u8]) -> Vec<u8> {
     let text = String::from_utf8_lossy(log);
     let lines = text.split_inclusive('\n').filter(|line| !is_stable(line));
     lines.collect::<String>().into_bytes()
 }
 
-/// A log that restart accepts: one that was changed over, or one with marks of its own.
+/// A log that restart accepts: one that was changed over, or one with marks of its own, perhaps with
+/// a base line.
 pub fn log_to_start_from(random: &mut Random) -> Vec<u8> {
     loop {
         let long = random.percent(30);
-        let mut log = if long { long_log(random) } else { log(random) };
-        if random.percent(50) {
-            log = without_marks(&log);
+        let mut log = match random.below(10) {
+            0..=4 => older_log(random, long),
+            _ if long => long_log(random),
+            _ => log(random),
+        };
+        if without_marks(&log) == log && random.percent(80) {
             let kept = log.len();
             log.resize(kept + 30, 0);
-            let used = Site::upgrade(&mut log, kept as u64, Rules::PAPER).unwrap_or(0);
+            let used = Site::upgrade(&mut log, kept as u64, Rules::PAPER).unwrap_or(kept);
             log.truncate(used);
         }
         if Site::restart(&log, log.len() as u64, Rules::PAPER).is_ok() {
@@ -144,16 +166,40 @@ pub fn log_to_start_from(random: &mut Random) -> Vec<u8> {
     }
 }
 
-/// So many did lines; so often, in a hundred, with an id that came before, and behind so many of
-/// them a stable line.
-fn lines_of_log(random: &mut Random, lines: usize, repeats: u64, marks: u64) -> Vec<u8> {
+/// A log whose base line says 2^63 or so and is as long as can be, or shorter, with some operations
+/// behind it that are stable.
+pub fn high_log(random: &mut Random) -> Vec<u8> {
+    let (top, count) = (1u64 << 63, random.pick(&[1, 16]));
+    let (n, lines) = (top - 1 + random.below(3), random.below(3));
+    let (version, place) = random.pick(&[(0, 0), (top / 2 * 3, top - 9)]);
+    let cell = |at| format!("({at} {version} {place} {})", u64::MAX - at);
+    let cells: String = (0..count).map(cell).collect();
+    let mut log = format!("(site {count})\n(base {n} {cells})\n");
+    for at in 1..=lines {
+        let (version, place) = (version + at, place + at);
+        log += &format!("(did {at} (inc 0 {version} {place} {}))\n", random.below(2048));
+    }
+    if lines > 0 {
+        log += &format!("(stable {})\n", n + 1 + random.below(lines));
+    }
+    log.into_bytes()
+}
+
+/// A log by a plan.
+fn lines_of_log(random: &mut Random, plan: Plan) -> Vec<u8> {
     let count = random.pick(&[1, 2, 4, 16]);
-    let fits = if lines > 20 { 100 } else { random.pick(&[97, 99, 100]) };
+    let fits = if plan.lines > 20 { 100 } else { random.pick(&[97, 99, 100]) };
     let care = Care { fits, edges: if fits == 100 { 0 } else { random.pick(&[0, 10, 40]) } };
-    let (mut now, mut mark) = ([Now::default(); 16], 0);
+    let mut now = [Now::default(); 16];
     let mut log = format!("(site {count})\n");
-    for done in 1..=lines as u64 {
-        let id = if random.percent(repeats) { random.below(done) } else { done };
+    let mut mark = 0;
+    if random.percent(plan.based) {
+        mark = random.pick(&[0, 1, 5, 1000, 1 << 40]) + random.below(3);
+        log += &base_line(random, care, mark, &mut now[..count as usize]);
+    }
+    let base = mark;
+    for done in 1..=plan.lines as u64 {
+        let id = if random.percent(plan.repeats) { random.below(done) } else { done };
         log += &format!("(did {id} ");
         for history in histories(random, count) {
             let (text, after) = entry(random, care, history, now[history as usize]);
@@ -161,13 +207,45 @@ fn lines_of_log(random: &mut Random, lines: usize, repeats: u64, marks: u64) -> 
             now[history as usize] = after;
         }
         log += ")\n";
-        let last = done == lines as u64 && marks > 0 && random.percent(50);
-        if last || random.percent(marks) {
-            mark = mark_above(random, mark, done);
+        let last = done == plan.lines as u64 && plan.marks > 0 && random.percent(50);
+        if last || random.percent(plan.marks) {
+            mark = mark_above(random, mark, base + done);
             log += &format!("(stable {mark})\n");
         }
     }
+    if care.fits < 100 && random.percent(5) {
+        let other = base_line(random, care, base, &mut now[..count as usize]);
+        log += &other;
+    }
     log.into_bytes()
+}
+
+/// A base line of n operations, mostly one that fits, and where the histories are then.
+fn base_line(random: &mut Random, care: Care, n: u64, now: &mut [Now]) -> String {
+    let mut cells = Vec::new();
+    for (at, now) in now.iter_mut().enumerate() {
+        now.place = random.below(n + 1);
+        now.version = match random.below(10) {
+            0 if care.edges > 0 => random.pick(&EDGES),
+            1 => now.place + random.below(100),
+            _ => random.below(now.place + 1),
+        };
+        if care.fits < 100 && random.percent(1) {
+            now.place = n + 1;
+        }
+        cells.push(format!("({at} {} {} {})", now.version, now.place, random.number()));
+    }
+    if care.fits < 100 {
+        let at = random.index(cells.len());
+        match random.below(20) {
+            0 => cells.swap(0, at),
+            1 => drop(cells.remove(at)),
+            2 => cells.push(cells[at].clone()),
+            _ => {}
+        }
+    }
+    let space = if cells.is_empty() { "" } else { " " };
+    format!("(base {n}{space}{})\n", cells.concat())
 }
 
 /// What a stable line says behind so many did lines: mostly more than the mark so far.

@@ -2,8 +2,10 @@
 //! itself with a rule broken on purpose, so that the comparison is known to notice.
 
 mod book;
+mod changing;
 mod claim;
 mod damage;
+mod going_on;
 mod kept;
 mod kinds;
 mod laws;
@@ -17,6 +19,8 @@ mod resending;
 mod rounds;
 mod scribe;
 mod trial;
+mod trimmed;
+mod upgraded;
 mod watch;
 
 use std::collections::BTreeMap;
@@ -92,9 +96,14 @@ fn mismatch_by(
     mismatch
 }
 
+/// The rules that only a session from a log asks for.
+const OF_SESSIONS_FROM_LOGS: [Flaw; 2] = [Flaw::CutsInsideBase, Flaw::ReportsBelowBaseRefused];
+
 /// The comparison notices every broken rule, and shows it by few steps.
 fn assert_notices_every_flaw(program: &dyn Program) {
-    for &flaw in Flaw::ALL {
+    let goes_on = going_on::can(program);
+    let asked = |flaw: &&Flaw| goes_on || !OF_SESSIONS_FROM_LOGS.contains(flaw);
+    for &flaw in Flaw::ALL.iter().filter(asked) {
         let steps = mismatch_by(flaw, trials(), program).steps;
         assert!(steps <= 66, "{flaw:?} is shown by {steps} steps");
     }
@@ -102,6 +111,7 @@ fn assert_notices_every_flaw(program: &dyn Program) {
 
 #[test]
 fn each_broken_rule_is_reported() {
+    assert!(going_on::can(&Second::from_paper()));
     assert_notices_every_flaw(&Second::from_paper());
 }
 
@@ -241,7 +251,20 @@ fn restarts_show_what_the_log_says() {
 
 #[test]
 fn changed_over_logs_restart() {
-    (0..ROUNDS).flat_map(rounds::upgrades).for_each(|trial| laws::check_changeover(&trial));
+    (0..ROUNDS).flat_map(upgraded::upgrades).for_each(|trial| laws::check_changeover(&trial));
+}
+
+/// A copy is what the text of its log says, and a restart from it shows what one from the log does.
+#[test]
+fn copies_show_the_same() {
+    let copies: usize = (0..ROUNDS).flat_map(trimmed::trims).map(|trial| trial.check()).sum();
+    println!("{copies} copies");
+    assert!(copies >= 2000);
+}
+
+#[test]
+fn the_laws_hold_behind_a_base() {
+    (0..ROUNDS).flat_map(going_on::sessions).for_each(|trial| laws::check_going_on(&trial));
 }
 
 /// The trials are many, and they meet every refusal and every kind of reply.
@@ -265,6 +288,7 @@ fn the_trials_reach_everything() {
             .map(|number| format!("(refused {number})"))
             .chain(refusals("poll ", &[3, 14]))
             .chain(refusals("upgrade ", &[12, 13, 15]))
+            .chain(refusals("trim ", &[12, 13, 15]))
             .chain(refusals("keep ", &[1, 2, 3, 4, 5, 8, 12, 13, 20, NO_KEEPER]))
             .chain(refusals("drop ", &[3, 13, NO_KEEPER]))
             .chain(refusals("hand out ", &[12, 13, NO_KEEPER]))

@@ -8,6 +8,8 @@ use crate::watch::{is_did, Watch};
 pub struct Resending<'r> {
     random: &'r mut Random,
     watch: Watch,
+    /// The bytes of the log buffer at first.
+    room: usize,
     pieces: Vec<Vec<u8>>,
     /// The lost lines that come again.
     chosen: Vec<String>,
@@ -15,7 +17,8 @@ pub struct Resending<'r> {
 
 impl<'r> Resending<'r> {
     pub fn new(random: &'r mut Random, watch: Watch) -> Resending<'r> {
-        Resending { random, watch, pieces: Vec::new(), chosen: Vec::new() }
+        let room = watch.log.len();
+        Resending { random, watch, room, pieces: Vec::new(), chosen: Vec::new() }
     }
 
     /// The list that begins with these lines, which the session has not yet answered.
@@ -34,7 +37,7 @@ impl<'r> Resending<'r> {
         }
         self.report_perhaps();
         self.deliver_all();
-        let (room, law) = (self.watch.log.len(), self.watch.law);
+        let (room, law) = (self.room, self.watch.law);
         ClaimTrial { pieces: self.pieces, room, picked, law, start: None }
     }
 
@@ -110,7 +113,10 @@ impl<'r> Resending<'r> {
             0 | 1 => return self.report(),
             2 => "(show 0)".to_string(),
             3 => format!("(cut {})", used + 1),
-            4 => "(cut 3)".to_string(),
+            4 => match self.watch.head() {
+                Some(head) => format!("(cut {})", self.random.between(9, head - 1)),
+                None => "(cut 3)".to_string(),
+            },
             5 => "(add 5 (inc 0 1 0))".to_string(),
             6 => "(finish 5)".to_string(),
             7 => "(withdraw 5)".to_string(),

@@ -9,29 +9,32 @@ use crate::kept::{KeeperCall, KeeperTrial, Kept};
 use crate::made_up::{self, Care, Now};
 use crate::mood::{Habit, Mood};
 use crate::random::Random;
-use crate::recorded;
 use crate::scribe::Scribe;
-use crate::trial::{used_buffer, Comparison, RestartTrial, SessionTrial, UpgradeTrial};
+use crate::trial::{used_buffer, Comparison, RestartTrial, SessionTrial};
 use crate::watch::{is_did, Law};
+use crate::{going_on, recorded, trimmed, upgraded};
 
 /// All rounds together make well over 200,000 calls.
 pub const ROUNDS: u64 = 160;
 
-/// The restarts, changeovers, keepers and records of a round.
+/// The restarts, changeovers, copies, sessions from logs, keepers and records of a round.
 pub fn others(round: u64) -> Vec<Box<dyn Comparison>> {
     let restarts = restarts(round).into_iter().map(boxed);
-    let upgrades = upgrades(round).into_iter().map(boxed);
+    let upgrades = upgraded::upgrades(round).into_iter().map(boxed);
+    let trims = trimmed::trims(round).into_iter().map(boxed);
+    let sessions = going_on::sessions(round).into_iter().map(boxed);
     let keepers = keepers(round).into_iter().map(boxed);
     let mut random = seeded(5, round);
     let records = (0..12).map(|_| boxed(recorded::any(&mut random)));
-    restarts.chain(upgrades).chain(keepers).chain(records).collect()
+    let logs = restarts.chain(upgrades).chain(trims).chain(sessions);
+    logs.chain(keepers).chain(records).collect()
 }
 
 fn boxed<T: Comparison + 'static>(trial: T) -> Box<dyn Comparison> {
     Box::new(trial)
 }
 
-fn seeded(kind: u64, round: u64) -> Random {
+pub fn seeded(kind: u64, round: u64) -> Random {
     Random::new(kind << 32 | round)
 }
 
@@ -83,7 +86,7 @@ fn session(random: &mut Random, mood: Mood, lines: usize) -> SessionTrial {
 }
 
 /// A session that logs some lines, stable ones among them, and is not restoring, with its log.
-fn sample(random: &mut Random, lines: usize) -> (Vec<Vec<u8>>, Vec<u8>, u64) {
+pub fn sample(random: &mut Random, lines: usize) -> (Vec<Vec<u8>>, Vec<u8>, u64) {
     loop {
         let mut mood = Mood::careful(random);
         (mood.habit, mood.care.edges) = (random.pick(&[Habit::Plain, Habit::Settles]), 3);
@@ -125,8 +128,8 @@ fn cuts_at_every_byte(random: &mut Random) -> Vec<SessionTrial> {
     trials
 }
 
-/// Restarts: from made-up logs, some of them with about 64 live lines; now and then from a log damaged at every byte and line and cut
-/// everywhere, and from long ones.
+/// Restarts: from made-up logs, some of them with about 64 live lines; now and then from a log, or
+/// a copy of it, damaged at every byte and line and cut everywhere, and from long ones.
 pub fn restarts(round: u64) -> Vec<RestartTrial> {
     let mut random = seeded(2, round);
     let mut trials = Vec::new();
@@ -134,12 +137,16 @@ pub fn restarts(round: u64) -> Vec<RestartTrial> {
         let kept = made_up::log(&mut random);
         trials.push(RestartTrial { kept, rest: used_buffer(random.index(30)), above: 0 });
     }
-    for _ in 0..4 {
-        let kept = made_up::long_log(&mut random);
+    for at in 0..6 {
+        let kept =
+            if at < 4 { made_up::long_log(&mut random) } else { made_up::high_log(&mut random) };
         trials.push(RestartTrial { kept, rest: used_buffer(random.index(30)), above: 0 });
     }
     if round % 16 == 1 {
-        let (_, log, _) = sample(&mut random, 16);
+        let (_, mut log, _) = sample(&mut random, 16);
+        if round % 32 == 1 {
+            log = trimmed::copy_of(&mut random, &log);
+        }
         for damaged in [damage::every_byte(&log), damage::every_line(&log)].concat() {
             trials.push(RestartTrial { kept: damaged, rest: Vec::new(), above: 0 });
         }
@@ -153,38 +160,6 @@ pub fn restarts(round: u64) -> Vec<RestartTrial> {
     }
     if round % 16 == 9 {
         trials.extend(long_restarts(&mut random));
-    }
-    trials
-}
-
-/// Changeovers: of made-up logs, older and newer ones, with and without room for the stable line;
-/// now and then of a log damaged at every byte and line and cut everywhere.
-pub fn upgrades(round: u64) -> Vec<UpgradeTrial> {
-    let mut random = seeded(6, round);
-    let mut trials = Vec::new();
-    for _ in 0..30 {
-        let log = match random.below(6) {
-            0 => made_up::log(&mut random),
-            1 => made_up::without_marks(&made_up::long_log(&mut random)),
-            _ => made_up::without_marks(&made_up::log(&mut random)),
-        };
-        let kept = if random.percent(30) { random.between(0, log.len()) } else { log.len() };
-        let rest = match random.below(12) {
-            0 => Site::LONGEST_LOG + 1 - kept.min(Site::LONGEST_LOG),
-            1 => Site::LONGEST_LOG - kept.min(Site::LONGEST_LOG),
-            _ => random.between(0, 30),
-        };
-        let above = if random.percent(5) { rest + random.pick(&[1, 2, 1000]) } else { 0 };
-        let (kept, rest) = (log[..kept].to_vec(), used_buffer(rest));
-        trials.push(UpgradeTrial { kept, rest, above });
-    }
-    if round % 16 == 13 {
-        let log = made_up::without_marks(&sample(&mut random, 16).1);
-        let mut damaged = [damage::every_byte(&log), damage::every_line(&log)].concat();
-        damaged.extend((0..=log.len()).map(|kept| log[..kept].to_vec()));
-        for kept in damaged {
-            trials.push(UpgradeTrial { kept, rest: used_buffer(random.index(20)), above: 0 });
-        }
     }
     trials
 }

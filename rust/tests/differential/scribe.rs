@@ -7,11 +7,11 @@ use second::session::Session;
 use second::site::{History, Site};
 
 use crate::book::id_of;
-use crate::damage;
 use crate::made_up::{self, Now};
 use crate::mood::{Habit, Mood};
 use crate::random::{Random, EDGES};
 use crate::watch::{is_did, Watch};
+use crate::{changing, damage};
 
 #[derive(Clone, Copy, PartialEq)]
 enum Kind {
@@ -52,6 +52,7 @@ pub struct Scribe<'r> {
     /// The lines so far, each with its end.
     pub pieces: Vec<Vec<u8>>,
     mood: Mood,
+    rules: Rules,
     /// The ids so far.
     ids: Vec<u64>,
     /// Did lines that cuts have lost.
@@ -78,6 +79,7 @@ impl<'r> Scribe<'r> {
             log: vec![0; mood.room],
             pieces: Vec::new(),
             mood,
+            rules,
             ids: Vec::new(),
             lost: Vec::new(),
         }
@@ -106,6 +108,24 @@ impl<'r> Scribe<'r> {
         }
     }
 
+    /// Changes over to a copy, mostly one that is to be had, in a buffer up to the longest so far.
+    pub fn change_over(&mut self, longest: usize) {
+        let (base, stable) = self.marks(Site::base, Site::stable_mark);
+        let n = match self.random.below(20) {
+            0 => stable + 1,
+            1 => base.wrapping_sub(1),
+            2..=4 => base,
+            5..=14 => stable,
+            _ => base + self.random.below(stable - base + 1),
+        };
+        let room = match self.random.below(10) {
+            0 => self.random.between(0, longest),
+            1..=3 => self.random.between(self.used().min(longest), longest),
+            _ => longest,
+        };
+        self.say(format!("(changeover {n} {room})").as_bytes());
+    }
+
     /// Adds a line without its end.
     pub fn leave_rest(&mut self) {
         let rest = self.next_line();
@@ -115,8 +135,9 @@ impl<'r> Scribe<'r> {
     /// Writes a line and lets the session answer it.
     fn say(&mut self, line: &[u8]) {
         let used = self.used();
-        let _ = self.session.answer(line, &mut self.log);
-        let lost = String::from_utf8_lossy(&self.log[self.used().min(used)..used]);
+        let before = self.log[..used].to_vec();
+        let _ = changing::answer(&mut self.session, &mut self.log, line, self.rules);
+        let lost = String::from_utf8_lossy(&before[self.used().min(used)..]);
         for line in lost.lines().filter(|line| is_did(line)) {
             if !self.lost.iter().any(|known| known == line) {
                 self.lost.push(line.to_string());
@@ -263,7 +284,7 @@ impl<'r> Scribe<'r> {
 
     /// An id that came before; where much gets stable, mostly one that has left the table.
     fn known_id(&mut self) -> u64 {
-        let left = self.session.site().map_or(0, Site::left_mark) as usize;
+        let left = self.session.site().map_or(0, |site| site.left_mark() - site.base()) as usize;
         let log = String::from_utf8_lossy(&self.log[..self.used()]);
         let gone: Vec<u64> =
             log.lines().filter(|line| is_did(line)).take(left).map(id_of).collect();

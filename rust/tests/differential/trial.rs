@@ -5,7 +5,7 @@ use std::fmt::Write;
 use std::ops::Range;
 use std::sync::LazyLock;
 
-use second::program::{Outcome, Program, BUSY, DRY, SPARE};
+use second::program::{Program, BUSY, DRY, SPARE};
 use second::site::Site;
 
 use crate::random::Random;
@@ -187,7 +187,7 @@ impl Played {
 
     /// How this differs from what another program left behind. Replies that do not fit are
     /// a difference too: there is always room for them.
-    fn difference(&self, other: &Played) -> Option<String> {
+    pub fn difference(&self, other: &Played) -> Option<String> {
         if self == other && self.length.is_some() {
             return None;
         }
@@ -337,60 +337,5 @@ impl Trial for RestartTrial {
         let differ = reply != self.reply(right) || reply.0.is_none();
         let replies = (self.replies(left), self.replies(right));
         differ.then(|| format!("the replies are {replies:?}\n"))
-    }
-}
-
-/// The changeover of an older log in the first bytes of a buffer.
-#[derive(Clone)]
-pub struct UpgradeTrial {
-    /// The bytes that are the log.
-    pub kept: Vec<u8>,
-    /// The bytes of the buffer behind them.
-    pub rest: Vec<u8>,
-    /// How far the number of bytes that are the log is above those that are.
-    pub above: usize,
-}
-
-impl UpgradeTrial {
-    /// What a program gives, and the buffer after it.
-    pub fn outcome(&self, program: &dyn Program) -> (Outcome, Vec<u8>) {
-        let mut buffer = [self.kept.as_slice(), &self.rest].concat();
-        (program.upgrade(&mut buffer, self.kept.len() + self.above), buffer)
-    }
-}
-
-impl Trial for UpgradeTrial {
-    fn steps(&self) -> usize {
-        lines_of(&self.kept).len()
-    }
-
-    fn without(&self, steps: Range<usize>) -> UpgradeTrial {
-        UpgradeTrial { kept: without(&lines_of(&self.kept), steps).concat(), ..self.clone() }
-    }
-
-    fn shown(&self) -> String {
-        let lines = shown_lines(lines_of(&self.kept).iter());
-        let (rest, above) = (self.rest.len(), self.above);
-        format!("changeover, {rest} bytes behind, {above} bytes above:\n{lines}")
-    }
-
-    fn calls(&self) -> usize {
-        1
-    }
-
-    fn replies(&self, program: &dyn Program) -> Vec<String> {
-        vec![match self.outcome(program).0 {
-            Ok(_) => "upgrade ok".to_string(),
-            Err(number) => format!("upgrade refused {number}"),
-        }]
-    }
-
-    fn difference(&self, left: &dyn Program, right: &dyn Program) -> Option<String> {
-        let ((first, buffer), (second, other)) = (self.outcome(left), self.outcome(right));
-        if first != second {
-            return Some(format!("the outcomes are {first:?} and {second:?}\n"));
-        }
-        let byte = first_difference(&buffer, &other)?;
-        Some(format!("byte {byte} of the buffer differs\n"))
     }
 }

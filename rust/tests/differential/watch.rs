@@ -6,6 +6,9 @@ use second::rules::{Flaw, Rules};
 use second::session::Session;
 use second::site::Site;
 
+use crate::book::numbers;
+use crate::changing;
+
 /// Which stable lines count as persistent.
 #[derive(Clone, Copy, Debug, PartialEq, Eq)]
 pub enum Counting {
@@ -15,6 +18,8 @@ pub enum Counting {
     NotCovered,
     /// Only those that a report covers.
     NotKept,
+    /// All, but of a copy only its head.
+    NotCopied,
 }
 
 /// What a list is judged by: the rules of its site, and which lines count as persistent.
@@ -63,9 +68,11 @@ impl Watch {
     }
 
     pub fn answer(&mut self, piece: &[u8]) -> Answer {
-        let answer = self.session.answer(line_of(piece), &mut self.log);
+        let (line, rules) = (line_of(piece), self.law.rules);
+        let answer = changing::answer(&mut self.session, &mut self.log, line, rules);
         if answer.is_ok() {
             match command_of(piece) {
+                None => self.counted = self.changed_over(),
                 Some(Command::Site(_)) => self.counted = self.text().len(),
                 Some(Command::Cut(_)) => self.counted = self.kept(),
                 Some(Command::Persistent(n)) => {
@@ -83,6 +90,13 @@ impl Watch {
         std::str::from_utf8(&self.log[..used]).expect("a log is plain text")
     }
 
+    /// The bytes up to the end of the base line, if the log has one.
+    pub fn head(&self) -> Option<usize> {
+        let mut lines = self.text().split_inclusive('\n');
+        let first = lines.next()?.len();
+        lines.next().filter(|line| is_base(line)).map(|line| first + line.len())
+    }
+
     /// The fewest bytes that a fair cut keeps.
     pub fn fewest(&self) -> usize {
         self.counted
@@ -92,6 +106,14 @@ impl Watch {
     fn kept(&self) -> usize {
         match self.law.counting {
             Counting::NotKept => self.up_to_did(self.done()),
+            _ => self.text().len(),
+        }
+    }
+
+    /// The bytes that count after a changeover: all of the copy.
+    fn changed_over(&self) -> usize {
+        match self.law.counting {
+            Counting::NotCopied => self.up_to_did(0),
             _ => self.text().len(),
         }
     }
@@ -111,23 +133,34 @@ impl Watch {
         self.session.site().map_or(0, Site::done)
     }
 
-    /// The bytes of the log up to the end of did line n, or of the site line.
+    /// The bytes of the log up to the end of did line n, or of its head.
     fn up_to_did(&self, n: u64) -> usize {
         up_to_did(self.text(), n)
     }
 }
 
-/// The bytes of a log up to the end of did line n, or of the site line.
+/// The bytes of a log up to the end of the did line with log number n, or of its head.
 pub fn up_to_did(log: &str, n: u64) -> usize {
-    let (mut bytes, mut end, mut seen) = (0, 0, 0);
+    let (mut bytes, mut end, mut seen) = (0, 0, base_of(log.split_inclusive('\n')));
     for line in log.split_inclusive('\n') {
         bytes += line.len();
         seen += u64::from(is_did(line));
-        if seen <= n && !is_stable(line) {
+        if (seen <= n || !is_did(line)) && !is_stable(line) {
             end = bytes;
         }
     }
     end
+}
+
+/// What the base line of a log says that were done before it, or 0.
+pub fn base_of<'l>(mut lines: impl Iterator<Item = &'l str>) -> u64 {
+    let second = lines.nth(1).filter(|line| is_base(line));
+    second.and_then(|line| numbers(line).first().copied()).unwrap_or(0)
+}
+
+/// Whether a line of a log is a base line.
+pub fn is_base(line: &str) -> bool {
+    line.starts_with("(base ")
 }
 
 /// Whether a line of a log is a did line.

@@ -1,11 +1,13 @@
 //! The examples and edge cases that the paper gives, one by one.
 
+mod base;
 mod changeover;
 mod keeper;
 mod overtaken;
 mod poll;
 mod records;
 mod stable;
+mod trim;
 
 use second::program::{self, Outcome, Program, NO_KEEPER, SPARE};
 
