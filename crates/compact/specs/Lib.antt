@@ -8,4 +8,5 @@ pub mod Alone
 pub mod AloneLaws
 pub mod Examples
 pub mod Instance
+pub mod ArrivalInstance
 pub mod TenLaws

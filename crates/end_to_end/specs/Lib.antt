@@ -12,6 +12,8 @@ pub mod Stations
 pub mod Code
 pub mod SiteCalls
 pub mod SiteCallsLaws
+pub mod ArrivalCalls
+pub mod ArrivalCallsLaws
 pub mod TrimCalls
 pub mod Changeover
 pub mod SiteInstance

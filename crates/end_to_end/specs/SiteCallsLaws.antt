@@ -224,7 +224,7 @@ calls-run v (next {cs = cs} one more) =
     record { valid = b .valid; state = b .state ∙ ap (run cs) (a .state) }
 
 -- A list starts with a valid site, in a state at which the claim's lists start.
-starts-at : {m : ℕ} {x : Memory} → StartsSite m x → ValidIn x × Start m (stateIn x)
+pub starts-at : {m : ℕ} {x : Memory} → StartsSite m x → ValidIn x × Start m (stateIn x)
 starts-at (opens n old r new st a d e) =
     let q : AcceptedAs (below 64) old st a r new = subst (λ (reply : Reply). Opens blankSite old reply r new) e d in
     (q .valid, subst (Start 0) (sym (q .state)) (justOpened n (length (old .log)) st a e))

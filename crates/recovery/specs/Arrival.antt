@@ -1,13 +1,20 @@
--- Request (n) of document 02, "One paper, any order of arrival": its words, each with the paper's sentence, and then the claim. It is proved in ArrivalLaws.
+-- Request (n) of document 02, "One paper, any order of arrival": its words, each with the paper's sentence, and then the claim. It is
+-- proved in ArrivalLaws, and not empty by ArrivalInstance.
+--
+-- "It is to hold for logs trimmed before the cut": a list may start at a restart from a log with a base line (`Start`), and have
+-- changeovers among its first calls. "With further cuts between": they stand in `further` (`cuts` of `Asked`). "For the compact module":
+-- the same words over a site that does not stand alone are in Host, and over a slot of the module in the crate compact. Of the code's own
+-- calls and the bytes of its log it is stated in the crate end_to_end.
 use mathlib.Core.Path.{_≡_}
 use mathlib.Core.Logic.{_↔_}
 use mathlib.Core.Bool.{Bool, true}
-use mathlib.Core.List.{List, _∷_, _++_, List·Permᴰ as Perm}
+use mathlib.Core.List.{List, [], _∷_, _++_, List·Permᴰ as Perm}
 use Prim.Native.Nat.{ℕ}
 use lib.Dec.{T}
 use Rattle.forms.specs.Lists.{keep}
 use Rattle.forms.specs.Forms.{Did}
 use Rattle.rules.specs.Book.{touches}
+use Rattle.rules.specs.Log.{dids, Journal, journal, noJournal, readLog}
 use Rattle.rules.specs.State.{State}
 use Rattle.rules.specs.Calls.{Call, Cut}
 use Rattle.rules.specs.Run.{run}
@@ -15,15 +22,23 @@ use Rattle.recovery.specs.Claim.{Start, counted, Fair, lostBy, shares, A
 
 -- ### Two logs
 
--- "the did lines .. are rearrangements of each other": the same lines, each as often.
+-- "the did lines of the final logs": of the bytes of a log, those that restart reads; none where they are no log.
+abbrev pub didsOf : Journal → List Did
+didsOf (journal n base lines) = dids lines
+didsOf noJournal = []
+
+unfoldable pub didLines : List ℕ → List Did
+didLines bytes = didsOf (readLog bytes)
+
+-- "are rearrangements of each other": the same lines, each as often.
 abbrev pub Rearranged : List Did → List Did → Type 0
 Rearranged a b = Perm a b
 
--- the lines of a log in history h, in their order
+-- The lines of a log in history h, in their order.
 abbrev pub historyLines : ℕ → List Did → List Did
 historyLines h log = keep (touches h) log
 
--- d stands before e in a log
+-- d stands before e in a log, however far.
 abbrev pub StandsBefore : List Did → Did → Did → Type 0
 StandsBefore log d e = (a : List Did) × (b : List Did) × (c : List Did) × (log ≡ a ++ d ∷ (b ++ e ∷ c))
 
@@ -53,11 +68,11 @@ pub record Delivery : Type 0 where
   pub fair : Fair (counted counts calls site) kept room (run calls site) after
   pub asked : Asked counts site (λ a. calls ++ Cut kept room ∷ a) further (lostBy (run calls site) after) every
 
--- "the log before the cut"
+-- "the log before the cut": the did lines of the log that was held then, behind its base line if it has one
 abbrev pub logBefore : Delivery → List Did
 logBefore D = run (D .calls) (D .site) .log
 
--- the final log
+-- "the final log", at the list's end
 abbrev pub logAtEnd : Delivery → List Did
 logAtEnd D = run (D .calls ++ Cut (D .kept) (D .room) ∷ D .further) (D .site) .log
 
@@ -67,9 +82,10 @@ logAtEnd D = run (D .calls ++ Cut (D .kept) (D .room) ∷ D .further) (D .site) 
 abbrev pub ArrivalClaim : Type 0
 ArrivalClaim = (D : Delivery) → SameWork (logBefore D) (logAtEnd D)
 
--- "For any two orders of delivery of all lost lines after equal cuts, the did lines of the final logs are rearrangements of each other and of the log
--- before the cut, and lines that share a history stand in the same order in all three."
--- Of the cuts only the logs before them need to be equal; what they kept, their buffers, refused calls, repeats and further cuts may differ.
+-- "For any two orders of delivery of all lost lines after equal cuts, the did lines of the final logs are rearrangements of each other and
+-- of the log before the cut, and lines that share a history stand in the same order in all three."
+-- Of the cuts only the logs before them need to be equal; what they kept, their buffers, refused calls, repeats and further cuts may
+-- differ.
 pub record AllThree (first one other : List Did) : Type 0 where
   pub oneOther : SameWork one other
   pub firstOne : SameWork first one

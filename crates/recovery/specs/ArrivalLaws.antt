@@ -14,7 +14,10 @@ use Rattle.forms.specs.ListLaws.{Nodup, nodup-mid, nodup-right, mem-split, mem-
 use Rattle.forms.specs.Forms.{Did, didText}
 use Rattle.rules.specs.Book.{touches}
 use Rattle.rules.specs.BookLaws.{proj, proj-mid}
-use Rattle.rules.specs.State.{startOf, State, linesIn}
+use Rattle.rules.specs.State.{startOf, State, linesIn, logBytes}
+use Rattle.rules.specs.Good.{Good}
+use Rattle.rules.specs.KeptLaws.{good-reads}
+use Rattle.rules.specs.WeaveLaws.{dids-weave}
 use Rattle.rules.specs.Calls.{Cut}
 use Rattle.rules.specs.Run.{run}
 use Rattle.recovery.specs.Claim.{lostBy, shares, Closed, Comes, came}
@@ -23,7 +26,8 @@ use Rattle.recovery.specs.Ending.{shares-at, closed-every, closed-ran, j
 use Rattle.recovery.specs.Cuts.{Cutting}
 use Rattle.recovery.specs.Steps.{setting-of, Site, site-nodup}
 use Rattle.recovery.specs.Recovery.{upTo, KL, K, L, C, at-end}
-use Rattle.recovery.specs.Arrival.{StandsBefore, SameWork, every, logBefore, logAtEnd, ArrivalClaim, AllThree, OrdersClaim}
+use Rattle.recovery.specs.Arrival.{didsOf, didLines, StandsBefore, SameWork, every, logBefore}
+use Rattle.recovery.specs.Arrival.{logAtEnd, ArrivalClaim, AllThree, OrdersClaim}
 
 -- ### Lists
 
@@ -110,6 +114,11 @@ work-back a b S = same-work b a (Permᴰ·symm (S .rearranged)) (λ h. sym (S .s
 
 pub work-on : (a b c : List Did) → SameWork a b → SameWork b c → SameWork a c
 work-on a b c S R = same-work a c (perm-trans (S .rearranged) (R .rearranged)) (λ h. S .sameIn h ∙ R .sameIn h)
+
+-- The did lines of a state's log are those that stand in its bytes.
+pub did-lines : (st : State) → Good st → didLines (logBytes st) ≡ st .log
+unfolding didLines
+did-lines st G = ap didsOf (good-reads st G) ∙ dids-weave (st .log) (st .stables)
 
 -- ### One delivery
 

@@ -14,6 +14,8 @@ pub mod BaseInstance
 pub mod Weakened
 pub mod Arrival
 pub mod ArrivalLaws
+pub mod ArrivalExamples
+pub mod ArrivalInstance
 pub mod Host
 pub mod HostLaws
 pub mod Flagged
