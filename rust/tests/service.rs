@@ -75,6 +75,16 @@ fn a_chair_in_daily_use() {
     assert_eq!(shown, include_str!("../../examples/rust/service.out"));
 }
 
+/// Lost lines that come back in any order do the same work as before the cut, or it is noticed.
+#[test]
+fn other_work_is_noticed() {
+    for flaw in [Flaw::RedoByVersionAlone, Flaw::DrainsOnce, Flaw::PlaceForStrongOnly] {
+        let chair = Second { rules: Rules::broken(flaw) };
+        let served = std::panic::catch_unwind(|| service::serve(&chair));
+        assert!(served.is_err(), "{flaw:?}");
+    }
+}
+
 /// The account disagrees with a chair that has one of these rules broken.
 #[test]
 fn a_broken_rule_is_noticed() {

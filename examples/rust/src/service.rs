@@ -192,6 +192,9 @@ impl Service {
             self.cut(site);
         }
         self.redo(site, &lost);
+        if lost.len() as u64 == all {
+            assert_same_work(&log, site.log());
+        }
         assert!(site.line("(end)").starts_with("(ok (waiting"));
         let back = self.account.done() - first;
         assert!(back == all || lost.len() < all as usize, "{back} of {all} lines came back");
@@ -276,6 +279,25 @@ impl Service {
         let Service { operations, trims, cuts, redone, gone, .. } = self;
         format!("{operations} operations, {trims} trims, {cuts} cuts, {redone} lines redone, {gone} lost for good\n{shows}")
     }
+}
+
+/// The log after all lost lines have come again has the did lines of the log before the cut, each as often, and those of each history in
+/// the same order.
+fn assert_same_work(before: &[u8], end: &[u8]) {
+    let (before, end) = (String::from_utf8_lossy(before), String::from_utf8_lossy(end));
+    let (mut first, mut last) = (did_lines(&before), did_lines(&end));
+    for history in 0..HISTORIES {
+        let touches =
+            |line: &&&str| line.split('(').skip(2).any(|update| numbers(update)[0] == history);
+        assert!(first.iter().filter(touches).eq(last.iter().filter(touches)), "history {history}");
+    }
+    first.sort();
+    last.sort();
+    assert_eq!(first, last);
+}
+
+fn did_lines(log: &str) -> Vec<&str> {
+    log.lines().filter(|line| line.starts_with("(did ")).collect()
 }
 
 /// The numbers of a form.

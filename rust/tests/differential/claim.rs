@@ -133,6 +133,14 @@ impl ClaimTrial {
         orders(&claim.lost.iter().collect::<Vec<_>>()).into_iter().map(list).collect()
     }
 
+    /// The bytes of the log before the picked cut and of the log at the end, if the claim speaks of
+    /// this list and every lost line was chosen.
+    pub fn lengths(&self) -> Option<(usize, usize)> {
+        let claim = Claim::of(self).filter(|claim| claim.chosen.iter().all(|&chosen| chosen))?;
+        let kept = claim.kept.concat().len();
+        Some((kept + claim.gone, kept + claim.lost.concat().len()))
+    }
+
     /// How many lines were lost, and how many of them were chosen, if the claim speaks of
     /// this list.
     pub fn size(&self) -> Option<(usize, usize)> {
@@ -177,8 +185,8 @@ pub trait Player {
 }
 
 /// A program that runs them as one session.
-struct Whole<'p> {
-    program: &'p dyn Program,
+pub struct Whole<'p> {
+    pub program: &'p dyn Program,
 }
 
 impl Player for Whole<'_> {
@@ -201,8 +209,9 @@ struct Claim<'t> {
     /// The lines that the picked cut kept, and the did lines that it lost, in first order.
     kept: Vec<String>,
     lost: Vec<String>,
-    /// How many stable lines it lost.
+    /// How many stable lines it lost, and the bytes of all lines that it lost.
     lost_marks: usize,
+    gone: usize,
     /// Whether each lost line was chosen.
     chosen: Vec<bool>,
     /// What came after the last accepted cut.
@@ -256,8 +265,9 @@ impl<'t> Claim<'t> {
             return None;
         }
         let lost_marks = first.len() - kept - lost.len();
+        let gone = first[kept..].concat().len();
         let kept = first[..kept].to_vec();
-        Some(Claim { trial, picked, histories, kept, lost, lost_marks, chosen, came })
+        Some(Claim { trial, picked, histories, kept, lost, lost_marks, gone, chosen, came })
     }
 
     /// What the claim says and the program does not do.

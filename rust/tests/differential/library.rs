@@ -25,6 +25,11 @@ fn it_recovers_with_stable_lines() {
     assert_recovers_with_marks(&Library);
 }
 
+#[test]
+fn it_does_the_same_work_in_any_order() {
+    arrival::assert_same_work(&arrival::papers(), &Library);
+}
+
 /// The switch once more: a broken rule differs from the library, not only from the paper.
 #[test]
 fn each_broken_rule_differs_from_it() {

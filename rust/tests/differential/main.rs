@@ -1,6 +1,7 @@
 //! Random trials: this program beside the proved library where that is linked, and beside
 //! itself with a rule broken on purpose, so that the comparison is known to notice.
 
+mod arrival;
 mod book;
 mod changing;
 mod claim;

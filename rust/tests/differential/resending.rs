@@ -29,6 +29,25 @@ impl<'r> Resending<'r> {
         let picked = Some(pieces.len());
         self.pieces = pieces;
         self.pick();
+        self.bring_back(picked)
+    }
+
+    /// A list that goes on behind a picked cut, the last of these lines: all that it loses comes
+    /// again, in an order of its own.
+    pub fn all_again(mut self, pieces: Vec<Vec<u8>>) -> ClaimTrial {
+        let picked = pieces.len() - 1;
+        for piece in &pieces[..picked] {
+            let _ = self.watch.answer(piece);
+        }
+        let first = self.watch.text().to_string();
+        let _ = self.watch.answer(&pieces[picked]);
+        self.chosen = self.lost_of(&first);
+        self.pieces = pieces;
+        self.bring_back(Some(picked))
+    }
+
+    /// The chosen lines come, with further cuts between, and after the last of them all.
+    fn bring_back(mut self, picked: Option<usize>) -> ClaimTrial {
         for _ in 0..self.random.below(3) {
             self.report_perhaps();
             let deliveries = self.random.between(0, 2 * self.chosen.len());
@@ -51,10 +70,15 @@ impl<'r> Resending<'r> {
     fn pick(&mut self) {
         let first = self.watch.text().to_string();
         self.cut_fairly();
-        let lost = first[self.watch.text().len()..].lines().filter(|line| is_did(line));
         let chance = self.random.pick(&[100, 100, 90, 50]);
-        self.chosen = lost.map(str::to_string).collect();
+        self.chosen = self.lost_of(&first);
         self.chosen.retain(|_| self.random.percent(chance));
+    }
+
+    /// The did lines of the log before a cut that are not in the log now.
+    fn lost_of(&self, first: &str) -> Vec<String> {
+        let lost = first[self.watch.text().len()..].lines().filter(|line| is_did(line));
+        lost.map(str::to_string).collect()
     }
 
     fn cut_fairly(&mut self) {
