@@ -12,9 +12,12 @@ use Rattle.site.specs.declared.Site.{Site}
 use Rattle.site.specs.declared.CallResult.{CallResult}
 use Rattle.site.specs.Model.{Lent, Says, Does}
 
--- The form of the reply is the refusal with this number; site and all that is lent are the very ones that came in.
+-- The form of the reply is the refusal with this number, and it counts no number of a list; site and all that is lent are the very ones
+-- that came in.
 pub record NumberOnly (s : Site) (old : Lent) (q : Refusal) (r : CallResult) (new : Lent) : Type 0 where
   pub form : r .reply .form ≡ ReplyForm.Refused q
+  pub first : r .reply .first ≡ 0
+  pub second : r .reply .second ≡ 0
   pub site : r .site ≡ s
   pub kept : new ≡ old
 
@@ -45,4 +48,11 @@ says-refused r q s = refused-form (r .form) _ _ q (s .outcome)
 -- Every call that the specification refuses replies the number only.
 pub refused-number : (s : Site) (old : Lent) (q : Refusal) (r : CallResult) (new : Lent) → Does s old (refused q) r new →
     NumberOnly s old q r new
-refused-number s old q r new d = record { form = says-refused _ q (d .answer); site = d .site; kept = d .kept }
+refused-number s old q r new d =
+    record {
+      form = says-refused _ q (d .answer);
+      first = d .answer .alone .0;
+      second = d .answer .alone .1;
+      site = d .site;
+      kept = d .kept;
+    }

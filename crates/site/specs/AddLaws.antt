@@ -215,7 +215,7 @@ module _ (s : Representation) (bytes : List ℕ) (v : Sound s bytes) (i : ℕ) (
       accepts-step s bytes (Call.Add i us) (withPending (tryAll (startOf st) (st .log) (arrived i us st)) st)
       (Added (madeReady (arrived i us st) (tryAll (startOf st) (st .log) (arrived i us st)))) _ bytes v
       (add-accepted i us st le w free)
-      (says-lists _ (madeReady (arrived i us st) (tryAll (startOf st) (st .log) (arrived i us st))) [] ready (means-none ys))
+      (says-lists _ (madeReady (arrived i us st) (tryAll (startOf st) (st .log) (arrived i us st))) [] ready (means-none ys) tt)
       (carries-queue s bytes st (v .carries) tq (s .restoring) (s .reserved) numbers (tryAll (startOf st) (st .log) (arrived i us st))
       (st .waiting)
       (ap (λ (z : Bool). pendingIn z after) idle ∙ queue ∙ tried)

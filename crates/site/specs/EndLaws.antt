@@ -51,7 +51,7 @@ pub end-does : (s : Representation) (bytes : List ℕ) → Sound s bytes → s .
 unfolding Sound outcomeWith
 end-does s bytes v e q empty a ys ids =
     accepts-step s bytes Call.End (withOpen [] [] false (stateOf s bytes)) (Ended (map idOf (s .queue))) _ bytes v (end-accepted s bytes e)
-    (says-lists _ (map idOf (s .queue)) [] ids (means-none ys))
+    (says-lists _ (map idOf (s .queue)) [] ids (means-none ys) tt)
     (carries-queue s bytes (stateOf s bytes) (v .carries) q false 0 (s .busy) [] [] (ap (map operationOf) empty) refl refl
     (λ h lt. v .carries .busy h lt ∙ end-busy s bytes e h))
     refl

@@ -11,6 +11,7 @@ use Rattle.rules.specs.KeptLaws.{good-reads}
 use Rattle.rules.specs.WeaveLaws.{dids-weave}
 use Rattle.rules.specs.GoodLaws.{good-step}
 use Rattle.forms.specs.declared.Refusal.{Refusal}
+use Rattle.forms.specs.declared.ReplyForm.{ReplyForm}
 use Rattle.rules.specs.Log.{dids, stablesOf, readLog}
 use Rattle.rules.specs.State.{State, Reply, refused, ok, linesIn, settle}
 use Rattle.rules.specs.Checks.{check}
@@ -26,7 +27,7 @@ use Rattle.site.specs.declared.Site.{Site}
 use Rattle.site.specs.declared.CallResult.{CallResult}
 use Rattle.site.specs.Representation.{Representation, linesOfJournal, linesRead, baseOfJournal, baseRead, stateOf, Carries}
 use Rattle.site.specs.Representation.{Represents, Sound}
-use Rattle.site.specs.Model.{Lent, lent, represented, Few, Says, DoesWith, Does}
+use Rattle.site.specs.Model.{Lent, lent, represented, Few, Alone, Says, DoesWith, Does}
 
 -- ### Replies
 
@@ -44,13 +45,31 @@ unfolding numbersOf
 means-none ws = record { fits = record { few = omega arith; within = omega arith }; list = refl }
 
 -- A reply says what its form and its lists mean.
-pub says-lists : (r : Replied) (xs ys : List ℕ) → Means (r .first) xs → Means (r .second) ys → Says r (outcomeWith (r .form) xs ys)
+pub says-lists : (r : Replied) (xs ys : List ℕ) → Means (r .first) xs → Means (r .second) ys → Alone (outcomeWith (r .form) xs ys) r →
+    Says r (outcomeWith (r .form) xs ys)
 unfolding outcomeOf
-says-lists r xs ys a b =
+says-lists r xs ys a b alone =
     record {
       outcome = ap₂ (outcomeWith (r .form)) (a .list) (b .list);
       printable = record { first = a .fits; second = b .fits };
+      alone = alone;
     }
+
+-- A reply that counts no numbers has empty lists, whatever its form.
+pub alone-none : (f : ReplyForm) (xs ys : List ℕ) →
+    Alone (outcomeWith f [] []) (record { form = f; first = listed 0 xs; second = listed 0 ys })
+unfolding outcomeWith
+alone-none (ReplyForm.Refused q) xs ys = (refl, refl)
+alone-none ReplyForm.Opened xs ys = tt
+alone-none ReplyForm.Added xs ys = tt
+alone-none (ReplyForm.Finished n overtaken) xs ys = tt
+alone-none ReplyForm.Withdrawn xs ys = tt
+alone-none ReplyForm.Persisted xs ys = tt
+alone-none ReplyForm.Stabilised xs ys = tt
+alone-none (ReplyForm.Shows s) xs ys = tt
+alone-none (ReplyForm.Restarted lines used) xs ys = tt
+alone-none (ReplyForm.Redone ran examined) xs ys = tt
+alone-none ReplyForm.Ended xs ys = tt
 
 -- ### What a site holds
 

@@ -83,4 +83,4 @@ show-does s bytes h v le below x is p persisted q stabilised xs ys =
     (record { site = s; reply = shownOf h x p q xs ys }) bytes
     (show-accepted s bytes h v le below
     ∙ sym (λ i. ok (stateOf s bytes) (Shown h (is i .version .0) (persisted i) (stabilised i) (is i .place .0) (is i .profile))))
-    (says-lists (shownOf h x p q xs ys) [] [] (means-none xs) (means-none ys)) v refl
+    (says-lists (shownOf h x p q xs ys) [] [] (means-none xs) (means-none ys) tt) v refl

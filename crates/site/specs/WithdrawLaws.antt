@@ -162,7 +162,7 @@ module _ (s : Representation) (bytes : List ℕ) (i k : ℕ) (v : Sound s bytes)
       (withdraw-accepted s bytes i k le e found)
       (says-lists _ (becameDry (stateOf s bytes) (withdrawnFrom i s bytes)) []
       (means-is dried (dried-is before after (stateOf s bytes) (withdrawnFrom i s bytes) numbers-before numbers-after))
-      (means-none ys))
+      (means-none ys) tt)
       (carries-queue s bytes (stateOf s bytes) (v .carries) left (s .restoring) (s .reserved) after
       (without i (pendingIn (s .restoring) s)) (waitingIn (s .restoring) s)
       (rw e left-is) (rw e refl) (v .carries .reserved) numbers-after)
