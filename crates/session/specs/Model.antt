@@ -1,17 +1,19 @@
 -- The session and the bytes of its log buffer as the specification has them, and what a line does.
 use Prim.Native.Nat.{ℕ, _+_, _*_, _≤_}
 use mathlib.Core.Path.{_≡_}
-use mathlib.Core.Bool.{Bool, true, false}
+use mathlib.Core.Bool.{Bool, true, false, _&&_}
 use mathlib.Core.List.{List, []}
 use mathlib.Core.Option.{Option, none, some}
+use lib.Dec.{leb}
 use lib.ListN.{length, drop}
-use Rattle.forms.specs.Limits.{replyLimit}
+use Rattle.forms.specs.Limits.{liveLimit, replyLimit}
 use Rattle.forms.specs.Forms.{Outcome, Refused, Accepted, outcomeText}
 use Rattle.forms.specs.Held.{Replied, replied, outcomeOf}
 use Rattle.forms.specs.declared.Refusal.{Refusal}
 use Rattle.forms.specs.declared.Refusal.the-variants.{Unreadable, OutOfTurn}
 use Rattle.forms.specs.declared.AskedHeld.{AskedHeld}
 use Rattle.forms.specs.declared.DidLine.{DidLine}
+use Rattle.forms.specs.declared.ReplyLine.{ReplyLine}
 use Rattle.rules.specs.State.{State, Reply, refused}
 use Rattle.rules.specs.Calls.{openSite, Call, step}
 use Rattle.rules.specs.Session.{Turn, turnOf, turn}
@@ -114,6 +116,15 @@ pub record Starts (s : Session) (bytes : Lent) : Type 0 where
 pub record WritesTurn (r : Replied) (out : List ℕ) (at : ℕ) (n : Written) (written : List ℕ) : Type 0 where
   pub text : Writes out at (withEnd (outcomeText (outcomeOf r))) n written
   pub short : length (outcomeText (outcomeOf r)) + 1 ≤ replyLimit
+
+-- Do the lists that a reply counts stand in the numbers lent for them, at most 64 each? Those of every turn do.
+unfoldable pub listsFit : ReplyLine → List ℕ → Bool
+listsFit r ns = leb (r .first) liveLimit && leb (r .second) liveLimit && leb (r .first + r .second) (length ns)
+
+-- .. and where they do not, nothing is written.
+abbrev pub WritesReply : Bool → Replied → List ℕ → ℕ → Written → List ℕ → Type 0
+WritesReply true r out at n written = WritesTurn r out at n written
+WritesReply false r out at n written = (n ≡ Written.NoRoom) × (written ≡ out)
 
 -- The turn t is taken, and its reply with its end stands at the front of the buffer that was `out` and is `written`, if it fits there.
 pub record Answers (s : Session) (old : Lent) (t : Turn) (r : Answered) (new : Lent) (out written : List ℕ) : Type 0 where

@@ -2,12 +2,16 @@
 use Prim.Native.Nat.{ℕ, _+_, _-_, _≤_, _<_}
 use native.Mathlib.Omega.{arith}
 use mathlib.Core.Path.{_≡_, refl, sym, ap, subst, _∙_}
-use mathlib.Core.Bool.{Bool, true, false}
+use mathlib.Core.Bool.{Bool, true, false, not, _&&_}
 use mathlib.Core.List.{List}
 use mathlib.Core.Option.{Option, none, some}
+use lib.Dec.{T, leb, leb→le}
 use lib.ListN.{length, length-drop}
 use lib.Seq.{length-take-le}
-use borrow.Author.Tests.{lt-leb}
+use borrow.Author.Tests.{le-leb, lt-leb, not-true, not-false}
+use Rattle.forms.specs.ListLaws.{and-left, and-right}
+use Rattle.forms.specs.Limits.{liveLimit}
+use Rattle.forms.specs.declared.writer.Written.{Written}
 use Rattle.forms.specs.Reading.{readWhole, readCommand}
 use Rattle.forms.specs.Held.{Numbers, numbersOf, Replied, replied}
 use Rattle.forms.specs.declared.ReplyLine.{ReplyLine}
@@ -24,7 +28,7 @@ use Rattle.site.specs.Model.{Lent, view, Valid, Does, Printable, Few}
 use Rattle.session.specs.declared.Session.{Session}
 use Rattle.session.specs.declared.LineResult.{LineResult}
 use Rattle.session.specs.Model.{viewIf, sessionView, ValidSession, Refuses, Turns, turnedOf}
-use Rattle.session.specs.Model.{siteReply, closedReply, obeyed, TurnsForm, DoesForm}
+use Rattle.session.specs.Model.{siteReply, closedReply, obeyed, TurnsForm, DoesForm, WritesTurn, listsFit, WritesReply}
 
 numbers-count : (n : Numbers) → Few n → length (numbersOf n) ≡ n .count
 unfolding numbersOf
@@ -40,6 +44,62 @@ lists-short r p = (short (r .first) (p .first), short (r .second) (p .second))
 -- The second list ends within the array, and has as many numbers as the reply counts.
 pub lists-within : (r : ReplyLine) (ns : List ℕ) → Printable (replied r ns) → r .first + r .second ≤ length ns
 lists-within r ns p = omega (arith, p .first .within, p .second .within, length-drop (r .first) ns)
+
+-- The lists of a reply that can be printed fit.
+pub fits-printable : (r : ReplyLine) (ns : List ℕ) → Printable (replied r ns) → listsFit r ns ≡ true
+unfolding listsFit
+fits-printable r ns p =
+    rw (
+      le-leb (r .first) liveLimit (p .first .few),
+      le-leb (r .second) liveLimit (p .second .few),
+      le-leb (r .first + r .second) (length ns) (lists-within r ns p),
+    ) refl
+
+-- .. and those that fit can be printed.
+printable-fits : (r : ReplyLine) (ns : List ℕ) → r .first ≤ liveLimit → r .second ≤ liveLimit → r .first + r .second ≤ length ns →
+    Printable (replied r ns)
+printable-fits r ns a b c =
+    record {
+      first = record { few = a; within = omega (arith, c) };
+      second = record { few = b; within = omega (arith, c, length-drop (r .first) ns) };
+    }
+
+-- From the code's test of a reply, told by b: its lists fit, or they do not.
+module _ (r : ReplyLine) (ns : List ℕ) (b : Bool)
+    (tests : b ≡ (leb (r .first) liveLimit && leb (r .second) liveLimit && leb (r .first + r .second) (length ns))) where
+  pub fit-told : not b ≡ false → Printable (replied r ns)
+  fit-told e =
+      printable-fits r ns (leb→le (r .first) liveLimit (and-left (leb (r .first) liveLimit) (leb (r .second) liveLimit) front))
+      (leb→le (r .second) liveLimit (and-right (leb (r .first) liveLimit) (leb (r .second) liveLimit) front))
+      (leb→le (r .first + r .second) (length ns) (and-right short (leb (r .first + r .second) (length ns)) t))
+    where
+      short : Bool
+      short = leb (r .first) liveLimit && leb (r .second) liveLimit
+
+      t : T (short && leb (r .first + r .second) (length ns))
+      t = subst T (sym (not-false b e) ∙ tests) tt
+
+      front : T short
+      front = and-left short (leb (r .first + r .second) (length ns)) t
+
+  pub unfit-told : not b ≡ true → listsFit r ns ≡ false
+  unfolding listsFit
+  unfit-told e = sym tests ∙ not-true b e
+
+-- What is written of a reply that can be printed, and of one whose lists do not fit.
+module _ (r : ReplyLine) (ns out : List ℕ) (at : ℕ) where
+  pub writes-printable : (n : Written) (written : List ℕ) → Printable (replied r ns) →
+      WritesReply (listsFit r ns) (replied r ns) out at n written → WritesTurn (replied r ns) out at n written
+  writes-printable n written p w =
+      subst (λ (b : Bool). WritesReply b (replied r ns) out at n written) (fits-printable r ns p) w
+
+  pub writes-fitting : (n : Written) (written : List ℕ) → Printable (replied r ns) → WritesTurn (replied r ns) out at n written →
+      WritesReply (listsFit r ns) (replied r ns) out at n written
+  writes-fitting n written p w =
+      subst (λ (b : Bool). WritesReply b (replied r ns) out at n written) (sym (fits-printable r ns p)) w
+
+  pub writes-nothing : listsFit r ns ≡ false → WritesReply (listsFit r ns) (replied r ns) out at Written.NoRoom out
+  writes-nothing e = subst (λ (b : Bool). WritesReply b (replied r ns) out at Written.NoRoom out) (sym e) (refl, refl)
 
 pub second-counts : (n m : ℕ) → (n + m) - n ≡ m
 second-counts n m = omega arith

@@ -1,17 +1,21 @@
 // A session: one form a line in, one reply a line out, over a site whose log stands in a lent buffer.
 ghost use mathlib.Core.Path.{_≡_};
-ghost use mathlib.Core.Bool.{false};
+ghost use Prim.Native.Nat.{_+_};
+ghost use mathlib.Core.Bool.{false, _&&_};
 ghost use mathlib.Core.List.{[]};
+ghost use lib.Dec.{leb};
 ghost use Rattle.forms.specs.Held.{replied};
+ghost use Rattle.forms.specs.Limits.{liveLimit};
 ghost use Rattle.table.specs.Ends.{was, left};
-ghost use Rattle.site.specs.Model.{Lent, received, old, new, Valid, RefusedAs, Printable};
-ghost use Rattle.session.specs.Model.{ValidSession, Refuses, Starts, TurnsLine, AnswersLine, WritesTurn};
+ghost use Rattle.site.specs.Model.{Lent, received, old, new, Valid, RefusedAs};
+ghost use Rattle.session.specs.Model.{ValidSession, Refuses, Starts, TurnsLine, AnswersLine, listsFit, WritesReply};
 ghost use Rattle.session.specs.Model.{turnedOf, OpensLine, DoesForm, TurnsForm};
 ghost use Rattle.session.specs.Feeding.{Begins};
 use forms::LogNumber;
 use forms::Refusal;
 use forms::ReplyLine;
 use forms::ReplyNumbers;
+use forms::limits::LIVE;
 use forms::reader::CommandForm;
 use forms::reader::CommandRead;
 use forms::reader::read_command;
@@ -113,15 +117,31 @@ fn call(
     }
 }
 
+// Do the lists of a reply stand in so many numbers, at most 64 each?
+fn lists_fit(first: usize, second: usize, numbers: usize) -> bool
+    ensures { λ r. ⌜ r ≡ (leb first liveLimit && leb second liveLimit && leb (first + second) numbers) ⌝ }
+{
+    if first > LIVE {
+        return false;
+    }
+    if second > LIVE {
+        return false;
+    }
+    first + second <= numbers
+}
+
 // Writes the reply of a turn, with its end: its lists stand one behind the other at the front of what was lent for them.
-// It has at most 2,741 bytes.
+// It has at most 2,741 bytes. Nothing is written of a reply that is of no turn, where its lists do not stand there.
 pub fn write_turn(out: &mut [u8], at: usize, r: ReplyLine, lists: &[u64]) -> Written
-    requires { ⌜ Printable (replied r (now lists)) ⌝ }
-    ensures { λ w. ⌜ WritesTurn (replied r (was lists)) (was out) at w (left out) ⌝ }
+    ensures { λ w. ⌜ WritesReply (listsFit r (was lists)) (replied r (was lists)) (was out) at w (left out) ⌝ }
 {
     let form = r.form;
     let n = r.first;
-    let m = n + r.second;
+    let k = r.second;
+    if !lists_fit(n, k, lists.len()) {
+        return Written::NoRoom;
+    }
+    let m = n + k;
     write_reply(out, at, form, &lists[..n], &lists[n..m])
 }
 

@@ -6,12 +6,13 @@ use Rattle.forms.specs.Held.{replied, outcomeOf}
 use Rattle.rules.specs.Log.{ended}
 use Rattle.forms.specs.WriteLaws.{end-size}
 use Rattle.stream.specs.RunLaws.{wrote-at, wrote-not}
+use Rattle.session.specs.TurnLaws.{writes-printable}
 use borrow.Author.Needs.{needs}
 use Rattle.stream.proofs.put_reply.Statement.{statement}
 use Rattle.stream.proofs.put_reply.Tie as tie
 
 write-turn-requires : tie.Need-write-turn-requires
-write-turn-requires c κs = c .before .before .before .pre .0
+write-turn-requires c κs = search needs
 
 enum-known-next : tie.Need-enum-known-next
 enum-known-next c = search needs
@@ -25,9 +26,11 @@ same-length c = search needs
 returns : tie.Need-returns
 unfolding ended
 returns c =
-    let a = c .before .before .before .before .before .before .before .before .before .args in
+    let e = c .before .before .before .before .before .before .before .before .before in
+    let a = e .args in
     let w = c .before .before .before .before .before .write-turn in
-    wrote-at (now (a .out)) (a .at) _ (w .result) _ (c .before .next .given .0 .0) (w .ensures .text) (c .before .next .given .1)
+    let v = writes-printable (a .r) (now (a .lists)) (now (a .out)) (a .at) (w .result) _ (e .pre .0) (w .ensures) in
+    wrote-at (now (a .out)) (a .at) _ (w .result) _ (c .before .next .given .0 .0) (v .text) (c .before .next .given .1)
 
 same-length-2 : tie.Need-same-length-2
 same-length-2 c = search needs
@@ -36,9 +39,10 @@ returns-2 : tie.Need-returns-2
 returns-2 c =
     let e = c .before .before .before .before .before .before .before .before in
     let w = c .before .before .before .before .write-turn in
-    let short = wrote-not (now (e .args .out)) (e .args .at) _ (w .result) _ (w .ensures .text) (c .enum-told .given .1) .short in
+    let v = writes-printable (e .args .r) (now (e .args .lists)) (now (e .args .out)) (e .args .at) (w .result) _ (e .pre .0) (w .ensures) in
+    let short = wrote-not (now (e .args .out)) (e .args .at) _ (w .result) _ (v .text) (c .enum-told .given .1) .short in
     let text = outcomeText (outcomeOf (replied (e .args .r) (now (e .args .lists)))) in
-    absurd (omega (arith, short, end-size text, w .ensures .short, e .pre .1))
+    absurd (omega (arith, short, end-size text, v .short, e .pre .1))
 
 pub put-reply-spec : {M : Type 1} → statement M
 put-reply-spec =

@@ -1,5 +1,7 @@
+-- The turn's reply can be printed, so the writer writes it, and what is written is the specification's reply.
 use denote.Ref.{now}
 use Rattle.session.specs.AnswerLaws.{answers-turn}
+use Rattle.session.specs.TurnLaws.{writes-printable}
 use Rattle.site.specs.Model.{lent}
 use borrow.Author.Needs.{needs}
 use Rattle.session.proofs.Session.answer.Statement.{statement}
@@ -9,7 +11,7 @@ turn-requires : tie.Need-turn-requires
 turn-requires c κs = search needs
 
 write-turn-requires : tie.Need-write-turn-requires
-write-turn-requires c κs = c .before .before .before .before .before .before .before .turn .ensures .answer .printable
+write-turn-requires c κs = search needs
 
 same-length : tie.Need-same-length
 same-length c = search needs
@@ -22,7 +24,7 @@ returns c =
     let t = c .before .before .before .before .before .before .before .before .before .before in
     let e = t .before .before .before .before .before .before .before .before .before in
     answers-turn (e .args .self) (lent (now (e .args .log)) (now (e .args .rows)) (now (e .args .order)) (now (e .args .book)) (now (e .args .lists))) _ (t .turn .result) _ _ (now (e .args .out)) _
-    (t .turn .ensures) (c .before .before .write-turn .ensures .text)
+    (t .turn .ensures) (writes-printable _ _ _ _ _ _ (t .turn .ensures .answer .printable) (c .before .before .write-turn .ensures) .text)
 
 pub answer-spec : {M : Type 1} → statement M
 answer-spec =
