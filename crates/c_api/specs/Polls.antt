@@ -10,19 +10,14 @@ use Rattle.forms.specs.declared.Refusal.the-variants.{OutOfTurn}
 use Rattle.rules.specs.Log.{linesOf}
 use Rattle.rules.specs.State.{State}
 use Rattle.rules.specs.Session.{afterLines}
-use Rattle.rules.specs.Poll.{Polled, PollRefused, PollDry, PollBusy, poll}
+use Rattle.rules.specs.Poll.{poll}
 use Rattle.table.specs.Ends.{Ends, was}
 use Rattle.site.specs.Model.{lent}
 use Rattle.site.specs.Polls.{ValidWith}
 use Rattle.session.specs.declared.Session.{Session}
 use Rattle.session.specs.Model.{ValidSession, sessionView}
+pub use Rattle.session.specs.Polls.{polledNumber}
 use Rattle.c_api.specs.Play.{Plays}
-
--- 1,001 for a dry history, 1,000 for one that is not dry, or a refusal's number
-unfoldable pub polledNumber : Polled → ℕ
-polledNumber (PollRefused q) = numberOf q
-polledNumber PollDry = 1001
-polledNumber PollBusy = 1000
 
 -- The poll of a history of a session's site: 14 "before site".
 unfoldable pub sessionPoll : Option State → ℕ → ℕ

@@ -7,18 +7,13 @@ use mathlib.Core.Option.{Option, none, some}
 use Rattle.forms.specs.Refusals.{numberOf}
 use Rattle.forms.specs.declared.Refusal.the-variants.{OutOfTurn}
 use Rattle.rules.specs.State.{State}
-use Rattle.rules.specs.Poll.{Polled, PollRefused, PollDry, PollBusy, poll}
+use Rattle.rules.specs.Poll.{Polled, poll}
 use Rattle.site.specs.Model.{Lent, view}
 use Rattle.session.specs.declared.Session.{Session}
 use Rattle.session.specs.Model.{viewIf, sessionView}
+pub use Rattle.session.specs.Polls.{polledNumber}
 use Rattle.fitting_ledger.specs.Counters.{sessionAt}
 use Rattle.fitting_ledger.specs.Model.{stateAt}
-
--- 1,001 for a dry history, 1,000 for one that is not dry, or a refusal's number
-unfoldable pub polledNumber : Polled → ℕ
-polledNumber (PollRefused q) = numberOf q
-polledNumber PollDry = 1001
-polledNumber PollBusy = 1000
 
 -- The poll of a history of the state: 14 "before site".
 unfoldable pub pollOf : Option State → ℕ → ℕ

@@ -5,3 +5,4 @@ pub mod OpenLaws
 pub mod ReadLaws
 pub mod Feeding
 pub mod FeedingLaws
+pub mod Polls
