@@ -2,12 +2,12 @@
 use mathlib.Core.Path.{_≡_, refl, ap, ap₂, _∙_, subst}
 use mathlib.Core.Bool.{false, not}
 use mathlib.Core.Option.{none}
-use mathlib.Core.List.{List, _++_}
+use mathlib.Core.List.{List}
 use Prim.Native.Nat.{ℕ, _+_, _-_, _≤_, _<_}
 use native.Mathlib.Omega.{arith}
 use lib.Dec.{leb, le→leb}
 use lib.ListN.{length, take, drop, length-take, length-append}
-use lib.Seq.{take-append-seam, take-length}
+use lib.Seq.{take-length}
 use Rattle.forms.specs.ListLaws.{T-true}
 use Rattle.forms.specs.Decimal.{top}
 use Rattle.forms.specs.Forms.{Did, Restarted}
@@ -31,10 +31,6 @@ use Rattle.recovery.specs.Recovery.{start-good, show-is}
 pub record HoldsLog (buffer : List ℕ) (st : State) : Type 0 where
   pub within : length buffer ≤ logLimit
   pub bytes : take (length (logBytes st)) buffer ≡ logBytes st
-
--- Its log with any bytes behind it, within the limit, is such a buffer.
-pub holds-log : (st : State) (rest : List ℕ) → length (logBytes st ++ rest) ≤ logLimit → HoldsLog (logBytes st ++ rest) st
-holds-log st rest h = record { within = h; bytes = take-append-seam (logBytes st) rest }
 
 -- A restart of st from all bytes of its log is accepted and keeps every line; each history shows the same version, place and profile, and
 -- the stable version that it showed: "Stable means stable after a restart too". "kept operations above it are live again".
