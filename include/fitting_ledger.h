@@ -1,10 +1,13 @@
 /*
- * The fitting ledger for controllers: one site that lives on from call to call, in memory that its owner lends.
+ * The fitting ledger for controllers and stations: a site, a keeper and records that live on from call to call, in memory that their owner
+ * lends.
  *
- * Link with libfitting_ledger.a (`rt staticlib fitting_ledger`), x86-64 Linux. C11 and C++17. docs/LIBRARY.md is the page to begin with.
+ * Link with libfitting_ledger.a for a site, with libfitting_station.a for a keeper and records (`rt staticlib NAME`), x86-64 Linux. C11 and
+ * C++17. docs/LIBRARY.md is the page to begin with.
  *
- * What is proved of the calls holds for a state that `fl_start` or `fl_restart` has filled and that nobody but these calls has changed since,
- * neither the state nor the bytes of its log in use: that is all they ask. Each call is then what documents 01 and 02 say of a session.
+ * What is proved of the calls holds for a state that `fl_start` or `fl_restart` has filled (a keeper: `fl_keeper_start`, `fl_keeper_resume`;
+ * records: `fl_records_start`, `fl_records_resume`) and that nobody but these calls has changed since, neither the state nor the bytes of its
+ * log (the keeper's lines) in use: that is all they ask. Each call is then what documents 01 and 02 say of a session (a keeper, records).
  *
  * - The library has no memory of its own, allocates nothing, opens nothing and keeps no pointer beyond a call. It uses the stack alone: fewer
  *   than FL_STACK_BYTES.
@@ -22,7 +25,7 @@ extern "C" {
 #endif
 
 /* The version of this header. `fl_fits` compares it with the library. */
-#define FL_VERSION 1
+#define FL_VERSION 2
 
 /* "A site has 1 to 16 histories": the greatest number that fl_start takes. */
 #define FL_HISTORIES 16
@@ -67,14 +70,14 @@ enum {
     FL_ABOVE_LIMIT = 13,
     FL_OUT_OF_TURN = 14,
     FL_BAD_LOG = 15,
-    FL_HIGHEST_VERSION = 17
+    FL_HIGHEST_VERSION = 17,
+    FL_WRONG_THRESHOLD = 18,
+    FL_NOT_SENT = 19,
+    FL_CONFLICT = 20
 };
 
 /* What fl_poll returns in place of FL_OK: the history is not dry, or it is. */
 enum { FL_BUSY = 1000, FL_DRY = 1001 };
-
-/* What fl_trim returns in place of FL_OK: this and the bytes used. */
-enum { FL_TRIMMED = 1000 };
 
 /*
  * A site's state. The owner lends it, and the buffer of its log beside it; both must stay where they are and as they are between calls.
@@ -130,6 +133,8 @@ enum {
 uint64_t fl_version(void);
 size_t fl_state_bytes(void);
 size_t fl_reply_bytes(void);
+size_t fl_answer_words(void);
+size_t fl_number_words(void);
 uint64_t fl_start_parts(uint64_t *counters, uint8_t *log, size_t log_bytes, const uint64_t *rows, uint8_t *order, uint64_t *histories,
                         uint64_t count);
 uint64_t fl_restart_parts(uint64_t *counters, const uint8_t *log, size_t log_bytes, uint64_t *rows, uint8_t *order, uint64_t *histories,
@@ -160,11 +165,12 @@ uint64_t fl_redo_parts(uint64_t *counters, uint8_t *log, size_t log_bytes, uint6
 uint64_t fl_poll_parts(const uint64_t *counters, const uint8_t *log, size_t log_bytes, const uint64_t *rows, const uint8_t *order,
                        const uint64_t *histories, uint64_t history);
 uint64_t fl_trim_parts(const uint64_t *counters, const uint8_t *log, size_t log_bytes, const uint64_t *rows, const uint8_t *order,
-                       const uint64_t *histories, uint64_t n, uint8_t *fresh, size_t fresh_bytes);
+                       const uint64_t *histories, uint64_t n, uint8_t *fresh, size_t fresh_bytes, size_t *used);
 
 /* Whether the library that was linked is the one that this header speaks of: 1 or 0. Ask once, first. */
 static inline int fl_fits(void) {
-    return fl_version() == FL_VERSION && fl_reply_bytes() == FL_REPLY_BYTES && fl_state_bytes() == offsetof(fl_site, order) + FL_LIVE;
+    return fl_version() == FL_VERSION && fl_reply_bytes() == FL_REPLY_BYTES && fl_state_bytes() == offsetof(fl_site, order) + FL_LIVE &&
+           fl_answer_words() == FL_ANSWER_WORDS && fl_number_words() == FL_NUMBER_WORDS;
 }
 
 /*
@@ -205,7 +211,7 @@ static inline uint64_t fl_restart(fl_site *site, uint8_t *log, size_t log_bytes,
 /*
  * Obeys one line of a session, given without its end, and writes its reply, with its end, at the front of `reply`.
  * Returns the bytes of the reply; bytes behind them are as they were.
- * Returns 0, and nothing has happened, if reply_bytes is below FL_REPLY_BYTES.
+ * A number above reply_bytes says that nothing has happened, since the longest reply does not fit: it is the room needed, FL_REPLY_BYTES.
  * A reply `(refused N)` says that nothing has changed, neither the state nor the log.
  */
 static inline size_t fl_line(fl_site *site, const uint8_t *line, size_t line_bytes, uint8_t *reply, size_t reply_bytes) {
@@ -306,20 +312,165 @@ static inline uint64_t fl_poll(const fl_site *site, uint64_t history) {
 }
 
 /*
- * Copies the log into a fresh buffer, with a base line in place of its first n operations: FL_TRIMMED and the bytes used. Bytes behind them
- * are as they were; so are the state, the log and, after a refusal, the fresh buffer. While restoring too.
+ * Copies the log into a fresh buffer, with a base line in place of its first n operations: FL_OK, and `*used` is how many bytes at its front
+ * are the copy. Bytes behind them are as they were; so are the state, the log and, after a refusal, the fresh buffer and `*used`. While
+ * restoring too.
  * FL_ABOVE_LIMIT: n is above the stable mark, above 2^63 or below the log's own base, or fresh_bytes is above FL_LOG_BYTES. Only after
  * these FL_NO_ROOM: the copy does not fit. FL_OUT_OF_TURN without a site.
  * The changeover is fl_restart from all bytes of the copy, in its buffer, once they are stored; from then on the old log is not needed.
  */
-static inline uint64_t fl_trim(const fl_site *site, uint64_t n, uint8_t *fresh, size_t fresh_bytes) {
-    return fl_trim_parts(site->counters, site->log, site->log_bytes, site->rows, site->order, site->histories, n, fresh, fresh_bytes);
+static inline uint64_t fl_trim(const fl_site *site, uint64_t n, uint8_t *fresh, size_t fresh_bytes, size_t *used) {
+    return fl_trim_parts(site->counters, site->log, site->log_bytes, site->rows, site->order, site->histories, n, fresh, fresh_bytes, used);
 }
 
 /* The lists of a reply: fl_first has answer[FL_FIRST_COUNT] numbers, fl_second has answer[FL_SECOND_COUNT]. */
 static inline const uint64_t *fl_first(const fl_reply *reply) { return reply->numbers; }
 
 static inline const uint64_t *fl_second(const fl_reply *reply) { return reply->numbers + reply->answer[FL_FIRST_COUNT]; }
+
+/*
+ * A station. Link with libfitting_station.a; a program that holds a site too links both archives.
+ */
+
+/* "The list of kept places, one for each of the sixteen histories". */
+#define FL_PLACES 16
+/* "a 65th record 10": as many records as can be held. */
+#define FL_RECORDS 64
+/* Words of a record. */
+#define FL_RECORD_WORDS 5
+
+/* What the two resume calls return for what is not stored by a keeper, or not by records. */
+enum { FL_NOT_RESUMED = 999 };
+
+/* What fl_records_report and fl_records_question return in place of FL_OK: whether the operation counts as persistent. */
+enum { FL_NOT_PERSISTENT = 1000, FL_PERSISTENT = 1001 };
+
+/*
+ * A keeper: copies of did lines in a buffer of at most FL_LOG_BYTES, which the owner lends. Both must stay where they are and as they are
+ * between calls. The first `used` bytes of the buffer are the kept lines, in the order of their arrival, each with its end: what the owner
+ * has to store. A keep adds a line behind them; a drop moves lines up, so that what is stored has to be written anew.
+ */
+typedef struct fl_keeper {
+    size_t used;
+    uint8_t *lines;
+    size_t lines_bytes;
+} fl_keeper;
+
+/*
+ * Records of operations that live on several modules. The first `count` records are the first FL_RECORD_WORDS * count words: the id; the masks
+ * of the sites that it was sent to, of those with full details, of those that reported it persistent, where site s has the bit 1 << s, s from
+ * 0 to 7; the threshold. To be stored as they stand.
+ */
+typedef struct fl_records {
+    size_t count;
+    uint64_t words[FL_RECORDS * FL_RECORD_WORDS];
+} fl_records;
+
+/* What the library exports: the calls below hand it the parts. */
+uint64_t fl_station_version(void);
+size_t fl_record_words(void);
+size_t fl_place_words(void);
+void fl_keeper_start_parts(size_t *used, const uint8_t *lines, size_t lines_bytes);
+uint64_t fl_keeper_resume_parts(size_t *used, const uint8_t *lines, size_t lines_bytes, size_t kept);
+uint64_t fl_keeper_keep_parts(size_t *used, uint8_t *lines, size_t lines_bytes, const uint8_t *line, size_t line_bytes);
+uint64_t fl_keeper_drop_parts(size_t *used, uint8_t *lines, size_t lines_bytes, uint64_t history, uint64_t place);
+uint64_t fl_keeper_hand_out_parts(const size_t *used, const uint8_t *lines, size_t lines_bytes, const uint64_t *places, uint8_t *out,
+                                  size_t out_bytes, size_t *handed);
+void fl_records_start_parts(size_t *count, const uint64_t *words);
+uint64_t fl_records_resume_parts(size_t *count, const uint64_t *words, size_t kept);
+uint64_t fl_records_record_parts(size_t *count, uint64_t *words, uint64_t id, uint8_t sent, uint8_t full, uint64_t threshold);
+uint64_t fl_records_report_parts(size_t *count, uint64_t *words, uint64_t id, uint64_t site);
+uint64_t fl_records_question_parts(const size_t *count, const uint64_t *words, uint64_t id);
+uint64_t fl_records_forget_parts(size_t *count, uint64_t *words, uint64_t id);
+
+/* Whether the library for stations that was linked is the one that this header speaks of: 1 or 0. Ask once, first. */
+static inline int fl_station_fits(void) {
+    return fl_station_version() == FL_VERSION && fl_record_words() == FL_RECORDS * FL_RECORD_WORDS && fl_place_words() == FL_PLACES;
+}
+
+/* Begins a keeper that keeps nothing, whatever the keeper and the buffer hold. A buffer above FL_LOG_BYTES is refused by the calls below. */
+static inline void fl_keeper_start(fl_keeper *keeper, uint8_t *lines, size_t lines_bytes) {
+    keeper->lines = lines;
+    keeper->lines_bytes = lines_bytes;
+    fl_keeper_start_parts(&keeper->used, lines, lines_bytes);
+}
+
+/*
+ * Takes a keeper up again from the first `kept` bytes of its stored lines, which stand at the front of the buffer, whatever the keeper holds.
+ * To be called once: the keeper lives on from there. A last line without its end is not counted, so that `used` may be less than `kept`: cut
+ * what is stored to that.
+ * FL_OK, or FL_NOT_RESUMED: a whole line is not one that a keeper keeps, or `kept` is above lines_bytes; it then keeps nothing. No byte changes.
+ */
+static inline uint64_t fl_keeper_resume(fl_keeper *keeper, uint8_t *lines, size_t lines_bytes, size_t kept) {
+    keeper->lines = lines;
+    keeper->lines_bytes = lines_bytes;
+    return fl_keeper_resume_parts(&keeper->used, lines, lines_bytes, kept);
+}
+
+/*
+ * Keeps a copy of a did line, given without its end. A refusal changes nothing: FL_UNREADABLE to FL_OPERAND_RANGE for what is no did line of
+ * histories 0 to 15; FL_ALREADY_DONE: the same line is kept; FL_CONFLICT: another one with its id, histories and places is; FL_NO_ROOM: the
+ * buffer is full for it; FL_ABOVE_LIMIT: the buffer is above FL_LOG_BYTES.
+ */
+static inline uint64_t fl_keeper_keep(fl_keeper *keeper, const uint8_t *line, size_t line_bytes) {
+    return fl_keeper_keep_parts(&keeper->used, keeper->lines, keeper->lines_bytes, line, line_bytes);
+}
+
+/*
+ * The history is persistent up to this place: drops every line with that place or a lower one in that history. FL_NO_SUCH_HISTORY: above 15.
+ * FL_ABOVE_LIMIT as above.
+ */
+static inline uint64_t fl_keeper_drop(fl_keeper *keeper, uint64_t history, uint64_t place) {
+    return fl_keeper_drop_parts(&keeper->used, keeper->lines, keeper->lines_bytes, history, place);
+}
+
+/*
+ * Hands out, in the order of their arrival, copies of the lines with a place above its entry in `places`, FL_PLACES numbers, one for each
+ * history: what a site lost that still has these places. FL_OK, and `*handed` is how many bytes at the front of `out` they are, each line with
+ * its end; those behind are as they were. FL_NO_ROOM: they do not fit; as much room as the keeper uses is always enough. FL_ABOVE_LIMIT: a
+ * buffer is above FL_LOG_BYTES. A refusal changes neither `out` nor `*handed`; the keeper does not change at all.
+ */
+static inline uint64_t fl_keeper_hand_out(const fl_keeper *keeper, const uint64_t *places, uint8_t *out, size_t out_bytes, size_t *handed) {
+    return fl_keeper_hand_out_parts(&keeper->used, keeper->lines, keeper->lines_bytes, places, out, out_bytes, handed);
+}
+
+/* Begins without records, whatever they hold. */
+static inline void fl_records_start(fl_records *records) { fl_records_start_parts(&records->count, records->words); }
+
+/*
+ * Takes up `kept` records that were stored and stand in the words again. FL_OK, or FL_NOT_RESUMED: more than FL_RECORDS; there are then none.
+ * No word changes.
+ */
+static inline uint64_t fl_records_resume(fl_records *records, size_t kept) {
+    return fl_records_resume_parts(&records->count, records->words, kept);
+}
+
+/*
+ * Records an operation: the masks of the sites that it was sent to and of those with full details, and how many of these must report it
+ * persistent before it counts. FL_ID_PENDING: it is recorded. FL_TABLE_FULL: there are FL_RECORDS. FL_WRONG_THRESHOLD: 0, or above the number
+ * of full copies. FL_NOT_SENT: a full copy at a site that it was not sent to.
+ */
+static inline uint64_t fl_records_record(fl_records *records, uint64_t id, uint8_t sent, uint8_t full, uint64_t threshold) {
+    return fl_records_record_parts(&records->count, records->words, id, sent, full, threshold);
+}
+
+/*
+ * A site reports an operation persistent: FL_PERSISTENT if it then counts as persistent, else FL_NOT_PERSISTENT. A report that comes twice
+ * changes nothing. FL_NOT_SENT: there is no record, or it was not sent to this site.
+ */
+static inline uint64_t fl_records_report(fl_records *records, uint64_t id, uint64_t site) {
+    return fl_records_report_parts(&records->count, records->words, id, site);
+}
+
+/* Whether an operation counts as persistent: FL_PERSISTENT or FL_NOT_PERSISTENT. FL_NOT_SENT: there is no record. Nothing changes. */
+static inline uint64_t fl_records_question(const fl_records *records, uint64_t id) {
+    return fl_records_question_parts(&records->count, records->words, id);
+}
+
+/* Forgets the record of an operation; the records behind it move up. FL_NOT_SENT: there is none. */
+static inline uint64_t fl_records_forget(fl_records *records, uint64_t id) {
+    return fl_records_forget_parts(&records->count, records->words, id);
+}
 
 #ifdef __cplusplus
 }

@@ -2,50 +2,27 @@
  * A controller that keeps its site's log in a file: what is new in the log is appended after each line that was accepted, so that the file
  * always holds the first bytes of the log. It can be killed at any moment, and goes on from what the file holds.
  *
- * usage: controller FILE [BYTES]     with BYTES it is killed once it has appended that many, in the middle of a write too
+ * usage: controller FILE [BYTES]     with BYTES it kills itself once it has written that many, in the middle of a line too
  */
 #include "fitting_ledger.h"
+#include "stored.h"
 
-#include <fcntl.h>
-#include <signal.h>
-#include <stdio.h>
-#include <stdlib.h>
 #include <string.h>
-#include <unistd.h>
 
 enum { HISTORIES = 4, OPERATIONS = 24 };
 
 static fl_site site;
 static uint8_t log_buffer[FL_LOG_BYTES];
-static int file;
-static size_t stored; /* bytes of the log that the file holds */
-static size_t left;   /* bytes to append before it is killed */
-
-static void fail(const char *what) {
-    fprintf(stderr, "controller: %s\n", what);
-    exit(1);
-}
-
-/* Appends to the file, and is killed where its bytes run out. */
-static void append(const uint8_t *bytes, size_t n) {
-    size_t now = n < left ? n : left;
-    if (write(file, bytes, now) != (ssize_t)now) fail("cannot write");
-    left -= now;
-    if (now < n) raise(SIGKILL);
-}
+static stored file;
 
 /* Stores what is new in the log. */
-static void store(void) {
-    size_t used = fl_log_used(&site);
-    if (used > stored) append(log_buffer + stored, used - stored);
-    stored = used;
-}
+static void store(void) { stored_grow(&file, log_buffer, fl_log_used(&site)); }
 
 /* One line in, one reply out; the reply is a text that ends with a 0. */
 static const char *ask(const char *line) {
     static uint8_t reply[FL_REPLY_BYTES + 1];
     size_t n = fl_line(&site, (const uint8_t *)line, strlen(line), reply, FL_REPLY_BYTES);
-    if (n == 0) fail("no room for a reply");
+    if (n > FL_REPLY_BYTES) fail("no room for a reply");
     reply[n] = 0;
     store();
     return (const char *)reply;
@@ -56,25 +33,23 @@ static void must(const char *line) {
 }
 
 /* A new log, or the one that the file holds: a last line that was cut off is cut out of the file too. */
-static void begin(void) {
-    ssize_t n = read(file, log_buffer, sizeof log_buffer);
-    if (n < 0) fail("cannot read");
-    if (memchr(log_buffer, '\n', (size_t)n) == NULL) {
-        if (ftruncate(file, 0) != 0) fail("cannot cut the file");
+static void begin(const char *name) {
+    stored_open(&file, name, log_buffer, sizeof log_buffer);
+    if (memchr(log_buffer, '\n', file.bytes) == NULL) {
+        stored_cut(&file, 0);
         if (fl_start(&site, log_buffer, sizeof log_buffer, HISTORIES) != FL_OK) fail("cannot start");
         store();
         return;
     }
-    if (fl_restart(&site, log_buffer, sizeof log_buffer, (size_t)n) != FL_OK) fail("the file holds no log");
-    stored = fl_log_used(&site);
-    if (ftruncate(file, (off_t)stored) != 0) fail("cannot cut the file");
+    if (fl_restart(&site, log_buffer, sizeof log_buffer, file.bytes) != FL_OK) fail("the file holds no log");
+    stored_cut(&file, fl_log_used(&site));
     must("(end)");
 }
 
 /* How many operations the log has: a did line each. */
 static unsigned done(void) {
     unsigned lines = 0;
-    for (size_t i = 1; i < stored; i++) lines += log_buffer[i - 1] == '(' && log_buffer[i] == 'd';
+    for (size_t i = 1; i < file.bytes; i++) lines += log_buffer[i - 1] == '(' && log_buffer[i] == 'd';
     return lines;
 }
 
@@ -103,10 +78,8 @@ static void operate(unsigned i) {
 int main(int argc, char **argv) {
     if (argc < 2) fail("usage: controller FILE [BYTES]");
     if (!fl_fits()) fail("header and library differ");
-    left = argc > 2 ? (size_t)strtoul(argv[2], NULL, 10) : SIZE_MAX;
-    file = open(argv[1], O_RDWR | O_CREAT | O_APPEND, 0644);
-    if (file < 0) fail("cannot open the file");
-    begin();
+    if (argc > 2) bytes_left = (size_t)strtoul(argv[2], NULL, 10);
+    begin(argv[1]);
     settle(done());
     for (unsigned i = done(); i < OPERATIONS; i++) operate(i);
     for (unsigned h = 0; h < HISTORIES; h++) {
@@ -114,5 +87,5 @@ int main(int argc, char **argv) {
         snprintf(line, sizeof line, "(show %u)", h);
         fputs(ask(line), stdout);
     }
-    return close(file);
+    return close(file.file);
 }

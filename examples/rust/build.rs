@@ -1,4 +1,4 @@
-//! Says where the proved library is linked from.
+//! Says where the proved libraries are linked from.
 
 use std::env;
 use std::path::Path;
@@ -9,7 +9,9 @@ fn main() {
     let here = env::var("CARGO_MANIFEST_DIR").expect("cargo sets CARGO_MANIFEST_DIR");
     let asked = env::var("LEDGER_LIB_DIR").unwrap_or_else(|_| "../../target/staticlib".to_string());
     let folder = Path::new(&here).join(asked);
-    println!("cargo:rerun-if-changed={}", folder.join("libfitting_ledger.a").display());
     println!("cargo:rustc-link-search=native={}", folder.display());
-    println!("cargo:rustc-link-lib=static=fitting_ledger");
+    for name in ["fitting_ledger", "fitting_station"] {
+        println!("cargo:rerun-if-changed={}", folder.join(format!("lib{name}.a")).display());
+        println!("cargo:rustc-link-lib=static={name}");
+    }
 }

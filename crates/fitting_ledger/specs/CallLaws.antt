@@ -1,13 +1,16 @@
 -- A call of the open site as a turn of the state.
-use Prim.Native.Nat.{ℕ}
+use Prim.Native.Nat.{ℕ, suc}
 use mathlib.Core.Path.{_≡_, refl, sym, ap, subst, _∙_}
 use mathlib.Core.Bool.{Bool, true, false, cond}
 use mathlib.Core.List.{List}
 use mathlib.Core.Option.{some}
 use lib.Dec.{eqb}
+use lib.ListN.{length}
 use Rattle.forms.specs.Forms.{Refused, Accepted}
 use Rattle.forms.specs.Refusals.{numberOf}
 use Rattle.forms.specs.declared.Refusal.the-variants.{OutOfTurn}
+use Rattle.forms.specs.declared.ReplyForm.{ReplyForm}
+use Rattle.forms.specs.declared.ReplyLine.{ReplyLine}
 use Rattle.rules.specs.State.{State, Reply, refused, ok}
 use Rattle.rules.specs.Calls.{Call, step}
 use Rattle.rules.specs.Session.{turnOf, calling}
@@ -20,7 +23,7 @@ use Rattle.stream.specs.Logging.{overlaid}
 use Rattle.stream.specs.LoggingLaws.{over-site}
 use Rattle.fitting_ledger.specs.Counters.{sessionAt, wordsOf}
 use Rattle.fitting_ledger.specs.Model.{ValidState, outcomeNumber, begunAs, UnusedLeft, Takes}
-use Rattle.fitting_ledger.specs.Calls.{answerWords, Performs, PerformsCall, PutsCall}
+use Rattle.fitting_ledger.specs.Calls.{singleWords, answerWords, Performs, PerformsCall, PutsCall}
 use Rattle.fitting_ledger.specs.CounterLaws.{session-of, words-valid}
 use Rattle.fitting_ledger.specs.BeginLaws.{says-number, number-some}
 
@@ -133,3 +136,23 @@ performs-not s ws old c head is o v =
   where
     closed : sessionAt ws .opened ≡ false
     closed = sym (ap (λ (x : Session). x .opened) is) ∙ o
+
+-- ### The answer's length
+
+single-long : (f : ReplyForm) → length (singleWords f) ≡ 6
+unfolding singleWords
+single-long (ReplyForm.Refused q) = refl
+single-long ReplyForm.Opened = refl
+single-long ReplyForm.Added = refl
+single-long (ReplyForm.Finished n k) = refl
+single-long ReplyForm.Withdrawn = refl
+single-long ReplyForm.Persisted = refl
+single-long ReplyForm.Stabilised = refl
+single-long (ReplyForm.Shows s) = refl
+single-long (ReplyForm.Restarted lines used) = refl
+single-long (ReplyForm.Redone ran examined) = refl
+single-long ReplyForm.Ended = refl
+
+-- Every answer has as many words.
+pub answer-long : (r : ReplyLine) → length (answerWords r) ≡ 8
+answer-long r = ap (λ (n : ℕ). suc (suc n)) (single-long (r .form))

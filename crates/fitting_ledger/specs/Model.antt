@@ -77,9 +77,9 @@ pub record Answers (ws : List ℕ) (old : Lent) (t : Turn) (n : ℕ) (after : Li
   pub takes : Takes ws old t after new
   pub reply : Fronts (ended (outcomeText (t .reply))) out page n
 
--- There may be too little room for the reply: the answer is 0, and nothing has happened.
+-- There may be too little room for the reply: the answer is the room needed, which is more, and nothing has happened.
 pub record AnswersNot (ws : List ℕ) (old : Lent) (n : ℕ) (after : List ℕ) (new : Lent) (out page : List ℕ) : Type 0 where
-  pub answer : n ≡ 0
+  pub answer : n ≡ replyLimit
   pub same : Same ws old after new
   pub unwritten : page ≡ out
 

@@ -96,9 +96,10 @@ answers-line s ws old line r new after out page n is room v h e w =
         (subst (λ (x : Session). TurnsLine x old line r new) is h)
 
 -- Too little room.
-pub answers-short : (ws : List ℕ) (old : Lent) (t : Turn) (out : List ℕ) → length out < replyLimit → AnswersIfRoom ws old t 0 ws old out out
+pub answers-short : (ws : List ℕ) (old : Lent) (t : Turn) (out : List ℕ) → length out < replyLimit
+    → AnswersIfRoom ws old t replyLimit ws old out out
 answers-short ws old t out short =
-    subst (λ (b : Bool). AnswersIf b ws old t 0 ws old out out) (sym (lt-leb replyLimit (length out) short))
+    subst (λ (b : Bool). AnswersIf b ws old t replyLimit ws old out out) (sym (lt-leb replyLimit (length out) short))
     (record { answer = refl; same = record { counters = refl; kept = refl }; unwritten = refl })
 
 -- ### The bytes in use

@@ -1,58 +1,53 @@
 -- A trim's number and the bytes of its fresh buffer are those of the specification.
-use Prim.Native.Nat.{ℕ, _+_, _≤_}
+use Prim.Native.Nat.{ℕ}
 use mathlib.Core.Path.{_≡_, refl, sym, ap, subst, _∙_}
 use mathlib.Core.Bool.{Bool, true, false}
 use mathlib.Core.List.{List}
-use native.Mathlib.Omega.{arith}
 use Rattle.forms.specs.Refusals.{numberOf}
 use Rattle.forms.specs.declared.Refusal.the-variants.{OutOfTurn}
-use Rattle.rules.specs.State.{State}
 use Rattle.rules.specs.Trim.{Trimmed, notTrimmed, trimmed, trim}
-use Rattle.rules.specs.TrimShows.{trim-holds}
 use Rattle.site.specs.Model.{Lent, view}
 use Rattle.session.specs.declared.Session.{Session}
 use Rattle.session.specs.Model.{viewIf, sessionView}
 use Rattle.trim.specs.declared.Copied.{Copied}
-use Rattle.trim.specs.declared.Copied.the-variants.{Used}
 use Rattle.trim.specs.Model.{replyOf, Copies}
 use Rattle.fitting_ledger.specs.Counters.{sessionAt}
-use Rattle.fitting_ledger.specs.Trims.{copiedNumber, trimNumber, trimOf, Trims, TrimsState}
+use Rattle.fitting_ledger.specs.Trims.{copiedNumber, trimNumber, copiedUsed, trimUsed, trimOf, Trims, TrimsState}
 
--- The bytes used are at most those of a log buffer.
-pub copied-few : (n : ℕ) (old : List ℕ) (st : State) (r : Copied) (new : List ℕ) → Copies (trim n old st) old r new →
-    (u : ℕ) → r ≡ Used u → u + 1000 ≤ 18446744073709551615
-copied-few n old st r new h u e = go (trim n old st) refl (sym e ∙ h .reply)
+-- The number and the bytes used are those of the specification's trim.
+trims : (t : Trimmed) (old : List ℕ) (c : Copied) (new : List ℕ) (r before after : ℕ) → Copies t old c new → r ≡ copiedNumber c
+    → after ≡ copiedUsed c before → Trims t old r new before after
+unfolding copiedNumber trimNumber copiedUsed trimUsed
+trims t old c new r before after h e f =
+    record {
+      answer = e ∙ ap copiedNumber (h .reply) ∙ number t;
+      bytes = h .bytes;
+      used = f ∙ ap (λ (x : Copied). copiedUsed x before) (h .reply) ∙ used t;
+    }
   where
-    go : (t : Trimmed) → trim n old st ≡ t → Used u ≡ replyOf t → u + 1000 ≤ 18446744073709551615
-    go (notTrimmed q) is f = let z : _≡_ {A = ℕ} 0 1 = cc in absurd (omega arith)
-    go (trimmed bytes used) is f =
-        let same : u ≡ used = cc in
-        let x = trim-holds n old st bytes used is in
-        omega (arith, same, x .within, x .limit)
+    number : (v : Trimmed) → copiedNumber (replyOf v) ≡ trimNumber v
+    number (notTrimmed q) = refl
+    number (trimmed bytes n) = refl
 
--- The number is that of the specification's trim.
-trims : (t : Trimmed) (old : List ℕ) (c : Copied) (new : List ℕ) (r : ℕ) → Copies t old c new → r ≡ copiedNumber c → Trims t old r new
-unfolding copiedNumber trimNumber
-trims t old c new r h e = record { answer = e ∙ ap copiedNumber (h .reply) ∙ go t; bytes = h .bytes }
-  where
-    go : (v : Trimmed) → copiedNumber (replyOf v) ≡ trimNumber v
-    go (notTrimmed q) = refl
-    go (trimmed bytes used) = refl
+    used : (v : Trimmed) → copiedUsed (replyOf v) before ≡ trimUsed v before
+    used (notTrimmed q) = refl
+    used (trimmed bytes n) = refl
 
 -- .. of an open site
-pub trims-opened : (s : Session) (ws : List ℕ) (m : Lent) (n : ℕ) (old : List ℕ) (c : Copied) (new : List ℕ) (r : ℕ) → s ≡ sessionAt ws →
-    s .opened ≡ true → Copies (trim n old (view (s .site) m)) old c new → r ≡ copiedNumber c → TrimsState ws m n old r new
+pub trims-opened : (s : Session) (ws : List ℕ) (m : Lent) (n : ℕ) (old : List ℕ) (c : Copied) (new : List ℕ) (r before after : ℕ) →
+    s ≡ sessionAt ws → s .opened ≡ true → Copies (trim n old (view (s .site) m)) old c new → r ≡ copiedNumber c
+    → after ≡ copiedUsed c before → TrimsState ws m n old r new before after
 unfolding trimOf
-trims-opened s ws m n old c new r is o h e =
-    subst (λ (x : Session). Trims (trimOf n old (sessionView x m)) old r new) is
-    (subst (λ (b : Bool). Trims (trimOf n old (viewIf b (s .site) m)) old r new) (sym o)
-    (trims (trim n old (view (s .site) m)) old c new r h e))
+trims-opened s ws m n old c new r before after is o h e f =
+    subst (λ (x : Session). Trims (trimOf n old (sessionView x m)) old r new before after) is
+    (subst (λ (b : Bool). Trims (trimOf n old (viewIf b (s .site) m)) old r new before after) (sym o)
+    (trims (trim n old (view (s .site) m)) old c new r before after h e f))
 
 -- .. "before site"
-pub trims-before : (s : Session) (ws : List ℕ) (m : Lent) (n : ℕ) (old : List ℕ) → s ≡ sessionAt ws → s .opened ≡ false →
-    TrimsState ws m n old (numberOf OutOfTurn) old
-unfolding trimOf trimNumber
-trims-before s ws m n old is o =
-    subst (λ (x : Session). Trims (trimOf n old (sessionView x m)) old (numberOf OutOfTurn) old) is
-    (subst (λ (b : Bool). Trims (trimOf n old (viewIf b (s .site) m)) old (numberOf OutOfTurn) old) (sym o)
-    (record { answer = refl; bytes = refl }))
+pub trims-before : (s : Session) (ws : List ℕ) (m : Lent) (n : ℕ) (old : List ℕ) (before : ℕ) → s ≡ sessionAt ws → s .opened ≡ false →
+    TrimsState ws m n old (numberOf OutOfTurn) old before before
+unfolding trimOf trimNumber trimUsed
+trims-before s ws m n old before is o =
+    subst (λ (x : Session). Trims (trimOf n old (sessionView x m)) old (numberOf OutOfTurn) old before before) is
+    (subst (λ (b : Bool). Trims (trimOf n old (viewIf b (s .site) m)) old (numberOf OutOfTurn) old before before) (sym o)
+    (record { answer = refl; bytes = refl; used = refl }))

@@ -12,7 +12,9 @@ use site::CallResult;
 
 // How many numbers the two lists of a reply have, then its single numbers in their printed order, and 0 behind them. Behind the log number
 // of a finish: how many ids of its second list, the first ones, were overtaken; the others are ready.
-pub type Answer = [u64; 8];
+pub const ANSWER_WORDS: usize = 8;
+
+pub type Answer = [u64; ANSWER_WORDS];
 
 // The answer of a reply.
 fn answer_of(r: ReplyLine) -> Answer

@@ -37,8 +37,8 @@ fn put_reply(out: &mut [u8], r: ReplyLine, lists: &ReplyNumbers) -> usize
     }
 }
 
-// Obeys a line, given without its end, and writes its reply, with its end: the bytes of the reply. 0, and nothing has happened, where `out`
-// has less room than the longest reply.
+// Obeys a line, given without its end, and writes its reply, with its end: the bytes of the reply. Where `out` has less room
+// than the longest reply nothing has happened, and the room needed is returned: more than there is.
 #[no_mangle]
 pub extern "C" fn fl_line_parts(
     counters: &mut Counters,
@@ -55,7 +55,7 @@ pub extern "C" fn fl_line_parts(
         n (left counters) (newWith [] log rows order book) (was out) (left out) ⌝ }
 {
     if out.len() < REPLY_BYTES {
-        return 0;
+        return REPLY_BYTES;
     }
     let mut lists = [0u64; UPDATES + LIVE];
     let s = session_at(counters);

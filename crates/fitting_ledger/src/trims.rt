@@ -1,12 +1,10 @@
 // A copy of the site's log with a base line in place of its first operations.
 ghost use mathlib.Core.Path.{_≡_};
 ghost use mathlib.Core.List.{[]};
-ghost use Prim.Native.Nat.{ℕ, _+_, _≤_};
 ghost use Rattle.table.specs.Ends.{was, left};
 ghost use Rattle.site.specs.Model.{received, oldWith};
-ghost use Rattle.trim.specs.declared.Copied.the-variants.{Used};
 ghost use Rattle.fitting_ledger.specs.Model.{ValidState};
-ghost use Rattle.fitting_ledger.specs.Trims.{copiedNumber, TrimsState};
+ghost use Rattle.fitting_ledger.specs.Trims.{copiedNumber, copiedUsed, TrimsState};
 use super::counters::Counters;
 use super::counters::session_at;
 use super::start::OUT_OF_TURN;
@@ -17,21 +15,20 @@ use table::rows::Rows;
 use trim::Copied;
 use trim::trim;
 
-// What a trim returns for a copy, and the bytes used on top of it.
-pub const TRIMMED: u64 = 1000;
-
-// The number for what a trim replies.
-fn copied_number(r: Copied) -> u64
-    requires { ⌜ ((n : ℕ) → r ≡ Used n → n + 1000 ≤ 18446744073709551615) ⌝ }
-    ensures { λ n. ⌜ n ≡ copiedNumber r ⌝ }
+// 0 for a copy, and `used` is the bytes used; or the number of the refusal.
+fn put_used(used: &mut usize, r: Copied) -> u64
+    ensures { λ n. ⌜ (n ≡ copiedNumber r) × (now (used .exit) ≡ copiedUsed r (now (used .entry))) ⌝ }
 {
     match r {
-        Copied::Used(n) => n as u64 + TRIMMED,
+        Copied::Used(n) => {
+            *used = n;
+            0
+        }
         Copied::Refused(q) => refusal_number(q),
     }
 }
 
-// Copies the log into a fresh buffer, with a base line in place of its first n operations: 1,000 more than the bytes used there, or the
+// Copies the log into a fresh buffer, with a base line in place of its first n operations: 0, and `used` is the bytes used there; or the
 // number of the refusal. Nothing else changes.
 #[no_mangle]
 pub extern "C" fn fl_trim_parts(
@@ -42,15 +39,17 @@ pub extern "C" fn fl_trim_parts(
     book: &BookWords,
     n: u64,
     fresh: &mut [u8],
+    used: &mut usize,
 ) -> u64
     requires { ⌜ ValidState (now counters) (received log rows order book) ⌝ }
-    ensures { λ r. ⌜ TrimsState (was counters) (oldWith [] log rows order book) n (was fresh) r (left fresh) ⌝ }
+    ensures { λ r. ⌜ TrimsState (was counters) (oldWith [] log rows order book) n (was fresh) r (left fresh)
+        (now (used .entry)) (now (used .exit)) ⌝ }
 {
     let s = session_at(counters);
     if s.opened {
         let site = s.site;
         let c = trim(site, log, n, fresh);
-        return copied_number(c);
+        return put_used(used, c);
     }
     OUT_OF_TURN
 }

@@ -1,13 +1,20 @@
-//! The library for controllers behind a safe type: a [`Site`] can only be had from [`Site::start`] or [`Site::restart`], and its words and
-//! the log that was lent to it can only be changed by its calls. That is what these ask for.
+//! The library for controllers and stations behind safe types: a [`Site`] can only be had from [`Site::start`] or [`Site::restart`], and its
+//! words and the log that was lent to it can only be changed by its calls. That is what these ask for. So it is with a [`Keeper`] and its
+//! lines, and with [`Records`].
 
+mod calls;
+mod keeper;
 mod linked;
+mod records;
+
+pub use keeper::Keeper;
+pub use records::Records;
 
 /// The greatest log buffer.
 pub const LOG_BYTES: usize = 65_536;
 /// The longest reply.
 pub const REPLY_BYTES: usize = 2_741;
-const VERSION: u64 = 1;
+const VERSION: u64 = 2;
 const COUNTERS: usize = 13;
 const ROWS: usize = 64 * 24;
 const HISTORIES: usize = 16 * 6;
@@ -15,9 +22,6 @@ const ORDER: usize = 64;
 const ANSWER: usize = 8;
 const NUMBERS: usize = 68;
 const UPDATES: usize = 4;
-const BUSY: u64 = 1_000;
-const DRY: u64 = 1_001;
-const TRIMMED: u64 = 1_000;
 
 /// The number of a refusal.
 #[derive(Clone, Copy, Debug, PartialEq, Eq)]
@@ -88,11 +92,19 @@ pub struct Site<'log> {
 impl<'log> Site<'log> {
     /// Whether the library that was linked is the one that this type speaks of.
     pub fn fits() -> bool {
-        // SAFETY: these three are lent nothing.
-        let (version, state, reply) =
-            unsafe { (linked::fl_version(), linked::fl_state_bytes(), linked::fl_reply_bytes()) };
+        // SAFETY: these are lent nothing.
+        let (version, state, reply, answer, numbers) = unsafe {
+            (
+                linked::fl_version(),
+                linked::fl_state_bytes(),
+                linked::fl_reply_bytes(),
+                linked::fl_answer_words(),
+                linked::fl_number_words(),
+            )
+        };
         let words = 8 * (COUNTERS + ROWS + HISTORIES) + ORDER;
-        version == VERSION && state == words && reply == REPLY_BYTES
+        (version, state, reply) == (VERSION, words, REPLY_BYTES)
+            && (answer, numbers) == (ANSWER, NUMBERS)
     }
 
     fn blank(log: &'log mut [u8]) -> Self {
@@ -179,157 +191,6 @@ impl<'log> Site<'log> {
             )
         };
         &reply[..bytes]
-    }
-
-    /// Adds an operation.
-    pub fn add(&mut self, id: u64, updates: &[Update]) -> Result<Reply, Refusal> {
-        let mut words = [0; UPDATES * 4];
-        for (four, update) in words.chunks_exact_mut(4).zip(updates) {
-            let Update { rule, history, version, operand } = *update;
-            four.copy_from_slice(&[rule as u64, history, version, operand]);
-        }
-        let mut reply = blank_reply();
-        // SAFETY: see above.
-        let code = unsafe {
-            linked::fl_add_parts(
-                &mut self.counters,
-                self.log.as_ptr(),
-                self.log.len(),
-                &mut self.rows,
-                &self.order,
-                &mut self.histories,
-                &mut reply.numbers,
-                &mut reply.answer,
-                id,
-                &words,
-                updates.len(),
-            )
-        };
-        accepted(code, reply)
-    }
-
-    /// Finishes an operation that is in progress.
-    pub fn finish(&mut self, id: u64) -> Result<Reply, Refusal> {
-        let mut reply = blank_reply();
-        // SAFETY: see above.
-        let code = unsafe {
-            linked::fl_finish_parts(
-                &mut self.counters,
-                self.log.as_mut_ptr(),
-                self.log.len(),
-                &mut self.rows,
-                &mut self.order,
-                &mut self.histories,
-                &mut reply.numbers,
-                &mut reply.answer,
-                id,
-            )
-        };
-        accepted(code, reply)
-    }
-
-    /// Makes log numbers up to n persistent: operations leave the table that a stable line before did line n, or before the report of
-    /// all that is done, made stable.
-    pub fn persistent(&mut self, n: u64) -> Result<Reply, Refusal> {
-        let mut reply = blank_reply();
-        // SAFETY: see above.
-        let code = unsafe {
-            linked::fl_persistent_parts(
-                &mut self.counters,
-                self.log.as_ptr(),
-                self.log.len(),
-                &self.rows,
-                &mut self.order,
-                &mut self.histories,
-                &mut reply.numbers,
-                &mut reply.answer,
-                n,
-            )
-        };
-        accepted(code, reply)
-    }
-
-    /// Makes log numbers up to n stable: a line of the log says so, which is to be stored too.
-    pub fn stable(&mut self, n: u64) -> Result<Reply, Refusal> {
-        let mut reply = blank_reply();
-        // SAFETY: see above.
-        let code = unsafe {
-            linked::fl_stable_parts(
-                &mut self.counters,
-                self.log.as_mut_ptr(),
-                self.log.len(),
-                &self.rows,
-                &self.order,
-                &mut self.histories,
-                &mut reply.numbers,
-                &mut reply.answer,
-                n,
-            )
-        };
-        accepted(code, reply)
-    }
-
-    /// Ends restoring.
-    pub fn end(&mut self) -> Result<Reply, Refusal> {
-        let mut reply = blank_reply();
-        // SAFETY: see above.
-        let code = unsafe {
-            linked::fl_end_parts(
-                &mut self.counters,
-                self.log.as_ptr(),
-                self.log.len(),
-                &self.rows,
-                &self.order,
-                &self.histories,
-                &mut reply.numbers,
-                &mut reply.answer,
-            )
-        };
-        accepted(code, reply)
-    }
-
-    /// Polls a history: whether it is dry.
-    pub fn dry(&self, history: u64) -> Result<bool, Refusal> {
-        // SAFETY: see above.
-        let code = unsafe {
-            linked::fl_poll_parts(
-                &self.counters,
-                self.log.as_ptr(),
-                self.log.len(),
-                &self.rows,
-                &self.order,
-                &self.histories,
-                history,
-            )
-        };
-        match code {
-            DRY => Ok(true),
-            BUSY => Ok(false),
-            refusal => Err(Refusal(refusal)),
-        }
-    }
-
-    /// Copies the log into a fresh buffer, with a base line in place of its first n operations; gives the bytes used there. Once they are
-    /// stored, a restart from all of them is the changeover.
-    pub fn trim(&self, n: u64, fresh: &mut [u8]) -> Result<usize, Refusal> {
-        // SAFETY: see above.
-        let code = unsafe {
-            linked::fl_trim_parts(
-                &self.counters,
-                self.log.as_ptr(),
-                self.log.len(),
-                &self.rows,
-                &self.order,
-                &self.histories,
-                n,
-                fresh.as_mut_ptr(),
-                fresh.len(),
-            )
-        };
-        match code.checked_sub(TRIMMED) {
-            Some(used) => Ok(used as usize),
-            None => Err(Refusal(code)),
-        }
     }
 }
 

@@ -1,11 +1,15 @@
 //! The library's functions. A slice passes as its address and its length, an array as its address.
 
+use super::keeper::PLACES;
+use super::records::WORDS;
 use super::{ANSWER, COUNTERS, HISTORIES, NUMBERS, ORDER, ROWS, UPDATES};
 
 extern "C" {
     pub fn fl_version() -> u64;
     pub fn fl_state_bytes() -> usize;
     pub fn fl_reply_bytes() -> usize;
+    pub fn fl_answer_words() -> usize;
+    pub fn fl_number_words() -> usize;
 
     pub fn fl_start_parts(
         counters: &mut [u64; COUNTERS],
@@ -75,6 +79,18 @@ extern "C" {
         id: u64,
     ) -> u64;
 
+    pub fn fl_withdraw_parts(
+        counters: &mut [u64; COUNTERS],
+        log: *const u8,
+        log_bytes: usize,
+        rows: &[u64; ROWS],
+        order: &mut [u8; ORDER],
+        histories: &mut [u64; HISTORIES],
+        numbers: &mut [u64; NUMBERS],
+        answer: &mut [u64; ANSWER],
+        id: u64,
+    ) -> u64;
+
     pub fn fl_persistent_parts(
         counters: &mut [u64; COUNTERS],
         log: *const u8,
@@ -110,6 +126,40 @@ extern "C" {
         answer: &mut [u64; ANSWER],
     ) -> u64;
 
+    pub fn fl_show_parts(
+        counters: &mut [u64; COUNTERS],
+        log: *const u8,
+        log_bytes: usize,
+        rows: &[u64; ROWS],
+        order: &[u8; ORDER],
+        histories: &[u64; HISTORIES],
+        answer: &mut [u64; ANSWER],
+        history: u64,
+    ) -> u64;
+
+    pub fn fl_cut_parts(
+        counters: &mut [u64; COUNTERS],
+        log: *const u8,
+        log_bytes: usize,
+        rows: &mut [u64; ROWS],
+        order: &[u8; ORDER],
+        histories: &mut [u64; HISTORIES],
+        answer: &mut [u64; ANSWER],
+        kept: u64,
+    ) -> u64;
+
+    pub fn fl_redo_parts(
+        counters: &mut [u64; COUNTERS],
+        log: *mut u8,
+        log_bytes: usize,
+        rows: &mut [u64; ROWS],
+        order: &mut [u8; ORDER],
+        histories: &mut [u64; HISTORIES],
+        answer: &mut [u64; ANSWER],
+        line: *const u8,
+        line_bytes: usize,
+    ) -> u64;
+
     pub fn fl_poll_parts(
         counters: &[u64; COUNTERS],
         log: *const u8,
@@ -130,7 +180,71 @@ extern "C" {
         n: u64,
         fresh: *mut u8,
         fresh_bytes: usize,
+        used: &mut usize,
     ) -> u64;
 
     pub fn fl_upgrade(log: *mut u8, log_bytes: usize, kept: usize, used: &mut usize) -> u64;
+
+    pub fn fl_station_version() -> u64;
+    pub fn fl_record_words() -> usize;
+    pub fn fl_place_words() -> usize;
+
+    pub fn fl_keeper_start_parts(used: &mut usize, lines: *const u8, lines_bytes: usize);
+
+    pub fn fl_keeper_resume_parts(
+        used: &mut usize,
+        lines: *const u8,
+        lines_bytes: usize,
+        kept: usize,
+    ) -> u64;
+
+    pub fn fl_keeper_keep_parts(
+        used: &mut usize,
+        lines: *mut u8,
+        lines_bytes: usize,
+        line: *const u8,
+        line_bytes: usize,
+    ) -> u64;
+
+    pub fn fl_keeper_drop_parts(
+        used: &mut usize,
+        lines: *mut u8,
+        lines_bytes: usize,
+        history: u64,
+        place: u64,
+    ) -> u64;
+
+    pub fn fl_keeper_hand_out_parts(
+        used: &usize,
+        lines: *const u8,
+        lines_bytes: usize,
+        places: &[u64; PLACES],
+        out: *mut u8,
+        out_bytes: usize,
+        handed: &mut usize,
+    ) -> u64;
+
+    pub fn fl_records_start_parts(count: &mut usize, words: &[u64; WORDS]);
+
+    pub fn fl_records_resume_parts(count: &mut usize, words: &[u64; WORDS], kept: usize) -> u64;
+
+    pub fn fl_records_record_parts(
+        count: &mut usize,
+        words: &mut [u64; WORDS],
+        id: u64,
+        sent: u8,
+        full: u8,
+        threshold: u64,
+    ) -> u64;
+
+    pub fn fl_records_report_parts(
+        count: &mut usize,
+        words: &mut [u64; WORDS],
+        id: u64,
+        site: u64,
+    ) -> u64;
+
+    pub fn fl_records_question_parts(count: &usize, words: &[u64; WORDS], id: u64) -> u64;
+
+    pub fn fl_records_forget_parts(count: &mut usize, words: &mut [u64; WORDS], id: u64) -> u64;
 }

@@ -1,43 +1,18 @@
 //! The controller of examples/c in Rust, on numbers: it keeps its site's log in a file, can be killed at any moment, and goes on from what
 //! the file holds.
 //!
-//! usage: controller FILE [BYTES]     with BYTES it ends once it has appended that many, in the middle of a write too
+//! usage: controller FILE [BYTES]     with BYTES it ends itself once it has written that many, in the middle of a line too
+
+mod store;
 
 use fitting_ledger::{Refusal, Rule, Site, Update, LOG_BYTES, REPLY_BYTES};
-use std::fs::{File, OpenOptions};
-use std::io::{self, Read, Write};
-use std::{env, process};
+use std::cell::Cell;
+use std::env;
+use std::io::{self, Write};
+use store::{Left, Store};
 
 const HISTORIES: u64 = 4;
 const OPERATIONS: u64 = 24;
-
-/// A file that holds the first bytes of a log.
-struct Store {
-    file: File,
-    stored: usize,
-    left: usize,
-}
-
-impl Store {
-    /// Appends what is new in the log, and ends the program where its bytes run out.
-    fn append(&mut self, log: &[u8]) -> io::Result<()> {
-        let new = &log[self.stored.min(log.len())..];
-        let now = new.len().min(self.left);
-        self.file.write_all(&new[..now])?;
-        self.left -= now;
-        if now < new.len() {
-            process::abort();
-        }
-        self.stored = log.len();
-        Ok(())
-    }
-
-    /// Cuts a last line that was cut off out of the file.
-    fn cut(&mut self, bytes: usize) -> io::Result<()> {
-        self.stored = bytes;
-        self.file.set_len(bytes as u64)
-    }
-}
 
 fn refused(Refusal(number): Refusal) -> io::Error {
     io::Error::other(format!("refused {number}"))
@@ -47,7 +22,7 @@ fn refused(Refusal(number): Refusal) -> io::Error {
 fn settle(site: &mut Site, store: &mut Store, n: u64) -> io::Result<()> {
     site.persistent(n).map_err(refused)?;
     site.stable(n).map_err(refused)?;
-    store.append(site.log())?;
+    store.grow(site.log())?;
     site.persistent(n).map_err(refused)?;
     Ok(())
 }
@@ -59,7 +34,7 @@ fn operate(site: &mut Site, store: &mut Store, i: u64) -> io::Result<()> {
         Update { rule: Rule::Inc, history: i % HISTORIES, version: i / HISTORIES + 1, operand };
     site.add(i, &[update]).map_err(refused)?;
     site.finish(i).map_err(refused)?;
-    store.append(site.log())?;
+    store.grow(site.log())?;
     settle(site, store, i + 1)
 }
 
@@ -68,11 +43,9 @@ fn main() -> io::Result<()> {
     if !Site::fits() || arguments.len() < 2 {
         return Err(io::Error::other("usage: controller FILE [BYTES]"));
     }
-    let file = OpenOptions::new().read(true).append(true).create(true).open(&arguments[1])?;
-    let left = arguments.get(2).and_then(|n| n.parse().ok()).unwrap_or(usize::MAX);
-    let mut store = Store { file, stored: 0, left };
-    let mut bytes = Vec::new();
-    store.file.read_to_end(&mut bytes)?;
+    let bytes_left = arguments.get(2).and_then(|n| n.parse().ok()).unwrap_or(usize::MAX);
+    let left = Left(Cell::new(bytes_left));
+    let (mut store, mut bytes) = Store::open(&arguments[1], &left)?;
     let kept = bytes.len();
     bytes.resize(LOG_BYTES, 0);
     let mut site = if bytes[..kept].contains(&b'\n') {
@@ -84,7 +57,7 @@ fn main() -> io::Result<()> {
         store.cut(0)?;
         Site::start(&mut bytes, HISTORIES).map_err(refused)?
     };
-    store.append(site.log())?;
+    store.grow(site.log())?;
     let lines = site.log().split(|&byte| byte == b'\n');
     let done = lines.filter(|line| line.starts_with(b"(did ")).count() as u64;
     settle(&mut site, &mut store, done)?;

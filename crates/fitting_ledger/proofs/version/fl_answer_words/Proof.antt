@@ -1,0 +1,10 @@
+-- Two counts and six single numbers, of which a reply has fewer or none.
+use Rattle.fitting_ledger.specs.CallLaws.{answer-long}
+use Rattle.fitting_ledger.proofs.version.fl_answer_words.Statement.{statement}
+use Rattle.fitting_ledger.proofs.version.fl_answer_words.Tie as tie
+
+returns : tie.Need-returns
+returns c = answer-long
+
+pub fl-answer-words-spec : {M : Type 1} → statement M
+fl-answer-words-spec = tie.close (tie.spec returns)
