@@ -37,7 +37,8 @@ extern "C" {
 #define FL_LINE_BYTES 1024
 /* The longest reply, its end among them: the room that fl_line asks for. */
 #define FL_REPLY_BYTES 2741
-/* More than any call was seen to need of the stack: fl_line, which may be a cut, some 15,200, a restart 13,900, most calls below 5,000. */
+/* More than any call was seen to need of the stack (examples/c/stack.c): fl_line, which may be a cut, some 16,200, a restart 14,900, a
+ * changeover 11,600, most calls below 5,000, those of a station below 2,000. */
 #define FL_STACK_BYTES 20480
 
 /* "1 to 4 updates": as many as fl_add can be given. */

@@ -1,5 +1,6 @@
 pub mod Ends
 pub mod Keepers
 pub mod KeeperLaws
+pub mod Killed
 pub mod RecordCalls
 pub mod RecordCallLaws

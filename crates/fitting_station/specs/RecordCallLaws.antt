@@ -41,7 +41,8 @@ module _ (kept : ℕ) (ws : List ℕ) (long : length ws ≡ width * recordLimit)
 
 -- What a call does is what is answered.
 pub performs : (count : ℕ) (old : List ℕ) (reply : RecordReply) (r : RecordsResult) (new : List ℕ)
-    → RecordsDo (recordsAt count) old reply r new → (n : ℕ) → n ≡ answerCode (r .answer) → PerformsRecords count old reply n (r .records .count) new
+    → RecordsDo (recordsAt count) old reply r new → (n : ℕ) → n ≡ answerCode (r .answer)
+    → PerformsRecords count old reply n (r .records .count) new
 performs count old reply r new d n e =
     record {
       answer = e ∙ ap answerCode (d .answer);
