@@ -67,11 +67,13 @@ static void settle(unsigned n) {
 /* Operation i: a part of a history's profile gets a new value. */
 static void operate(unsigned i) {
     char line[FL_LINE_BYTES];
-    unsigned history = i % HISTORIES, version = i / HISTORIES + 1, part = i % 8, value = i * 11 % 256;
+    unsigned history = i % HISTORIES, version = i / HISTORIES + 1, part = i % 8, value = (i * 11 + salt()) % 256;
+    size_t before = file.bytes;
     snprintf(line, sizeof line, "(add %u (inc %u %u %u))", i, history, version, part * 256 + value);
     must(line);
     snprintf(line, sizeof line, "(finish %u)", i);
     must(line);
+    acknowledge(log_buffer + before, file.bytes - before);
     settle(i + 1);
 }
 

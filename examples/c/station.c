@@ -105,11 +105,12 @@ static void settle(void) {
 
 /* Operation i: a part of a history's profile gets a new value. Its line, the last of the log, goes to the station. */
 static void operate(uint64_t i) {
-    const fl_update update = {FL_INC, i % HISTORIES, i / HISTORIES + 1, i % 8 * 256 + i * 11 % 256};
+    const fl_update update = {FL_INC, i % HISTORIES, i / HISTORIES + 1, i % 8 * 256 + (i * 11 + salt()) % 256};
     size_t before = fl_log_used(&site);
     must(fl_add(&site, i, &update, 1, &reply), "add");
     must(fl_finish(&site, i, &reply), "finish");
     station_keep(log_buffer + before, fl_log_used(&site) - before - 1);
+    acknowledge(log_buffer + before, fl_log_used(&site) - before);
     if (i % BATCH == BATCH - 1) settle();
 }
 

@@ -9,7 +9,7 @@ use fitting_ledger::{Refusal, Rule, Site, Update, LOG_BYTES, REPLY_BYTES};
 use std::cell::Cell;
 use std::env;
 use std::io::{self, Write};
-use store::{Left, Store};
+use store::{acknowledge, salt, Left, Store};
 
 const HISTORIES: u64 = 4;
 const OPERATIONS: u64 = 24;
@@ -29,12 +29,14 @@ fn settle(site: &mut Site, store: &mut Store, n: u64) -> io::Result<()> {
 
 /// Operation i: a part of a history's profile gets a new value.
 fn operate(site: &mut Site, store: &mut Store, i: u64) -> io::Result<()> {
-    let operand = i % 8 * 256 + i * 11 % 256;
+    let operand = i % 8 * 256 + (i * 11 + salt()) % 256;
+    let before = site.log().len();
     let update =
         Update { rule: Rule::Inc, history: i % HISTORIES, version: i / HISTORIES + 1, operand };
     site.add(i, &[update]).map_err(refused)?;
     site.finish(i).map_err(refused)?;
     store.grow(site.log())?;
+    acknowledge(&site.log()[before..])?;
     settle(site, store, i + 1)
 }
 

@@ -8,7 +8,7 @@ mod store;
 use fitting_ledger::{Keeper, Refusal, Rule, Site, Update, LOG_BYTES};
 use std::cell::Cell;
 use std::{env, io};
-use store::{Left, Store};
+use store::{acknowledge, salt, Left, Store};
 
 const HISTORIES: u64 = 4;
 const OPERATIONS: u64 = 24;
@@ -74,7 +74,7 @@ impl Controller<'_> {
 
     /// Operation i: a part of a history's profile gets a new value. Its line, the last of the log, goes to the station.
     fn operate(&mut self, station: &mut Station, i: u64) -> io::Result<()> {
-        let operand = i % 8 * 256 + i * 11 % 256;
+        let operand = i % 8 * 256 + (i * 11 + salt()) % 256;
         let (history, version) = (i % HISTORIES, i / HISTORIES + 1);
         let before = self.site.log().len();
         self.site
@@ -84,6 +84,7 @@ impl Controller<'_> {
         let line = &self.site.log()[before..];
         station.keeper.keep(&line[..line.len() - 1]).map_err(refused)?;
         station.store.grow(station.keeper.lines())?;
+        acknowledge(line)?;
         if i % BATCH == BATCH - 1 {
             self.settle(station)?;
         }

@@ -5,7 +5,7 @@ use std::cell::Cell;
 use std::fs::{rename, File, OpenOptions};
 use std::io::{self, Read, Write};
 use std::path::{Path, PathBuf};
-use std::process;
+use std::{env, process};
 
 /// How many bytes may be written before the program ends itself.
 pub struct Left(pub Cell<usize>);
@@ -20,6 +20,19 @@ impl Left {
             file.write_all(&[*byte])?;
         }
         file.sync_data()
+    }
+}
+
+/// For the gate: a number that differs from start to start, so that an operation that was lost and done again is not the same.
+pub fn salt() -> u64 {
+    env::var("SALT").ok().and_then(|told| told.parse().ok()).unwrap_or(0)
+}
+
+/// For the gate: a line that is stored where it will not be lost is acknowledged to the file ACKNOWLEDGED.
+pub fn acknowledge(line: &[u8]) -> io::Result<()> {
+    match env::var("ACKNOWLEDGED") {
+        Ok(name) => OpenOptions::new().append(true).create(true).open(name)?.write_all(line),
+        Err(_) => Ok(()),
     }
 }
 
