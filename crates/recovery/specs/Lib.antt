@@ -21,3 +21,5 @@ pub mod HostLaws
 pub mod Flagged
 pub mod Lone
 pub mod LostIds
+pub mod Removal
+pub mod RemovalLaws
