@@ -241,4 +241,22 @@ flaws! {
     ReportsOutliveRecords,
     /// A full copy at a site not sent to is asked about before the threshold.
     ThresholdAskedLast,
+    /// A removed `not` leaves the later `not` of its history standing.
+    ReadersStand,
+    /// The lines of a removed line's transactions remove no others in their turn.
+    TransactionsOneLevel,
+    /// Earlier lines with a shared history fall too.
+    EarlierLinesFall,
+    /// A report whose answer has no room is refused 12 before 16.
+    RemovalRoomFirst,
+    /// The line of a pair need not be there.
+    PairsNotAsked,
+    /// The numbers of a base line's operations are among the lines.
+    BaseNumbersNamed,
+    /// A last number without a partner is a pair with transaction 0.
+    LastNumberIsPair,
+    /// The report names the lines falling.
+    NamesFalling,
+    /// A report changes the number behind its answer.
+    WritesPastTheNames,
 }

@@ -2,8 +2,8 @@
 //!
 //! From the bottom up: [`forms`] are the things that lines say, [`reader`] and [`writer`]
 //! turn bytes into them and back, [`rules`] decides, [`flaws`] can break a decision on purpose,
-//! [`site`], [`keeper`] and [`records`] carry the state, [`session`] turns a text of commands
-//! into a text of replies. [`program`] is the face that a test or a benchmark sees; the proved
+//! [`site`], [`keeper`] and [`records`] carry the state, [`removal`] says what falls with lost
+//! lines, [`session`] turns a text of commands into a text of replies. [`program`] is the face that a test or a benchmark sees; the proved
 //! library shows the same face in `library`.
 
 pub mod few;
@@ -16,6 +16,7 @@ pub mod program;
 pub mod reader;
 pub mod records;
 pub mod refusal;
+pub mod removal;
 pub mod rules;
 pub mod session;
 pub mod site;

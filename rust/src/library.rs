@@ -44,6 +44,17 @@ mod linked {
             fresh_length: usize,
         ) -> u64;
 
+        pub fn log_removals(
+            log: *const u8,
+            log_length: usize,
+            pairs: *const u64,
+            pairs_length: usize,
+            lost: *const u64,
+            lost_length: usize,
+            out: *mut u64,
+            out_length: usize,
+        ) -> u64;
+
         pub fn log_upgrade(log: *mut u8, log_length: usize, kept: usize) -> u64;
 
         pub fn keeper_keep(
@@ -206,6 +217,22 @@ impl Program for Library {
     fn upgrade(&self, log: &mut [u8], kept: usize) -> Outcome {
         // SAFETY: see above.
         outcome(unsafe { linked::log_upgrade(log.as_mut_ptr(), log.len(), kept) })
+    }
+
+    fn removals(&self, log: &[u8], pairs: &[u64], lost: &[u64], out: &mut [u64]) -> Outcome {
+        // SAFETY: see above.
+        outcome(unsafe {
+            linked::log_removals(
+                log.as_ptr(),
+                log.len(),
+                pairs.as_ptr(),
+                pairs.len(),
+                lost.as_ptr(),
+                lost.len(),
+                out.as_mut_ptr(),
+                out.len(),
+            )
+        })
     }
 
     fn keep(&self, buffer: &mut [u8], used: usize, line: &[u8]) -> Outcome {

@@ -4,6 +4,7 @@ use crate::forms::{Answer, Reply};
 use crate::keeper::{Keeper, Places};
 use crate::records::{RecordCall, Records};
 use crate::refusal::Refusal;
+use crate::removal;
 use crate::rules::Rules;
 use crate::session::{self, Session};
 use crate::site::Site;
@@ -68,6 +69,10 @@ pub trait Program {
 
     /// Changes over an older log in the first `kept` bytes of a buffer. Gives the bytes in use.
     fn upgrade(&self, log: &mut [u8], kept: usize) -> Outcome;
+
+    /// Names the lines of a log that fall with those lost, at the front of `out`. Pairs are line and
+    /// transaction in turn. Gives how many lines it names.
+    fn removals(&self, log: &[u8], pairs: &[u64], lost: &[u64], out: &mut [u64]) -> Outcome;
 
     /// Stores a did line in a keeper's buffer. Here and below the first `used` bytes of the
     /// buffer must be what a keeper keeps: else nothing changes, and [`NO_KEEPER`] says so.
@@ -185,6 +190,10 @@ impl Program for Second {
 
     fn upgrade(&self, log: &mut [u8], kept: usize) -> Outcome {
         outcome(Site::upgrade(log, kept as u64, self.rules))
+    }
+
+    fn removals(&self, log: &[u8], pairs: &[u64], lost: &[u64], out: &mut [u64]) -> Outcome {
+        outcome(removal::report(log, pairs, lost, out, self.rules))
     }
 
     fn keep(&self, buffer: &mut [u8], used: usize, line: &[u8]) -> Outcome {

@@ -34,6 +34,8 @@ pub enum Refusal {
     WrongTime = 14,
     /// The log cannot be restarted from.
     BadLog = 15,
+    /// A log number that is not among the lines.
+    NotAmong = 16,
     /// An added `unk` in a history at the highest version.
     HighestVersion = 17,
     /// A threshold of 0, or above the number of full copies.

@@ -14,3 +14,5 @@ pub mod Changeovers
 pub mod ChangeoverLaws
 pub mod Trims
 pub mod TrimLaws
+pub mod Removals
+pub mod RemovalLaws

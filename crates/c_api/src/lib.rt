@@ -3,6 +3,7 @@ pub mod keepers;
 pub mod play;
 pub mod polls;
 pub mod record_calls;
+pub mod removals;
 pub mod restart;
 pub mod rounds;
 pub mod trims;

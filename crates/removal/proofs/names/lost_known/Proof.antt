@@ -1,0 +1,71 @@
+-- The loop's invariant: all numbers before this one are known; at one that is not, not all are.
+use native.Mathlib.Omega.{arith}
+use denote.Ref.{now}
+use Prim.Native.Nat.{ℕ, _-_, _<_, _≤_, _*_}
+use lib.Dec.{T}
+use lib.ListN.{length, getD}
+use Rattle.removal.specs.Chains.{countOf, keyAt}
+use Rattle.removal.specs.Names.{known}
+use Rattle.removal.specs.NameLaws.{known-next, known-said, known-unsaid}
+use Rattle.forms.specs.ListLaws.{true-T}
+use borrow.Author.Needs.{needs}
+use Rattle.removal.proofs.names.lost_known.Statement.{statement}
+use Rattle.removal.proofs.names.lost_known.Tie as tie
+use Rattle.removal.proofs.names.lost_known.Reads as reads
+use Rattle.removal.proofs.names.lost_known.Lts as lts
+use Rattle.removal.proofs.names.is_known.Reads as is-known-reads
+
+abbrev Inv-loop : tie.InvT-loop
+Inv-loop lost base done k₀ k = (n : ℕ) → n < k → T (known base done (getD lost n 0))
+
+abbrev μ-loop : tie.MeasureT-loop
+μ-loop lost base done k₀ k = length lost - k
+
+loop-holds : tie.Need-loop-holds Inv-loop μ-loop
+loop-holds c = λ n l. absurd (omega (arith, l))
+
+mul-is-known : tie.Need-mul-is-known Inv-loop μ-loop
+mul-is-known c = search needs
+
+shared-slice-read-is-known : tie.Need-shared-slice-read-is-known Inv-loop μ-loop
+shared-slice-read-is-known c = omega (arith, c .before .loop-test .taken)
+
+is-known-requires : tie.Need-is-known-requires Inv-loop μ-loop
+is-known-requires c κs = search needs
+
+add-k : tie.Need-add-k Inv-loop μ-loop
+add-k c = let l = c .before .before .before .loop-test .taken in search needs
+
+loop-less : tie.Need-loop-less Inv-loop μ-loop
+loop-less c = omega (arith, c .before .before .before .loop-test .taken)
+
+loop-again : tie.Need-loop-again Inv-loop μ-loop
+loop-again c =
+    let a = c .before .before .before .before .before .before .args in
+    known-next (a .base) (a .done) (λ (i : ℕ). getD (a .lost .now) i 0) (c .before .before .before .before .loop .k) (c .before .before .before .before .loop .inv)
+    (known-said (c .before .is-known .result) _ (c .before .is-known .ensures) (c .if1 .taken))
+
+returns : tie.Need-returns Inv-loop μ-loop
+returns c =
+    let a = c .before .before .before .before .before .before .args in
+    λ all. known-unsaid (c .before .is-known .result) _ (c .before .is-known .ensures) (c .if1 .left)
+    (all (c .before .before .before .before .loop .k) (c .before .before .before .loop-test .taken))
+
+returns-2 : tie.Need-returns-2 Inv-loop μ-loop
+returns-2 c = λ n l. c .before .loop .inv n (omega (arith, l, c .loop-test .left))
+
+pub lost-known-spec : {M : Type 1} → statement M
+lost-known-spec =
+    tie.close
+    (tie.spec
+    Inv-loop
+    μ-loop
+    loop-holds
+    mul-is-known
+    shared-slice-read-is-known
+    is-known-requires
+    add-k
+    loop-less
+    loop-again
+    returns
+    returns-2)

@@ -1,0 +1,12 @@
+pub mod Chains
+pub mod ChainLaws
+pub mod Fall
+pub mod FallLaws
+pub mod Slots
+pub mod SlotLaws
+pub mod Names
+pub mod NameLaws
+pub mod Bridge
+pub mod Model
+pub mod LengthLaws
+pub mod ReportLaws
