@@ -23,3 +23,5 @@ pub mod Lone
 pub mod LostIds
 pub mod Removal
 pub mod RemovalLaws
+pub mod RemovalPromises
+pub mod RemovalExamples

@@ -48,10 +48,10 @@ unfolding isLine
 line-at N log k t =
     (ltb→lt N k (and-left (ltb N k) (leb k (N + length log)) t), leb→le k (N + length log) (and-right (ltb N k) (leb k (N + length log)) t))
 
-among-of : {m : ℕ} {ks : List ℕ} → Mem m ks → T (isAmong m ks)
+pub among-of : {m : ℕ} {ks : List ℕ} → Mem m ks → T (isAmong m ks)
 among-of {m} h = any-of (eqb m) h (eqb-refl m)
 
-among-at : (m : ℕ) (ks : List ℕ) → T (isAmong m ks) → Mem m ks
+pub among-at : (m : ℕ) (ks : List ℕ) → T (isAmong m ks) → Mem m ks
 among-at m ks t = let q = any-at (eqb m) ks t in subst (λ (x : ℕ). Mem x ks) (sym (eqb→eq m (q .0) (q .2))) (q .1)
 
 -- ### Lists of the elements that pass a test
@@ -166,7 +166,7 @@ together-of ps k m s =
           (true-T (eqb (s .other .transaction) (s .its .transaction)) (eq-eqb (s .other .transaction) (s .its .transaction) (s .same))))))
 
 module _ (N : ℕ) (log : List Did) (ps : List Pair) where
-  abbrev numbers : List ℕ
+  abbrev pub numbers : List ℕ
   numbers = numbersFrom N (length log)
 
   -- the test of a round
@@ -219,9 +219,9 @@ module _ (N : ℕ) (log : List Did) (ps : List Pair) where
   rounds-stay (suc f) ks c = rounds-stay f (grow N log ps ks) (grow-closed ks c)
 
   -- lines that pass a test
-  record Sifted (ks : List ℕ) : Type 0 where
-    test : ℕ → Bool
-    same : ks ≡ keep test numbers
+  pub record Sifted (ks : List ℕ) : Type 0 where
+    pub test : ℕ → Bool
+    pub same : ks ≡ keep test numbers
 
   sifted-grow : (ks : List ℕ) → Sifted (grow N log ps ks)
   unfolding grow
@@ -302,6 +302,9 @@ module _ (N : ℕ) (log : List Did) (ps : List Pair) where
     removal-sifted : Sifted (removal N log ps lost)
     unfolding removal
     removal-sifted = rounds-sifted (length log) begun begun-sifted
+
+    pub removal-numbers : Sifted (removal N log ps lost)
+    removal-numbers = removal-sifted
 
     removal-closed : ClosedIn (removal N log ps lost)
     unfolding removal

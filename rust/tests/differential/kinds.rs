@@ -4,7 +4,7 @@
 const LOOKS: [&str; 5] = ["(ok 0 1)", "(ok 0 2)", "(ok 1 1)", "(ok 1 3)", "(ok 2 3)"];
 
 /// The kinds of replies, refusals aside.
-pub const KINDS: [&str; 40] = [
+pub const KINDS: [&str; 41] = [
     "(ok)",
     "(ok (ready N))",
     "(ok (ready))",
@@ -36,6 +36,7 @@ pub const KINDS: [&str; 40] = [
     "restart (refused 15)",
     "upgrade ok",
     "trim ok",
+    "removals ok",
     "keep ok",
     "drop ok",
     "hand out ok",

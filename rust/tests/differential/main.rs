@@ -16,6 +16,7 @@ mod made_up;
 mod mood;
 mod random;
 mod recorded;
+mod removed;
 mod resending;
 mod rounds;
 mod scribe;
@@ -263,6 +264,14 @@ fn copies_show_the_same() {
     assert!(copies >= 2000);
 }
 
+/// A report names the least set that the paper's rules give, line by line.
+#[test]
+fn removals_are_least() {
+    let reports: usize = (0..ROUNDS).flat_map(removed::removals).map(|trial| trial.check()).sum();
+    println!("{reports} reports");
+    assert!(reports >= 2000);
+}
+
 #[test]
 fn the_laws_hold_behind_a_base() {
     (0..ROUNDS).flat_map(going_on::sessions).for_each(|trial| laws::check_going_on(&trial));
@@ -290,6 +299,7 @@ fn the_trials_reach_everything() {
             .chain(refusals("poll ", &[3, 14]))
             .chain(refusals("upgrade ", &[12, 13, 15]))
             .chain(refusals("trim ", &[12, 13, 15]))
+            .chain(refusals("removals ", &[12, 13, 15, 16]))
             .chain(refusals("keep ", &[1, 2, 3, 4, 5, 8, 12, 13, 20, NO_KEEPER]))
             .chain(refusals("drop ", &[3, 13, NO_KEEPER]))
             .chain(refusals("hand out ", &[12, 13, NO_KEEPER]))

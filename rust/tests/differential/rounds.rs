@@ -12,7 +12,7 @@ use crate::random::Random;
 use crate::scribe::Scribe;
 use crate::trial::{used_buffer, Comparison, RestartTrial, SessionTrial};
 use crate::watch::{is_did, Law};
-use crate::{going_on, recorded, trimmed, upgraded};
+use crate::{going_on, recorded, removed, trimmed, upgraded};
 
 /// All rounds together make well over 200,000 calls.
 pub const ROUNDS: u64 = 160;
@@ -22,11 +22,12 @@ pub fn others(round: u64) -> Vec<Box<dyn Comparison>> {
     let restarts = restarts(round).into_iter().map(boxed);
     let upgrades = upgraded::upgrades(round).into_iter().map(boxed);
     let trims = trimmed::trims(round).into_iter().map(boxed);
+    let removals = removed::removals(round).into_iter().map(boxed);
     let sessions = going_on::sessions(round).into_iter().map(boxed);
     let keepers = keepers(round).into_iter().map(boxed);
     let mut random = seeded(5, round);
     let records = (0..12).map(|_| boxed(recorded::any(&mut random)));
-    let logs = restarts.chain(upgrades).chain(trims).chain(sessions);
+    let logs = restarts.chain(upgrades).chain(trims).chain(removals).chain(sessions);
     logs.chain(keepers).chain(records).collect()
 }
 

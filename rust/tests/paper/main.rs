@@ -6,6 +6,7 @@ mod keeper;
 mod overtaken;
 mod poll;
 mod records;
+mod removal;
 mod stable;
 mod trim;
 
