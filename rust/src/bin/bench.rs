@@ -132,6 +132,7 @@ fn figures() -> Vec<Figure> {
         hand_out(log.clone()),
         site_calls(),
         trim(log),
+        removals(),
     ]
 }
 
@@ -180,6 +181,31 @@ fn trim(log: Vec<u8>) -> Figure {
             assert!(black_box(used).is_ok(), "the copy fits");
         }
     })
+}
+
+/// A report over as many lines as a log can have in ten histories, with as many pairs, three lines
+/// to a transaction and in no order: all but a few of the lines fall with one of them.
+fn removals() -> Figure {
+    let (log, lines) = short_lines();
+    let scattered = (1..=lines).map(|at| 1 + at * 7919 % lines);
+    let pairs: Vec<u64> = scattered.flat_map(|line| [line, line * 31 % (lines / 3)]).collect();
+    figure("removals of a full log", "lines/s", lines as f64, |program| {
+        let (log, pairs, mut out) = (log.clone(), pairs.clone(), vec![0; lines as usize]);
+        move || {
+            let named = program.removals(black_box(&log), &pairs, &[lines / 2], &mut out);
+            assert!(black_box(named).is_ok_and(|named| named as u64 > lines / 2), "lines fall");
+        }
+    })
+}
+
+/// A log of the shortest lines in ten histories, and how many there are.
+fn short_lines() -> (Vec<u8>, u64) {
+    let (mut log, mut lines) = ("(site 10)\n".to_string(), 0);
+    while log.len() + 24 + "(stable 2730)\n".len() <= Site::LONGEST_LOG {
+        log += &format!("(did 0 (not {} 0 {} 0))\n", lines % 10, lines / 10 + 1);
+        lines += 1;
+    }
+    (format!("{log}(stable {lines})\n").into_bytes(), lines)
 }
 
 /// A full keeper that hands out all it has.
