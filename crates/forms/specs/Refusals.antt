@@ -5,8 +5,9 @@ use Rattle.forms.specs.declared.Refusal.the-variants.{Unreadable, WrongC
 use Rattle.forms.specs.declared.Refusal.the-variants.{OperandRange, NothingOrders, IdPending, AlreadyDone}
 use Rattle.forms.specs.declared.Refusal.the-variants.{ReadOvertaken, TableFull, WrongState, NoRoom, AboveLimit}
 use Rattle.forms.specs.declared.Refusal.the-variants.{OutOfTurn, BadLog, HighestVersion, WrongThreshold, NotSent, Conflict}
+use Rattle.forms.specs.declared.Refusal.the-variants.{NoLengthFits}
 
--- "A refusal returns its number only": the column `no.` of the table in "Refusals", and 02's 17 to 20.
+-- "A refusal returns its number only": the column `no.` of the table in "Refusals", and 02's 17 to 21.
 unfoldable pub numberOf : Refusal → ℕ
 numberOf Unreadable = 1
 numberOf WrongCount = 2
@@ -27,3 +28,4 @@ numberOf HighestVersion = 17
 numberOf WrongThreshold = 18
 numberOf NotSent = 19
 numberOf Conflict = 20
+numberOf NoLengthFits = 21

@@ -59,6 +59,7 @@ pub fn say_refusals() {
     say_plain(ReplyForm::Refused(Refusal::WrongThreshold));
     say_plain(ReplyForm::Refused(Refusal::NotSent));
     say_plain(ReplyForm::Refused(Refusal::Conflict));
+    say_plain(ReplyForm::Refused(Refusal::NoLengthFits));
 }
 
 // What show gives of a history.

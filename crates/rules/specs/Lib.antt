@@ -56,3 +56,7 @@ pub mod OldLogLaws
 pub mod StableExamples
 pub mod OlderLogs
 pub mod TrimExamples
+pub mod SameLaws
+pub mod FindCut
+pub mod FindCutLaws
+pub mod FindCutExamples

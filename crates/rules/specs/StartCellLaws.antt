@@ -83,27 +83,30 @@ mem-below (suc n) h m = go (mem-snoc (below n) m) (λ k. mem-below n h k)
     go (inl e) before = omega arith
     go (inr k) before = let lt = before k in omega arith
 
-module _ (f : ℕ → BaseCell) where
-  pub getD-below : (n h : ℕ) → h < n → getD (map f (below n)) h noBaseCell ≡ f h
+-- A list made by index has at an index what is made of it.
+module _ {A : Type 0} (d : A) (f : ℕ → A) where
+  pub below-at : (n h : ℕ) → h < n → getD (map f (below n)) h d ≡ f h
   unfolding below
-  getD-below zero h lt = absurd (not-suc-le-zero lt)
-  getD-below (suc n) h lt =
-      ap (λ (l : List BaseCell). getD l h noBaseCell) (map-append f (below n) (n ∷ [])) ∙ go (leb (suc h) n) refl (λ k. getD-below n h k)
+  below-at zero h lt = absurd (not-suc-le-zero lt)
+  below-at (suc n) h lt =
+      ap (λ (l : List A). getD l h d) (map-append f (below n) (n ∷ [])) ∙ go (leb (suc h) n) refl (λ k. below-at n h k)
     where
       len : length (map f (below n)) ≡ n
       len = length-map (below n) f ∙ length-below n
 
-      go : (b : Bool) → leb (suc h) n ≡ b → (h < n → getD (map f (below n)) h noBaseCell ≡ f h) →
-          getD (map f (below n) ++ f n ∷ []) h noBaseCell ≡ f h
+      go : (b : Bool) → leb (suc h) n ≡ b → (h < n → getD (map f (below n)) h d ≡ f h) → getD (map f (below n) ++ f n ∷ []) h d ≡ f h
       go true e before =
           let lt′ : h < n = leb→le (suc h) n (true-T (leb (suc h) n) e) in
-          getD-left noBaseCell (map f (below n)) (f n ∷ []) h (omega (arith, len)) ∙ before lt′
+          getD-left d (map f (below n)) (f n ∷ []) h (omega (arith, len)) ∙ before lt′
       go false e before =
           let ge : n < suc h = nleb→lt (suc h) n (not-T (leb (suc h) n) (λ t. false-T (leb (suc h) n) e t)) in
           let same : h ≡ length (map f (below n)) = omega (arith, len) in
           let is : h ≡ n = omega arith in
-          ap (λ (i : ℕ). getD (map f (below n) ++ f n ∷ []) i noBaseCell) same ∙ getD-last noBaseCell (map f (below n)) (f n)
-          ∙ ap f (sym is)
+          ap (λ (i : ℕ). getD (map f (below n) ++ f n ∷ []) i d) same ∙ getD-last d (map f (below n)) (f n) ∙ ap f (sym is)
+
+module _ (f : ℕ → BaseCell) where
+  pub getD-below : (n h : ℕ) → h < n → getD (map f (below n)) h noBaseCell ≡ f h
+  getD-below n h lt = below-at noBaseCell f n h lt
 
   order-snoc : (j : ℕ) (xs : List BaseCell) (x : BaseCell) → T (inOrder j xs) → x .history ≡ j + length xs → T (inOrder j (xs ++ x ∷ []))
   unfolding inOrder

@@ -88,6 +88,10 @@ pub record ValidSite (w : Representation) (t : Table) (log order rows : List ℕ
 abbrev pub Valid : Site → Lent → Type 0
 Valid s m = ValidSite (represented s m) (s .table) (m .log) (m .order) (m .rows)
 
+-- A site is valid with this log, and with some rows, order and histories: all that calls ask which only read its log.
+abbrev pub ValidLog : Site → List ℕ → Type 0
+ValidLog s log = (rows : List ℕ) × (order : List ℕ) × (book : List ℕ) × Valid s (lent log rows order book [])
+
 -- ### What a call promises
 
 -- the numbers of a reply are at most 64, so that it can be printed
