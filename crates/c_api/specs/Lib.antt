@@ -16,3 +16,4 @@ pub mod Trims
 pub mod TrimLaws
 pub mod Removals
 pub mod RemovalLaws
+pub mod Finds

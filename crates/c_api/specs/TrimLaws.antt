@@ -44,7 +44,7 @@ trims t old c new r h e = record { answer = e ∙ ap copiedNumber (h .reply) ∙
 -- ### Behind a restart
 
 -- A refusal's form says the refusal, whatever the lists are.
-form-says : (r : ReplyLine) (ns : List ℕ) (q : Refusal) → r .form ≡ ReplyForm.Refused q → outcomeOf (replied r ns) ≡ Refused q
+pub form-says : (r : ReplyLine) (ns : List ℕ) (q : Refusal) → r .form ≡ ReplyForm.Refused q → outcomeOf (replied r ns) ≡ Refused q
 unfolding outcomeOf outcomeWith
 form-says r ns q e =
     ap (λ (f : ReplyForm). outcomeOf (replied (record { form = f; first = r .first; second = r .second }) ns)) e

@@ -12,3 +12,4 @@ pub mod Changeovers
 pub mod ChangeoverLaws
 pub mod Trims
 pub mod TrimLaws
+pub mod Finds

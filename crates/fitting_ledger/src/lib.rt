@@ -5,6 +5,7 @@ pub mod adding;
 pub mod answer;
 pub mod calls;
 pub mod counters;
+pub mod finds;
 pub mod lines;
 pub mod plain_calls;
 pub mod polls;

@@ -1,49 +1,14 @@
 -- The contract of restart holds for whatever stands in the order and in the book's numbers, so zeros serve; a site that it gives is valid, and its trim is then the specification's.
 use denote.Ref.{now}
-use Prim.Native.Nat.{ℕ, _*_}
-use native.Mathlib.Omega.{arith}
-use mathlib.Core.Path.{_≡_}
-use mathlib.Core.List.{List, [], _∷_}
-use lib.ListN.{replicate}
-use types.Run.{OneOf, miss}
-use denote.Enum.Declared.{tagOf}
-use Rattle.forms.proofs.ReplyForm.{the-type}
-use Rattle.forms.specs.Held.{outcomeWith}
-use Rattle.forms.specs.declared.ReplyForm.{ReplyForm}
+use mathlib.Core.List.{[]}
 use Rattle.rules.specs.Calls.{restart}
-use Rattle.history.specs.Words.{width}
-use Rattle.table.specs.Rows.{rowWidth}
 use Rattle.site.specs.Model.{lent, view}
 use Rattle.site.specs.OpenLaws.{blankSite}
-use Rattle.c_api.specs.TrimLaws.{copied-few, NoRefusal, restart-refused, restart-valid, restart-trims}
+use Rattle.c_api.specs.TrimLaws.{copied-few, restart-refused, restart-valid, restart-trims}
+use Rattle.c_api.proofs.Restarted.{rs, os, bs, accepted}
 use borrow.Author.Needs.{needs}
 use Rattle.c_api.proofs.trims.log_trim.Statement.{statement}
 use Rattle.c_api.proofs.trims.log_trim.Tie as tie
-
--- the rows, the order and the words of the histories before the restart
-abbrev rs : List ℕ
-rs = replicate (64 * rowWidth) 0
-
-abbrev os : List ℕ
-os = replicate 64 0
-
-abbrev bs : List ℕ
-bs = replicate (16 * width) 0
-
--- the forms but `Refused`, by their tags
-accepted : (f : ReplyForm) → OneOf (1 ∷ 2 ∷ 3 ∷ 4 ∷ 5 ∷ 6 ∷ 7 ∷ 8 ∷ 9 ∷ 10 ∷ []) (tagOf the-type f) → NoRefusal f
-unfolding outcomeWith
-accepted (ReplyForm.Refused q) o xs ys r e = absurd (miss (1 ∷ 2 ∷ 3 ∷ 4 ∷ 5 ∷ 6 ∷ 7 ∷ 8 ∷ 9 ∷ 10 ∷ []) 0 tt o)
-accepted ReplyForm.Opened o xs ys r e = let z : _≡_ {A = ℕ} 0 1 = cc in omega arith
-accepted ReplyForm.Added o xs ys r e = let z : _≡_ {A = ℕ} 0 1 = cc in omega arith
-accepted (ReplyForm.Finished n k) o xs ys r e = let z : _≡_ {A = ℕ} 0 1 = cc in omega arith
-accepted ReplyForm.Withdrawn o xs ys r e = let z : _≡_ {A = ℕ} 0 1 = cc in omega arith
-accepted ReplyForm.Persisted o xs ys r e = let z : _≡_ {A = ℕ} 0 1 = cc in omega arith
-accepted ReplyForm.Stabilised o xs ys r e = let z : _≡_ {A = ℕ} 0 1 = cc in omega arith
-accepted (ReplyForm.Shows s) o xs ys r e = let z : _≡_ {A = ℕ} 0 1 = cc in omega arith
-accepted (ReplyForm.Restarted lines used) o xs ys r e = let z : _≡_ {A = ℕ} 0 1 = cc in omega arith
-accepted (ReplyForm.Redone ran examined) o xs ys r e = let z : _≡_ {A = ℕ} 0 1 = cc in omega arith
-accepted ReplyForm.Ended o xs ys r e = let z : _≡_ {A = ℕ} 0 1 = cc in omega arith
 
 restart-requires : tie.Need-restart-requires
 restart-requires c κs = search needs
