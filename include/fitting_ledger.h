@@ -74,11 +74,15 @@ enum {
     FL_HIGHEST_VERSION = 17,
     FL_WRONG_THRESHOLD = 18,
     FL_NOT_SENT = 19,
-    FL_CONFLICT = 20
+    FL_CONFLICT = 20,
+    FL_NO_LENGTH_FITS = 21
 };
 
 /* What fl_poll returns in place of FL_OK: the history is not dry, or it is. */
 enum { FL_BUSY = 1000, FL_DRY = 1001 };
+
+/* What fl_find_cut returns in place of FL_OK: this and the number of kept bytes. */
+enum { FL_FOUND = 1000 };
 
 /*
  * A site's state. The owner lends it, and the buffer of its log beside it; both must stay where they are and as they are between calls.
@@ -167,6 +171,8 @@ uint64_t fl_poll_parts(const uint64_t *counters, const uint8_t *log, size_t log_
                        const uint64_t *histories, uint64_t history);
 uint64_t fl_trim_parts(const uint64_t *counters, const uint8_t *log, size_t log_bytes, const uint64_t *rows, const uint8_t *order,
                        const uint64_t *histories, uint64_t n, uint8_t *fresh, size_t fresh_bytes, size_t *used);
+uint64_t fl_find_cut_parts(const uint64_t *counters, const uint8_t *log, size_t log_bytes, const uint64_t *rows, const uint8_t *order,
+                           const uint64_t *histories, const uint64_t *places, size_t count);
 
 /* Whether the library that was linked is the one that this header speaks of: 1 or 0. Ask once, first. */
 static inline int fl_fits(void) {
@@ -322,6 +328,15 @@ static inline uint64_t fl_poll(const fl_site *site, uint64_t history) {
  */
 static inline uint64_t fl_trim(const fl_site *site, uint64_t n, uint8_t *fresh, size_t fresh_bytes, size_t *used) {
     return fl_trim_parts(site->counters, site->log, site->log_bytes, site->rows, site->order, site->histories, n, fresh, fresh_bytes, used);
+}
+
+/*
+ * Names the smallest number of bytes of the log that fl_cut can keep so that the histories have these places, one for each history in
+ * rising number: FL_FOUND and that number. While restoring too. Nothing changes.
+ * FL_NO_LENGTH_FITS: no cut leaves them; also where there are more or fewer places than histories. FL_OUT_OF_TURN without a site.
+ */
+static inline uint64_t fl_find_cut(const fl_site *site, const uint64_t *places, size_t count) {
+    return fl_find_cut_parts(site->counters, site->log, site->log_bytes, site->rows, site->order, site->histories, places, count);
 }
 
 /* The lists of a reply: fl_first has answer[FL_FIRST_COUNT] numbers, fl_second has answer[FL_SECOND_COUNT]. */

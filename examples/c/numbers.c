@@ -1,7 +1,7 @@
 /*
  * The session of document 01 on numbers: each call prints what the session prints. The supply is cut in the middle, the lost line comes back,
  * and the histories are as before. Then a finish overtakes an operation, and what is done becomes stable. Between the calls histories are
- * polled. At last a log from before stable lines is changed over and taken up.
+ * polled. It is asked which cut leaves given places. At last a log from before stable lines is changed over and taken up.
  *
  * usage: numbers
  */
@@ -66,6 +66,14 @@ static void show(uint64_t history) {
     printf(")\n");
 }
 
+static void find(const uint64_t *places, size_t count) {
+    uint64_t code = fl_find_cut(&site, places, count);
+    if (code < FL_FOUND)
+        say(code, 0, NULL, NULL);
+    else
+        printf("keep %" PRIu64 "\n", code - FL_FOUND);
+}
+
 int main(void) {
     const fl_update five[] = {{FL_INC, 0, 1, 513}, {FL_NOT, 1, 0, 0}};
     const fl_update six[] = {{FL_SET, 1, 4, 1000}};
@@ -107,6 +115,10 @@ int main(void) {
     say(fl_withdraw(&site, 7, &reply), 0, "dry", NULL);
     say(fl_stable(&site, 5, &reply), 0, "histories", NULL);
     printf("%zu bytes of log\n", fl_log_used(&site));
+    /* the end of the third did line, and places that no cut leaves: too high, and too few */
+    find((const uint64_t[]){1, 3}, 2);
+    find((const uint64_t[]){1, 5}, 2);
+    find((const uint64_t[]){1}, 1);
     size_t used = strlen(older);
     memcpy(log_buffer, older, used);
     say(fl_upgrade(log_buffer, sizeof log_buffer, used, &used), 0, NULL, NULL);

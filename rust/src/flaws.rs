@@ -187,6 +187,16 @@ flaws! {
     TrimWritesWhenRefused,
     /// A copy changes the byte behind it.
     TrimWritesPastTheCopy,
+    /// The greatest number of kept bytes is named that leaves the places, not the smallest.
+    FindsGreatestCut,
+    /// Places that are not asked for are 0.
+    FindsPaddedPlaces,
+    /// Places asked for behind those of the histories are not looked at.
+    FindsFirstPlaces,
+    /// A cut is named that restart refuses for its live lines.
+    FindsWithoutTable,
+    /// A cut is named that loses the base line.
+    FindsInsideBase,
     /// Redo goes by the version alone.
     RedoByVersionAlone,
     /// Only one waiting line runs after a delivery.

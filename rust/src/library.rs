@@ -55,6 +55,14 @@ mod linked {
             out_length: usize,
         ) -> u64;
 
+        pub fn log_find_cut(
+            log: *const u8,
+            log_length: usize,
+            kept: usize,
+            places: *const u64,
+            places_length: usize,
+        ) -> u64;
+
         pub fn log_upgrade(log: *mut u8, log_length: usize, kept: usize) -> u64;
 
         pub fn keeper_keep(
@@ -211,6 +219,14 @@ impl Program for Library {
         outcome(unsafe {
             let (address, length) = (fresh.as_mut_ptr(), fresh.len());
             linked::log_trim(log.as_ptr(), log.len(), kept, n, address, length)
+        })
+    }
+
+    fn find_cut(&self, log: &[u8], kept: usize, places: &[u64]) -> Outcome {
+        // SAFETY: see above.
+        outcome(unsafe {
+            let (address, length) = (places.as_ptr(), places.len());
+            linked::log_find_cut(log.as_ptr(), log.len(), kept, address, length)
         })
     }
 

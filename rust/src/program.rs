@@ -67,6 +67,10 @@ pub trait Program {
     /// Gives the bytes used there.
     fn trim(&self, log: &[u8], kept: usize, n: u64, fresh: &mut [u8]) -> Outcome;
 
+    /// Restarts from the first `kept` bytes of a log and names the smallest number of its bytes whose
+    /// cut leaves these places.
+    fn find_cut(&self, log: &[u8], kept: usize, places: &[u64]) -> Outcome;
+
     /// Changes over an older log in the first `kept` bytes of a buffer. Gives the bytes in use.
     fn upgrade(&self, log: &mut [u8], kept: usize) -> Outcome;
 
@@ -186,6 +190,11 @@ impl Program for Second {
     fn trim(&self, log: &[u8], kept: usize, n: u64, fresh: &mut [u8]) -> Outcome {
         let site = Site::restart(log, kept as u64, self.rules);
         outcome(site.and_then(|site| site.trim(n, log, fresh)))
+    }
+
+    fn find_cut(&self, log: &[u8], kept: usize, places: &[u64]) -> Outcome {
+        let site = Site::restart(log, kept as u64, self.rules);
+        outcome(site.and_then(|site| site.find_cut(places, log)))
     }
 
     fn upgrade(&self, log: &mut [u8], kept: usize) -> Outcome {

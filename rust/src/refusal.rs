@@ -44,6 +44,8 @@ pub enum Refusal {
     NotSent = 19,
     /// The line is in conflict with one that the keeper holds.
     Conflict = 20,
+    /// No number of kept bytes leaves these places.
+    NoLength = 21,
 }
 
 impl Refusal {

@@ -4,6 +4,7 @@ use super::{accepted, blank_reply, linked, Refusal, Reply, Site, Update, UPDATES
 
 const BUSY: u64 = 1_000;
 const DRY: u64 = 1_001;
+const FOUND: u64 = 1_000;
 
 // Each call lends the library parts of a site, as in the calls beside it.
 impl Site<'_> {
@@ -234,5 +235,26 @@ impl Site<'_> {
             )
         };
         accepted(code, used)
+    }
+
+    /// The smallest number of bytes of the log that a cut can keep so that the histories have these places, one for each of them.
+    pub fn find_cut(&self, places: &[u64]) -> Result<usize, Refusal> {
+        // SAFETY: see above.
+        let code = unsafe {
+            linked::fl_find_cut_parts(
+                &self.counters,
+                self.log.as_ptr(),
+                self.log.len(),
+                &self.rows,
+                &self.order,
+                &self.histories,
+                places.as_ptr(),
+                places.len(),
+            )
+        };
+        match code.checked_sub(FOUND) {
+            Some(kept) => Ok(kept as usize),
+            None => Err(Refusal(code)),
+        }
     }
 }

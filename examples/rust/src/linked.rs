@@ -183,6 +183,17 @@ extern "C" {
         used: &mut usize,
     ) -> u64;
 
+    pub fn fl_find_cut_parts(
+        counters: &[u64; COUNTERS],
+        log: *const u8,
+        log_bytes: usize,
+        rows: &[u64; ROWS],
+        order: &[u8; ORDER],
+        histories: &[u64; HISTORIES],
+        places: *const u64,
+        count: usize,
+    ) -> u64;
+
     pub fn fl_upgrade(log: *mut u8, log_bytes: usize, kept: usize, used: &mut usize) -> u64;
 
     pub fn fl_station_version() -> u64;

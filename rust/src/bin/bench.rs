@@ -131,8 +131,9 @@ fn figures() -> Vec<Figure> {
         restart(log.clone()),
         hand_out(log.clone()),
         site_calls(),
-        trim(log),
+        trim(log.clone()),
         removals(),
+        find_cut(log),
     ]
 }
 
@@ -206,6 +207,37 @@ fn short_lines() -> (Vec<u8>, u64) {
         lines += 1;
     }
     (format!("{log}(stable {lines})\n").into_bytes(), lines)
+}
+
+/// The library beside itself: a restart from a full log, and one with the cut found that leaves the
+/// places of all its lines. This program tries each number of bytes, so there is nothing to compare.
+fn find_cut(log: Vec<u8>) -> Figure {
+    let (work, runs) = (log.len() as f64 / 1e6, library_finds(log));
+    Figure { name: "restart, and find a cut", unit: "MB/s", work, runs }
+}
+
+#[cfg(feature = "library")]
+fn library_finds(log: Vec<u8>) -> Vec<Run> {
+    use second::library::Library;
+    let site = Site::restart(&log, log.len() as u64, Rules::PAPER).expect("the log restarts");
+    let place = |history| site.show(history).expect("a history").place;
+    let places: Vec<u64> = (0..site.count()).map(place).collect();
+    let (again, mut out) = (log.clone(), [0; 64]);
+    vec![
+        Box::new(move || {
+            let length = Library.restart(black_box(&again), again.len(), &mut out);
+            assert!(black_box(length).is_some(), "the log restarts");
+        }),
+        Box::new(move || {
+            let found = Library.find_cut(black_box(&log), log.len(), &places);
+            assert!(black_box(found).is_ok(), "all of the log leaves its places");
+        }),
+    ]
+}
+
+#[cfg(not(feature = "library"))]
+fn library_finds(_: Vec<u8>) -> Vec<Run> {
+    Vec::new()
 }
 
 /// A full keeper that hands out all it has.

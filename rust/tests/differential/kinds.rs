@@ -4,7 +4,7 @@
 const LOOKS: [&str; 5] = ["(ok 0 1)", "(ok 0 2)", "(ok 1 1)", "(ok 1 3)", "(ok 2 3)"];
 
 /// The kinds of replies, refusals aside.
-pub const KINDS: [&str; 41] = [
+pub const KINDS: [&str; 42] = [
     "(ok)",
     "(ok (ready N))",
     "(ok (ready))",
@@ -37,6 +37,7 @@ pub const KINDS: [&str; 41] = [
     "upgrade ok",
     "trim ok",
     "removals ok",
+    "find ok",
     "keep ok",
     "drop ok",
     "hand out ok",

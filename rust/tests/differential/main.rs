@@ -6,6 +6,7 @@ mod book;
 mod changing;
 mod claim;
 mod damage;
+mod found;
 mod going_on;
 mod kept;
 mod kinds;
@@ -272,6 +273,20 @@ fn removals_are_least() {
     assert!(reports >= 2000);
 }
 
+/// The number that is named is the smallest whose cut call leaves the places, and 21 comes where none
+/// does; also behind a stable line, since restart refuses the did line's end.
+#[test]
+fn found_cuts_are_the_smallest() {
+    let (mut named, mut behind, mut trials) = (0, 0, 0);
+    for met in (0..ROUNDS).flat_map(found::finds).map(|trial| trial.check()) {
+        trials += 1;
+        named += usize::from(met.0);
+        behind += usize::from(met.1);
+    }
+    println!("{trials} questions, {named} cuts named, {behind} behind a stable line");
+    assert!(trials >= 4000 && named >= 1500 && behind >= 20);
+}
+
 #[test]
 fn the_laws_hold_behind_a_base() {
     (0..ROUNDS).flat_map(going_on::sessions).for_each(|trial| laws::check_going_on(&trial));
@@ -300,6 +315,7 @@ fn the_trials_reach_everything() {
             .chain(refusals("upgrade ", &[12, 13, 15]))
             .chain(refusals("trim ", &[12, 13, 15]))
             .chain(refusals("removals ", &[12, 13, 15, 16]))
+            .chain(refusals("find ", &[13, 15, 21]))
             .chain(refusals("keep ", &[1, 2, 3, 4, 5, 8, 12, 13, 20, NO_KEEPER]))
             .chain(refusals("drop ", &[3, 13, NO_KEEPER]))
             .chain(refusals("hand out ", &[12, 13, NO_KEEPER]))

@@ -2,6 +2,7 @@
 
 mod base;
 mod changeover;
+mod find;
 mod keeper;
 mod overtaken;
 mod poll;
