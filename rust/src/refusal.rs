@@ -46,6 +46,8 @@ pub enum Refusal {
     Conflict = 20,
     /// No number of kept bytes leaves these places.
     NoLength = 21,
+    /// A card of no lines, or of more than 1,024.
+    WindowRange = 22,
 }
 
 impl Refusal {

@@ -11,7 +11,7 @@ use lib.ListN.{length}
 use Rattle.forms.specs.ListLaws.{true-T}
 use Rattle.forms.specs.Refusals.{numberOf}
 use Rattle.forms.specs.declared.Refusal.{Refusal}
-use Rattle.forms.specs.declared.Refusal.the-variants.{Unreadable, WrongCount, NoSuchHistory, HistoryTwice, OperandRange, NothingOrders, IdPending, AlreadyDone, ReadOvertaken, TableFull, WrongState, NoRoom, AboveLimit, OutOfTurn, BadLog, HighestVersion, WrongThreshold, NotSent, Conflict, NoLengthFits}
+use Rattle.forms.specs.declared.Refusal.the-variants.{Unreadable, WrongCount, NoSuchHistory, HistoryTwice, OperandRange, NothingOrders, IdPending, AlreadyDone, ReadOvertaken, TableFull, WrongState, NoRoom, AboveLimit, OutOfTurn, BadLog, HighestVersion, WrongThreshold, NotSent, Conflict, NoLengthFits, WindowRange}
 use Rattle.rules.specs.Checks.{check}
 use Rattle.rules.specs.State.{State, Reply, refused, ok}
 use Rattle.rules.specs.Calls.{restart}
@@ -56,6 +56,7 @@ tenth-is WrongThreshold e = absurd (true-T (isTen (refused WrongThreshold)) e)
 tenth-is NotSent e = absurd (true-T (isTen (refused NotSent)) e)
 tenth-is Conflict e = absurd (true-T (isTen (refused Conflict)) e)
 tenth-is NoLengthFits e = absurd (true-T (isTen (refused NoLengthFits)) e)
+tenth-is WindowRange e = absurd (true-T (isTen (refused WindowRange)) e)
 
 ten-is : (r : Reply) → isTen r ≡ true → r ≡ refused TableFull
 unfolding isTen

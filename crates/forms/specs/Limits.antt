@@ -37,6 +37,10 @@ baseTop = 9223372036854775808
 abbrev pub logLimit : ℕ
 logLimit = 65536
 
+-- 02 (j): "W is chosen from 1 to 1,024".
+abbrev pub windowLimit : ℕ
+windowLimit = 1024
+
 -- What the longest reply has, its end among them: it has two lists of 64 numbers. 01 does not say it; `outcome-length` shows it.
 abbrev pub replyLimit : ℕ
 replyLimit = 2741

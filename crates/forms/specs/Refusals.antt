@@ -5,9 +5,9 @@ use Rattle.forms.specs.declared.Refusal.the-variants.{Unreadable, WrongC
 use Rattle.forms.specs.declared.Refusal.the-variants.{OperandRange, NothingOrders, IdPending, AlreadyDone}
 use Rattle.forms.specs.declared.Refusal.the-variants.{ReadOvertaken, TableFull, WrongState, NoRoom, AboveLimit}
 use Rattle.forms.specs.declared.Refusal.the-variants.{OutOfTurn, BadLog, HighestVersion, WrongThreshold, NotSent, Conflict}
-use Rattle.forms.specs.declared.Refusal.the-variants.{NoLengthFits}
+use Rattle.forms.specs.declared.Refusal.the-variants.{NoLengthFits, WindowRange}
 
--- "A refusal returns its number only": the column `no.` of the table in "Refusals", and 02's 17 to 21.
+-- "A refusal returns its number only": the column `no.` of the table in "Refusals", and 02's 17 to 22.
 unfoldable pub numberOf : Refusal → ℕ
 numberOf Unreadable = 1
 numberOf WrongCount = 2
@@ -29,3 +29,4 @@ numberOf WrongThreshold = 18
 numberOf NotSent = 19
 numberOf Conflict = 20
 numberOf NoLengthFits = 21
+numberOf WindowRange = 22

@@ -122,6 +122,7 @@ pub enum Refusal {
     NotSent,
     Conflict,
     NoLengthFits,
+    WindowRange,
 }
 
 // Room for the lists of a reply, one behind the other: at most 4 profiles and 64 ids, or 16 histories and 16 histories.

@@ -24,5 +24,8 @@ pub const BASE_BYTES: usize = 1074;
 // "a log buffer at most 65,536"
 pub const LOG_BYTES: usize = 65536;
 
+// 02 (j): "W is chosen from 1 to 1,024".
+pub const WINDOW: u64 = 1024;
+
 // What the longest reply has, its end among them: it has two lists of 64 numbers.
 pub const REPLY_BYTES: usize = 2741;

@@ -60,6 +60,7 @@ pub fn say_refusals() {
     say_plain(ReplyForm::Refused(Refusal::NotSent));
     say_plain(ReplyForm::Refused(Refusal::Conflict));
     say_plain(ReplyForm::Refused(Refusal::NoLengthFits));
+    say_plain(ReplyForm::Refused(Refusal::WindowRange));
 }
 
 // What show gives of a history.

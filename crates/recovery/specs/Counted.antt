@@ -1,38 +1,32 @@
 -- The lines counted persistent reach up to the stable line whose operations have left the table, and no call takes a line off that is
 -- counted.
 use mathlib.Core.Path.{_≡_, refl, sym, ap, _∙_, subst}
-use mathlib.Core.Option.{Option, none, some}
-use mathlib.Core.Bool.{Bool, true, false}
-use mathlib.Core.List.{List, [], _∷_, _++_, map, append-assoc, append-nil}
+use mathlib.Core.Option.{Option}
+use mathlib.Core.List.{List, [], _∷_}
 use Prim.Native.Nat.{ℕ, zero, suc, _≤_, max}
 use native.Mathlib.Nat.{not-suc-le-zero, le-of-suc-le-suc}
 use native.Mathlib.Omega.{arith}
 use lib.ListN.{length, length-append, take, drop, take-append-drop}
 use lib.Seq.{take-append-le, take-length}
-use Rattle.forms.specs.Decimal.{Step}
-use Rattle.forms.specs.Decimal.Step.{got, bad}
 use Rattle.forms.specs.Lists.{find}
 use Rattle.forms.specs.ListLaws.{Prefix}
-use Rattle.forms.specs.Forms.{Base, Did, Line, didLine, stableLine, Answer}
+use Rattle.forms.specs.Forms.{Base, Line, Answer}
 use Rattle.forms.specs.Reading.{readDid}
-use Rattle.forms.specs.declared.Refusal.the-variants.{Unreadable, AboveLimit, OutOfTurn, NoRoom, NoSuchHistory}
+use Rattle.forms.specs.declared.Refusal.the-variants.{Unreadable, AboveLimit, OutOfTurn, NoSuchHistory}
 use Rattle.rules.specs.Log.{dids, stablesOf, weave, mark, reported, Journal, journal, noJournal, readLog}
-use Rattle.rules.specs.State.{Operation, State, Reply, refused, ok, settle, linesIn, startOf, logBytes, withMarks, withStables}
-use Rattle.rules.specs.Calls.{opened, openSite, inProgress, lineOf, finished, finishFound, finish, add, withdraw, persistent, aboveMark}
-use Rattle.rules.specs.Calls.{stabled, stable, show, restarted, restartAs, restart, cut, drain, delivered, redoRead, redo, end, Call, Add}
+use Rattle.rules.specs.State.{State, Reply, refused, ok, settle, linesIn, startOf, logBytes, withMarks}
+use Rattle.rules.specs.Calls.{opened, openSite, inProgress, finish, add, withdraw, persistent}
+use Rattle.rules.specs.Calls.{stable, show, restarted, restartAs, restart, cut, redo, end, Call, Add}
 use Rattle.rules.specs.Calls.{Finish, Withdraw, Persistent, Stable, Show, Cut, Changeover, Redo, End, changeover, perform, step}
 use Rattle.rules.specs.Trim.{trimText}
 use Rattle.rules.specs.CheckLaws.{refused-not-ok, unless-ok, unless-check}
 use Rattle.rules.specs.Good.{Good, Rises}
 use Rattle.rules.specs.GoodLaws.{good-step}
-use Rattle.rules.specs.DrainLaws.{drain-keeps}
 use Rattle.rules.specs.Book.{baseOf}
-use Rattle.rules.specs.WeaveLaws.{weave-append, weave-stable, unweave, mark-front, rises-front, reported-front}
+use Rattle.rules.specs.WeaveLaws.{unweave, mark-front, rises-front, reported-front}
+use Rattle.rules.specs.GrowLaws.{ok-state, Grows, grows-as, grows-same, grows-finish, grows-redo, grows-stable}
 use Rattle.rules.specs.Run.{run}
 use Rattle.recovery.specs.Claim.{Start, justOpened, justRestarted, countedAfter, counted}
-
-ok-state : (a b : State) (x y : Answer) → ok a x ≡ ok b y → a ≡ b
-ok-state a b x y e = cc
 
 -- ### What is counted
 
@@ -45,75 +39,18 @@ pub record Counts (m : ℕ) (st : State) : Type 0 where
 take-front : (m : ℕ) (a b : List Line) → Prefix a b → m ≤ length a → take m b ≡ take m a
 take-front m a b (r, e) le = ap (take m) e ∙ take-append-le m a r le
 
--- A call that only adds lines, and lets no operation leave the table.
-pub record Grows (st after : State) : Type 0 where
-  pub lines : Prefix (linesIn st) (linesIn after)
-  pub left : after .leftTo ≡ st .leftTo
-  pub base : after .base ≡ st .base
-
-grows-as : (st s after : State) (x answer : Answer) → ok s x ≡ ok after answer → Grows st s → Grows st after
-grows-as st s after x answer e g = subst (Grows st) (ok-state s after x answer e) g
-
-grows-same : (st after : State) → linesIn after ≡ linesIn st → after .leftTo ≡ st .leftTo → after .base ≡ st .base → Grows st after
-grows-same st after e l b = record { lines = ([], e ∙ sym (append-nil (linesIn st))); left = l; base = b }
-
 counts-grown : (m : ℕ) (st after : State) → Grows st after → Counts m st → Counts m after
 counts-grown m st after g c =
     record {
-      within = omega (arith, c .within, ap length (g .lines .1), length-append (linesIn st) (g .lines .0));
+      within = omega (arith, c .within, ap length (g .continues .lines .1), length-append (linesIn st) (g .continues .lines .0));
       left = omega (
         arith,
         c .left,
         g .left,
-        ap (mark (startOf st)) (take-front m (linesIn st) (linesIn after) (g .lines) (c .within)),
-        ap (λ (b : Option Base). mark (baseOf b) (take m (linesIn after))) (g .base),
+        ap (mark (startOf st)) (take-front m (linesIn st) (linesIn after) (g .continues .lines) (c .within)),
+        ap (λ (b : Option Base). mark (baseOf b) (take m (linesIn after))) (g .continues .base),
       );
     }
-
--- ### Calls that add lines
-
-grows-dids : (st after : State) (more : List Did) → Good st → after .log ≡ st .log ++ more → after .stables ≡ st .stables →
-    after .leftTo ≡ st .leftTo →
-    after .base ≡ st .base →
-    Grows st after
-grows-dids st after more G e s l b =
-    record {
-      lines = (
-        map didLine more,
-        ap (λ (ss : List _). weave (after .log) ss) s ∙ ap (λ (ds : List Did). weave ds (st .stables)) e ∙ weave-append (st .log) more (st .stables) (G .below),
-      );
-      left = l;
-      base = b;
-    }
-
-drain-front : (σ : Base) (k : ℕ) (log waiting : List Did) → Prefix log (drain σ k log waiting .log)
-drain-front σ k log waiting =
-    drain-keeps σ (λ l w. Prefix log l)
-    (λ l a d b t p. (p .0 ++ d ∷ [], ap {B = List Did} (λ x. x ++ d ∷ []) (p .1) ∙ append-assoc log (p .0) (d ∷ [])))
-    k log waiting ([], sym (append-nil log))
-
-grows-finish : (x : Option Operation) (st after : State) (answer : Answer) → Good st → finishFound x st ≡ ok after answer → Grows st after
-unfolding finishFound finished
-grows-finish none st after answer G e = absurd (refused-not-ok _ after answer e)
-grows-finish (some x) st after answer G e =
-    grows-as st _ after _ answer (unless-check _ NoRoom _ after answer e .1)
-    (grows-dids st _ (lineOf (startOf st) (st .log) x ∷ []) G refl refl refl refl)
-
-grows-redo : (x : Step Did) (st after : State) (answer : Answer) → Good st → redoRead x st ≡ ok after answer → Grows st after
-unfolding redoRead delivered
-grows-redo bad st after answer G e = absurd (refused-not-ok _ after answer e)
-grows-redo (got d rest) st after answer G e =
-    let p = drain-front (startOf st) (suc (length (st .waiting))) (st .log) (st .waiting ++ (d ∷ [])) in
-    grows-as st _ after _ answer (unless-ok _ _ after answer e .1) (grows-dids st _ (p .0) G (p .1) refl refl refl)
-
-grows-stable : (n : ℕ) (st : State) → Grows st (stabled n st)
-unfolding stabled
-grows-stable n st = go (aboveMark n st)
-  where
-    go : (b : Bool) →
-        Grows st (elim b [ true ↦ withStables (st .stables ++ (record { behind = length (st .log); upTo = n } ∷ [])) st | false ↦ st ])
-    go true = record { lines = (stableLine n ∷ [], weave-stable (st .log) (st .stables) n); left = refl; base = refl }
-    go false = grows-same st st refl refl refl
 
 -- ### Every call
 
@@ -181,12 +118,12 @@ counts-ok : (c : Call) (m : ℕ) (st after : State) (answer : Answer) → Good s
     Counts (countedAfter c (ok after answer) m) after
 unfolding countedAfter perform add finish withdraw persistent stable show cut changeover redo end
 counts-ok (Add i us) m st after answer G C e =
-    counts-grown m st after (grows-as st _ after _ answer (unless-ok _ _ after answer e .1) (grows-same st _ refl refl refl)) C
+    counts-grown m st after (grows-as st _ after _ answer (unless-ok _ _ after answer e .1) (grows-same st _ refl refl refl refl)) C
 counts-ok (Finish i) m st after answer G C e =
     counts-grown m st after
     (grows-finish (find (inProgress i) (st .pending)) st after answer G (unless-check _ OutOfTurn _ after answer e .1)) C
 counts-ok (Withdraw i) m st after answer G C e =
-    counts-grown m st after (grows-as st _ after _ answer (unless-ok _ _ after answer e .1) (grows-same st _ refl refl refl)) C
+    counts-grown m st after (grows-as st _ after _ answer (unless-ok _ _ after answer e .1) (grows-same st _ refl refl refl refl)) C
 counts-ok (Persistent n) m st after answer G C e =
     subst (λ (s : State). Counts (max m (length (reported (startOf s) n (linesIn s)))) s)
     (ok-state _ after _ answer (unless-check _ AboveLimit _ after answer e .1))
@@ -195,14 +132,15 @@ counts-ok (Stable n) m st after answer G C e =
     counts-grown m st after (grows-as st _ after _ answer (unless-ok _ _ after answer e .1) (grows-stable n st)) C
 counts-ok (Show h) m st after answer G C e =
     counts-grown m st after
-    (grows-as st st after _ answer (unless-check _ NoSuchHistory _ after answer e .1) (grows-same st st refl refl refl)) C
+    (grows-as st st after _ answer (unless-check _ NoSuchHistory _ after answer e .1) (grows-same st st refl refl refl refl)) C
 counts-ok (Cut k room) m st after answer G C e =
     counts-restart room (readLog (take k (logBytes st))) after answer (unless-ok _ _ after answer e .1)
 counts-ok (Changeover n room) m st after answer G C e =
     counts-restart room (readLog (trimText n st)) after answer (unless-ok _ _ after answer e .1)
 counts-ok (Redo line) m st after answer G C e = counts-grown m st after (grows-redo (readDid line) st after answer G e) C
 counts-ok End m st after answer G C e =
-    counts-grown m st after (grows-as st _ after _ answer (unless-check _ OutOfTurn _ after answer e .1) (grows-same st _ refl refl refl)) C
+    counts-grown m st after
+    (grows-as st _ after _ answer (unless-check _ OutOfTurn _ after answer e .1) (grows-same st _ refl refl refl refl)) C
 
 pub counts-step : (c : Call) (m : ℕ) (st : State) → Good st → Counts m st → Counts (countedAfter c (step c st) m) (settle (step c st) st)
 unfolding step settle countedAfter

@@ -60,3 +60,7 @@ pub mod SameLaws
 pub mod FindCut
 pub mod FindCutLaws
 pub mod FindCutExamples
+pub mod GrowLaws
+pub mod Card
+pub mod CardLaws
+pub mod CardExamples
