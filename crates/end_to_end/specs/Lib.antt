@@ -15,6 +15,7 @@ pub mod SiteCallsLaws
 pub mod ArrivalCalls
 pub mod ArrivalCallsLaws
 pub mod TrimCalls
+pub mod CardCalls
 pub mod Changeover
 pub mod SiteInstance
 pub mod SiteSample
