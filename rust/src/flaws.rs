@@ -269,4 +269,16 @@ flaws! {
     NamesFalling,
     /// A report changes the number behind its answer.
     WritesPastTheNames,
+    /// A card has one line more than its W.
+    CardOfOneMore,
+    /// A cut only takes lines off a card: those that left it do not come back.
+    CardSubtractsAtCut,
+    /// Of the lines that a call wrote, one comes into a card.
+    CardTakesOneLine,
+    /// A card has any W.
+    CardOfAnyWindow,
+    /// A card has at most 1,023 lines.
+    CardBelowTop,
+    /// The numbers past those of the site's histories become 0.
+    CardClearsAll,
 }

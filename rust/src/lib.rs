@@ -6,6 +6,7 @@
 //! lines, [`session`] turns a text of commands into a text of replies. [`program`] is the face that a test or a benchmark sees; the proved
 //! library shows the same face in `library`.
 
+pub mod card;
 pub mod few;
 pub mod flaws;
 pub mod forms;

@@ -1,5 +1,6 @@
 //! The proved library, linked as a static library, behind safe functions.
 
+use crate::card::Counts;
 use crate::keeper::Places;
 use crate::program::{Outcome, Program};
 use crate::records::RecordCall;
@@ -61,6 +62,15 @@ mod linked {
             kept: usize,
             places: *const u64,
             places_length: usize,
+        ) -> u64;
+
+        pub fn log_card(
+            log: *const u8,
+            log_length: usize,
+            begun: usize,
+            kept: usize,
+            w: u64,
+            counts: *mut u64,
         ) -> u64;
 
         pub fn log_upgrade(log: *mut u8, log_length: usize, kept: usize) -> u64;
@@ -227,6 +237,13 @@ impl Program for Library {
         outcome(unsafe {
             let (address, length) = (places.as_ptr(), places.len());
             linked::log_find_cut(log.as_ptr(), log.len(), kept, address, length)
+        })
+    }
+
+    fn card(&self, log: &[u8], begun: usize, kept: usize, w: u64, counts: &mut Counts) -> Outcome {
+        // SAFETY: see above.
+        outcome(unsafe {
+            linked::log_card(log.as_ptr(), log.len(), begun, kept, w, counts.as_mut_ptr())
         })
     }
 

@@ -1,5 +1,6 @@
 //! The face that a comparison sees: calls on numbers and byte slices, state in lent buffers.
 
+use crate::card::{self, Counts};
 use crate::forms::{Answer, Reply};
 use crate::keeper::{Keeper, Places};
 use crate::records::{RecordCall, Records};
@@ -70,6 +71,10 @@ pub trait Program {
     /// Restarts from the first `kept` bytes of a log and names the smallest number of its bytes whose
     /// cut leaves these places.
     fn find_cut(&self, log: &[u8], kept: usize, places: &[u64]) -> Outcome;
+
+    /// Restarts from the first `begun` bytes of a log, with a card of its last w lines, and then
+    /// from the first `kept`: the numbers are those of the card then. Gives the lines that count.
+    fn card(&self, log: &[u8], begun: usize, kept: usize, w: u64, counts: &mut Counts) -> Outcome;
 
     /// Changes over an older log in the first `kept` bytes of a buffer. Gives the bytes in use.
     fn upgrade(&self, log: &mut [u8], kept: usize) -> Outcome;
@@ -197,6 +202,12 @@ impl Program for Second {
         outcome(site.and_then(|site| site.find_cut(places, log)))
     }
 
+    fn card(&self, log: &[u8], begun: usize, kept: usize, w: u64, counts: &mut Counts) -> Outcome {
+        let before = outcome_of(Site::restart(log, begun as u64, self.rules))?;
+        let site = outcome_of(Site::restart(log, kept as u64, self.rules))?;
+        outcome(card::card(&before, &site, log, w, counts, self.rules))
+    }
+
     fn upgrade(&self, log: &mut [u8], kept: usize) -> Outcome {
         outcome(Site::upgrade(log, kept as u64, self.rules))
     }
@@ -242,5 +253,9 @@ fn put(text: &[u8], out: &mut [u8]) -> Option<usize> {
 }
 
 fn outcome(result: Result<usize, Refusal>) -> Outcome {
+    outcome_of(result)
+}
+
+fn outcome_of<T>(result: Result<T, Refusal>) -> Result<T, u64> {
     result.map_err(Refusal::number)
 }

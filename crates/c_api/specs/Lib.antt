@@ -17,3 +17,5 @@ pub mod TrimLaws
 pub mod Removals
 pub mod RemovalLaws
 pub mod Finds
+pub mod Cards
+pub mod CardCallLaws

@@ -1,4 +1,5 @@
 // What programs in other languages call, on numbers and byte slices alone. Nothing is required of what they lend.
+pub mod cards;
 pub mod finds;
 pub mod keepers;
 pub mod play;

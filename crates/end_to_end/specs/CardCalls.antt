@@ -1,5 +1,5 @@
--- The last W lines on one card (02, (j)): "after every call and cut the card equals one counted afresh from the log then held", of the code's
--- site and the code's card, by their contracts alone.
+-- The last W lines on one card (02, (j)): "after every call and cut the card equals one counted afresh from the log then held", of the
+-- code's site and the code's card, by their contracts alone.
 use mathlib.Core.Path.{_≡_, refl, sym, ap, _∙_, subst}
 use mathlib.Core.Bool.{false}
 use mathlib.Core.List.{List, [], _∷_, _++_, append-nil, append-assoc}

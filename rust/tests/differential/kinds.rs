@@ -4,7 +4,7 @@
 const LOOKS: [&str; 5] = ["(ok 0 1)", "(ok 0 2)", "(ok 1 1)", "(ok 1 3)", "(ok 2 3)"];
 
 /// The kinds of replies, refusals aside.
-pub const KINDS: [&str; 42] = [
+pub const KINDS: [&str; 43] = [
     "(ok)",
     "(ok (ready N))",
     "(ok (ready))",
@@ -38,6 +38,7 @@ pub const KINDS: [&str; 42] = [
     "trim ok",
     "removals ok",
     "find ok",
+    "card ok",
     "keep ok",
     "drop ok",
     "hand out ok",

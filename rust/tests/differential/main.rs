@@ -3,6 +3,7 @@
 
 mod arrival;
 mod book;
+mod carded;
 mod changing;
 mod claim;
 mod damage;
@@ -287,6 +288,14 @@ fn found_cuts_are_the_smallest() {
     assert!(trials >= 4000 && named >= 1500 && behind >= 20);
 }
 
+/// A card has the updates that the text of the last lines says.
+#[test]
+fn cards_are_those_of_the_text() {
+    let cards: usize = (0..ROUNDS).flat_map(carded::cards).map(|trial| trial.check()).sum();
+    println!("{cards} cards");
+    assert!(cards >= 1500);
+}
+
 #[test]
 fn the_laws_hold_behind_a_base() {
     (0..ROUNDS).flat_map(going_on::sessions).for_each(|trial| laws::check_going_on(&trial));
@@ -316,6 +325,7 @@ fn the_trials_reach_everything() {
             .chain(refusals("trim ", &[12, 13, 15]))
             .chain(refusals("removals ", &[12, 13, 15, 16]))
             .chain(refusals("find ", &[13, 15, 21]))
+            .chain(refusals("card ", &[13, 15, 22]))
             .chain(refusals("keep ", &[1, 2, 3, 4, 5, 8, 12, 13, 20, NO_KEEPER]))
             .chain(refusals("drop ", &[3, 13, NO_KEEPER]))
             .chain(refusals("hand out ", &[12, 13, NO_KEEPER]))

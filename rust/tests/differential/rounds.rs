@@ -12,23 +12,25 @@ use crate::random::Random;
 use crate::scribe::Scribe;
 use crate::trial::{used_buffer, Comparison, RestartTrial, SessionTrial};
 use crate::watch::{is_did, Law};
-use crate::{found, going_on, recorded, removed, trimmed, upgraded};
+use crate::{carded, found, going_on, recorded, removed, trimmed, upgraded};
 
 /// All rounds together make well over 200,000 calls.
 pub const ROUNDS: u64 = 160;
 
-/// The restarts, changeovers, copies, cuts that are found, sessions from logs, keepers and records of a round.
+/// The restarts, changeovers, copies, reports of what falls, cuts that are found, cards, sessions from logs, keepers
+/// and records of a round.
 pub fn others(round: u64) -> Vec<Box<dyn Comparison>> {
     let restarts = restarts(round).into_iter().map(boxed);
     let upgrades = upgraded::upgrades(round).into_iter().map(boxed);
     let trims = trimmed::trims(round).into_iter().map(boxed);
     let removals = removed::removals(round).into_iter().map(boxed);
     let finds = found::finds(round).into_iter().map(boxed);
+    let cards = carded::cards(round).into_iter().map(boxed);
     let sessions = going_on::sessions(round).into_iter().map(boxed);
     let keepers = keepers(round).into_iter().map(boxed);
     let mut random = seeded(5, round);
     let records = (0..12).map(|_| boxed(recorded::any(&mut random)));
-    let logs = restarts.chain(upgrades).chain(trims).chain(removals).chain(finds).chain(sessions);
+    let logs = restarts.chain(upgrades).chain(trims).chain(removals).chain(finds).chain(cards).chain(sessions);
     logs.chain(keepers).chain(records).collect()
 }
 
