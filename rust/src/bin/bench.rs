@@ -123,15 +123,19 @@ fn processor_time() -> Option<Duration> {
 
 fn figures() -> Vec<Figure> {
     let log = full_log();
+    let wide = full_log_of_four();
     vec![
         session("add and finish", added_and_finished(OPERATIONS)),
-        session("redo of 64 lines in order", redone(false)),
-        session("redo of 64 in reverse", redone(true)),
+        session("redo of 64 lines in order", redone(line_of_one, false)),
+        session("redo of 64 in reverse", redone(line_of_one, true)),
         session("mixed session", mixed()),
-        restart(log.clone()),
-        hand_out(log.clone()),
+        restart("restart from a full log", log.clone()),
+        hand_out("keeper hands out all lines", log.clone()),
         site_calls(),
         trim(log.clone()),
+        restart("restart, four updates a line", wide.clone()),
+        session("redo of 64, four updates", redone(line_of_four, false)),
+        hand_out("keeper, four updates a line", wide),
         removals(),
         find_cut(log),
     ]
@@ -161,8 +165,8 @@ fn session(name: &'static str, input: String) -> Figure {
     })
 }
 
-fn restart(log: Vec<u8>) -> Figure {
-    figure("restart from a full log", "MB/s", log.len() as f64 / 1e6, |program| {
+fn restart(name: &'static str, log: Vec<u8>) -> Figure {
+    figure(name, "MB/s", log.len() as f64 / 1e6, |program| {
         let (log, mut out) = (log.clone(), [0; 64]);
         move || {
             let length = program.restart(black_box(&log), log.len(), &mut out);
@@ -241,10 +245,10 @@ fn library_finds(_: Vec<u8>) -> Vec<Run> {
 }
 
 /// A full keeper that hands out all it has.
-fn hand_out(log: Vec<u8>) -> Figure {
+fn hand_out(name: &'static str, log: Vec<u8>) -> Figure {
     let lines = log.split_inclusive(|&byte| byte == b'\n');
     let lines = lines.filter(|line| line.starts_with(b"(did ")).collect::<Vec<_>>().concat();
-    figure("keeper hands out all lines", "MB/s", lines.len() as f64 / 1e6, |program| {
+    figure(name, "MB/s", lines.len() as f64 / 1e6, |program| {
         let (lines, mut out) = (lines.clone(), vec![0; lines.len()]);
         move || {
             let handed = program.hand_out(black_box(&lines), lines.len(), &[0; 16], &mut out);
@@ -298,14 +302,40 @@ fn full_log() -> Vec<u8> {
     log
 }
 
+/// The did line of the operation with this number: one update, in one of four histories.
+fn line_of_one(number: usize) -> String {
+    let (history, next) = (number % 4, number / 4 + 1);
+    format!("(did {number} (inc {history} {next} {next} 7))")
+}
+
+/// The did line of the operation with this number: an update in each of four histories.
+fn line_of_four(number: usize) -> String {
+    let next = number + 1;
+    format!(
+        "(did {number} (inc 0 {next} {next} 7)(set 1 {next} {next} 1000)(not 2 0 {next} 0)\
+         (inc 3 {next} {next} 513))"
+    )
+}
+
+/// A log of such lines that nearly fills the buffer, with a stable line behind every 32nd.
+fn full_log_of_four() -> Vec<u8> {
+    let mut log = "(site 4)\n".to_string();
+    for number in 0.. {
+        let mut line = line_of_four(number) + "\n";
+        if number % 32 == 31 {
+            line += &format!("(stable {})\n", number + 1);
+        }
+        if Site::LONGEST_LOG < log.len() + line.len() {
+            break;
+        }
+        log += &line;
+    }
+    log.into_bytes()
+}
+
 /// 64 lines redone again and again from an empty log.
-fn redone(reverse: bool) -> String {
-    let mut lines: Vec<String> = (0..64)
-        .map(|number| {
-            let (history, next) = (number % 4, number / 4 + 1);
-            format!("(redo (did {number} (inc {history} {next} {next} 7)))\n")
-        })
-        .collect();
+fn redone(line: fn(usize) -> String, reverse: bool) -> String {
+    let mut lines: Vec<String> = (0..64).map(|number| format!("(redo {})\n", line(number))).collect();
     if reverse {
         lines.reverse();
     }
