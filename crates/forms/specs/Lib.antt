@@ -34,6 +34,7 @@ pub mod AnswerLaws
 pub mod Write
 pub mod WriteLaws
 pub mod TextLaws
+pub mod BoundLaws
 pub mod BaseHeldLaws
 pub mod BaseReadLaws
 pub mod RoundTrip
