@@ -1,11 +1,9 @@
 -- Laws of a report over raw numbers: they are no more than the room, and the number is that of the specification's report.
 use Prim.Native.Nat.{ℕ, _+_, _≤_}
 use mathlib.Core.Path.{_≡_, refl, sym, ap, _∙_}
-use mathlib.Core.List.{List, _++_}
+use mathlib.Core.List.{List}
 use native.Mathlib.Omega.{arith}
 use lib.ListN.{length, drop, length-append}
-use Rattle.forms.specs.Refusals.{numberOf}
-use Rattle.forms.specs.declared.Refusal.{Refusal}
 use Rattle.recovery.specs.Removal.{Report, refused, named}
 use Rattle.removal.specs.Model.{Outcome, refusal, count, outcomeOf, outcome, after, Says}
 use Rattle.removal.specs.declared.Removals.{Removals}
@@ -29,7 +27,8 @@ counted-report (refused n) = refl
 counted-report (named l) = refl
 
 -- how many are named is no more than the numbers that there are
-pub removals-few : (says : Report) (old : List ℕ) (r : Removals) (new : List ℕ) → Says says old r new → (k : ℕ) → r ≡ Named k → k ≤ length new
+pub removals-few : (says : Report) (old : List ℕ) (r : Removals) (new : List ℕ) → Says says old r new → (k : ℕ) → r ≡ Named k →
+    k ≤ length new
 removals-few says old r new S k e = go says (S .numbers) (sym (ap outcomeOf e) ∙ S .answer)
   where
     go : (x : Report) → new ≡ after x old → count k ≡ outcome x → k ≤ length new

@@ -1,13 +1,11 @@
 -- 02 (a): reports over logs, computed from the definitions on both sides of each rule's edge.
-use mathlib.Core.Path.{_≡_, refl}
-use mathlib.Core.Bool.{Bool, true, false, not, cond, _&&_, _||_}
+use mathlib.Core.Path.{_≡_}
+use mathlib.Core.Bool.{Bool, true, false, not, _&&_}
 use mathlib.Core.List.{List, [], _∷_}
 use mathlib.Core.List.{List·Memᴰ as Mem}
 use Prim.Native.Nat.{ℕ}
-use Prim.Native.String.{String}
 use lib.Dec.{T, eqb}
-use lib.ListN.{length, replicate}
-use Rattle.forms.specs.Lists.{all, any, keep}
+use Rattle.forms.specs.Lists.{all}
 use Rattle.forms.specs.ListLaws.{T-true, all-at}
 use Rattle.forms.specs.Words.{bytes, word}
 use Rattle.forms.specs.Decimal.{digitsWithin, digits, more, number}
@@ -105,4 +103,5 @@ computed =
 -- Every report says what its row has.
 pub examples : (r : Row) → Mem r rows → says (report (r .log) (pairsOf (r .pairs)) (r .lost) (r .room)) (r .refusal) (r .lines) ≡ true
 unfolding holds
-examples r m = T-true (says (report (r .log) (pairsOf (r .pairs)) (r .lost) (r .room)) (r .refusal) (r .lines)) (all-at holds rows computed r m)
+examples r m = T-true (says (report (r .log) (pairsOf (r .pairs)) (r .lost) (r .room)) (r .refusal) (r .lines))
+    (all-at holds rows computed r m)

@@ -1,10 +1,10 @@
 -- The computed list is the least set, rising: each round adds a line or changes nothing, and there are as many rounds as lines.
 use mathlib.Core.Path.{_≡_, refl, sym, ap, _∙_, subst}
-use mathlib.Core.Logic.{_⊎_, inl, inr, ⊎-elim, _↔_}
+use mathlib.Core.Logic.{_⊎_, inl, inr, ⊎-elim}
 use mathlib.Core.Bool.{Bool, true, false, not, cond, _&&_, _||_}
 use mathlib.Core.List.{List, [], _∷_}
 use mathlib.Core.List.{List·Memᴰ as Mem, List·Memᴰ·head as here, List·Memᴰ·tail as there, List·Memᴰ·not-nil, List·Memᴰ·cases-cons}
-use Prim.Native.Nat.{ℕ, zero, suc, _+_, _-_, _<_, _≤_}
+use Prim.Native.Nat.{ℕ, zero, suc, _+_, _<_, _≤_}
 use native.Mathlib.Nat.{eq-or-lt-of-le}
 use native.Mathlib.Omega.{arith}
 use lib.Dec.{T, eqb, eqb→eq, eqb-refl, leb, ltb, leb→le, le→leb, ltb→lt, lt→ltb}
@@ -12,7 +12,7 @@ use borrow.Author.Tests.{leb-true, leb-false, not-false, eq-eqb}
 use lib.ListN.{length}
 use Rattle.forms.specs.Forms.{Did}
 use Rattle.forms.specs.Lists.{any, keep}
-use Rattle.forms.specs.ListLaws.{T-true, T-false, true-T, and-intro, and-left, and-right, or-left, or-right, or-cases}
+use Rattle.forms.specs.ListLaws.{T-false, true-T, and-intro, and-left, and-right, or-left, or-right, or-cases}
 use Rattle.forms.specs.ListLaws.{any-at, any-of, mem-keep, mem-of-keep, length-keep}
 use Rattle.recovery.specs.Removal.{numbersFrom, isLine, Pair, byHistory, byTransaction, Removed, itself, later, together, takes}
 use Rattle.recovery.specs.Removal.{isAmong, grow, rounds, removal, notAmong}
@@ -61,7 +61,8 @@ module _ {A : Type 0} (f g : A → Bool) where
   keep-alike [] h = refl
   keep-alike (x ∷ l) h = go (f x) (g x) (h x (here refl)) (keep-alike l (λ y m. h y (there m)))
     where
-      go : (a b : Bool) → (T a → T b) × (T b → T a) → keep f l ≡ keep g l → cond a (x ∷ keep f l) (keep f l) ≡ cond b (x ∷ keep g l) (keep g l)
+      go : (a b : Bool) → (T a → T b) × (T b → T a) → keep f l ≡ keep g l →
+          cond a (x ∷ keep f l) (keep f l) ≡ cond b (x ∷ keep g l) (keep g l)
       go true true q e = ap {B = List A} (λ k. x ∷ k) e
       go true false q e = absurd (q .0 tt)
       go false true q e = absurd (q .1 tt)
@@ -118,10 +119,10 @@ unfolding notAmong
 named-of N log ps lost e =
     record {
       pairs = λ p m. true-T (isLine N log (p .line)) (not-false (isLine N log (p .line)) (T-false (not (isLine N log (p .line)))
-        (λ t. subst T e (or-left (any (λ p. not (isLine N log (p .line))) ps) (any (λ k. not (isLine N log k)) lost)
+          (λ t. subst T e (or-left (any (λ p. not (isLine N log (p .line))) ps) (any (λ k. not (isLine N log k)) lost)
           (any-of (λ (p : Pair). not (isLine N log (p .line))) m t)))));
       lines = λ k m. true-T (isLine N log k) (not-false (isLine N log k) (T-false (not (isLine N log k))
-        (λ t. subst T e (or-right (any (λ p. not (isLine N log (p .line))) ps) (any (λ k. not (isLine N log k)) lost)
+          (λ t. subst T e (or-right (any (λ p. not (isLine N log (p .line))) ps) (any (λ k. not (isLine N log k)) lost)
           (any-of (λ (k : ℕ). not (isLine N log k)) m t)))));
     }
 
@@ -159,11 +160,11 @@ unfolding byTransaction
 together-of ps k m s =
     any-of (λ (p : Pair). eqb (p .line) k && any (λ (q : Pair). eqb (q .line) m && eqb (q .transaction) (p .transaction)) ps) (s .its-there)
     (and-intro (eqb (s .its .line) k) (any (λ (q : Pair). eqb (q .line) m && eqb (q .transaction) (s .its .transaction)) ps)
-      (true-T (eqb (s .its .line) k) (eq-eqb (s .its .line) k (s .its-line)))
-      (any-of (λ (q : Pair). eqb (q .line) m && eqb (q .transaction) (s .its .transaction)) (s .other-there)
-        (and-intro (eqb (s .other .line) m) (eqb (s .other .transaction) (s .its .transaction))
-          (true-T (eqb (s .other .line) m) (eq-eqb (s .other .line) m (s .other-line)))
-          (true-T (eqb (s .other .transaction) (s .its .transaction)) (eq-eqb (s .other .transaction) (s .its .transaction) (s .same))))))
+    (true-T (eqb (s .its .line) k) (eq-eqb (s .its .line) k (s .its-line)))
+    (any-of (λ (q : Pair). eqb (q .line) m && eqb (q .transaction) (s .its .transaction)) (s .other-there)
+    (and-intro (eqb (s .other .line) m) (eqb (s .other .transaction) (s .its .transaction))
+    (true-T (eqb (s .other .line) m) (eq-eqb (s .other .line) m (s .other-line)))
+    (true-T (eqb (s .other .transaction) (s .its .transaction)) (eq-eqb (s .other .transaction) (s .its .transaction) (s .same))))))
 
 module _ (N : ℕ) (log : List Did) (ps : List Pair) where
   abbrev pub numbers : List ℕ
@@ -237,14 +238,14 @@ module _ (N : ℕ) (log : List Did) (ps : List Pair) where
   unfolding grow
   still-closed ks S le k m h t l =
       let le′ : length (keep (grown ks) numbers) ≤ length (keep (S .test) numbers) =
-        subst (λ (x : List ℕ). length (keep (grown ks) numbers) ≤ length x) (S .same) le in
+      subst (λ (x : List ℕ). length (keep (grown ks) numbers) ≤ length x) (S .same) le in
       let wider : (x : ℕ) → Mem x numbers → T (S .test x) → T (grown ks x) =
-        λ x i u. or-left (isAmong x ks) (any (λ k. takes N log ps k x) ks)
-          (among-of (subst (λ (y : List ℕ). Mem x y) (sym (S .same)) (mem-keep (S .test) i u))) in
+      λ x i u. or-left (isAmong x ks) (any (λ k. takes N log ps k x) ks)
+      (among-of (subst (λ (y : List ℕ). Mem x y) (sym (S .same)) (mem-keep (S .test) i u))) in
       subst (λ (y : List ℕ). Mem m y) (sym (S .same))
       (mem-keep (S .test) (mem-line m l)
-        (keep-same (S .test) (grown ks) numbers wider le′ m (mem-line m l)
-          (or-right (isAmong m ks) (any (λ k. takes N log ps k m) ks) (any-of (λ k. takes N log ps k m) h t))))
+      (keep-same (S .test) (grown ks) numbers wider le′ m (mem-line m l)
+      (or-right (isAmong m ks) (any (λ k. takes N log ps k m) ks) (any-of (λ k. takes N log ps k m) h t))))
 
   full-closed : (ks : List ℕ) → Sifted ks → length numbers ≤ length ks → ClosedIn ks
   unfolding grow
@@ -254,9 +255,9 @@ module _ (N : ℕ) (log : List Did) (ps : List Pair) where
   unfolding rounds
   rounds-closed zero ks S le = full-closed ks S (omega arith)
   rounds-closed (suc f) ks S le = ⊎-elim
-    (λ h. rounds-stay f (grow N log ps ks) (grow-closed ks (still-closed ks S h)))
-    (λ h. rounds-closed f (grow N log ps ks) (sifted-grow ks) (omega arith))
-    (split (length (grow N log ps ks)) (length ks))
+      (λ h. rounds-stay f (grow N log ps ks) (grow-closed ks (still-closed ks S h)))
+      (λ h. rounds-closed f (grow N log ps ks) (sifted-grow ks) (omega arith))
+      (split (length (grow N log ps ks)) (length ks))
 
   rounds-keep : (f : ℕ) (ks : List ℕ) (m : ℕ) → T (isLine N log m) → Mem m ks → Mem m (rounds f N log ps ks)
   unfolding rounds
@@ -335,7 +336,8 @@ module _ (N : ℕ) (log : List Did) (ps : List Pair) where
         keep-alike f (removal-sifted .test) numbers
         (λ k m. let q = numbers-at N (length log) k m in let l = line-of N log k (q .0) (q .1) in (
           (λ t. mem-of-keep (removal-sifted .test) numbers
-            (subst (λ (y : List ℕ). Mem k y) (removal-sifted .same) (removal-whole k (h k l .0 t))) .1),
-          (λ t. h k l .1 (removal-sound k (subst (λ (y : List ℕ). Mem k y) (sym (removal-sifted .same)) (mem-keep (removal-sifted .test) m t)))),
+              (subst (λ (y : List ℕ). Mem k y) (removal-sifted .same) (removal-whole k (h k l .0 t))) .1),
+          (λ t. h k l .1 (removal-sound k (subst (λ (y : List ℕ). Mem k y) (sym (removal-sifted .same)) (mem-keep
+              (removal-sifted .test) m t)))),
         ))
         ∙ sym (removal-sifted .same)

@@ -1,28 +1,29 @@
 -- What the report promises (02 (a)): the list that it names is the least set that has the lost lines and, with each line, all that it takes
 -- with it; it rises; and what is left is a log again, each history with its places from the first on.
 use mathlib.Core.Path.{_≡_, refl, sym, ap, _∙_, subst}
-use mathlib.Core.Logic.{_⊎_, inl, inr, ⊎-elim, _↔_}
+use mathlib.Core.Logic.{⊎-elim, _↔_}
 use mathlib.Core.Bool.{Bool, true, false, cond, _&&_}
 use mathlib.Core.List.{List, [], _∷_, _++_, append-assoc, head-eq-of-cons-eq, tail-eq-of-cons-eq}
-use mathlib.Core.List.{List·Memᴰ as Mem, List·Memᴰ·head as here, List·Memᴰ·tail as there, List·Memᴰ·not-nil}
+use mathlib.Core.List.{List·Memᴰ as Mem, List·Memᴰ·head as here, List·Memᴰ·tail as there}
 use mathlib.Core.List.{List·Memᴰ·cases-cons, Memᴰ·append-left}
-use Prim.Native.Nat.{ℕ, zero, suc, _+_, _-_, _<_, _≤_}
+use Prim.Native.Nat.{ℕ, zero, suc, _+_, _-_, _<_}
 use native.Mathlib.Omega.{arith}
-use lib.Dec.{T, eqb, ltb, eqb→eq, lt→ltb}
+use lib.Dec.{T, ltb, lt→ltb}
 use lib.ListN.{length, getD, length-append}
 use lib.Seq.{getD-at}
 use Rattle.forms.specs.Forms.{Base, Change, Did}
-use Rattle.forms.specs.Lists.{all, any, keep}
-use Rattle.forms.specs.ListLaws.{T-true, true-T, and-intro, and-left, all-at, all-of, any-at, mem-of-keep}
+use Rattle.forms.specs.Lists.{keep}
+use Rattle.forms.specs.ListLaws.{true-T, and-intro, all-at, all-of, mem-of-keep}
 use Rattle.forms.specs.Read.{noDid}
-use Rattle.rules.specs.Book.{Cell, startCell, cellFrom, cellFromWith, cell, cellWith, touches, runsAt, canRun, canRunWith}
+use Rattle.rules.specs.Book.{Cell, startCell, cellFrom, cellFromWith, cell, cellWith, touches, runsAt, canRunWith}
 use Rattle.rules.specs.BookLaws.{EachOnce, proj, place-is, runs-place, enterAll-untouched, touches-of}
 use Rattle.rules.specs.Good.{Ran}
 use Rattle.recovery.specs.Claim.{shares}
 use Rattle.recovery.specs.Ending.{shares-of}
 use Rattle.recovery.specs.Removal.{numbersFrom, isLine, lineAt, Pair, byHistory, byTransaction, Removed, itself, later, together}
 use Rattle.recovery.specs.Removal.{isAmong, removal, notAmong}
-use Rattle.recovery.specs.RemovalLaws.{Named, named-of, numbers-at, line-of, removal-sound, removal-whole, removal-numbers, among-of, among-at}
+use Rattle.recovery.specs.RemovalLaws.{Named, named-of, numbers-at, line-of, removal-sound, removal-whole, removal-numbers}
+use Rattle.recovery.specs.RemovalLaws.{among-of, among-at}
 
 -- ### The least set, rising
 
@@ -98,7 +99,7 @@ unfolding leftOf cellFromWith
 left-cell h N c [] ks f = refl
 left-cell h N c (d ∷ ds) ks f = go (isAmong (suc N) ks) refl (touches h d) refl
     (λ c′. left-cell h (suc N) c′ ds ks (λ a e b q t m. f (d ∷ a) e b (ap {B = List Did} (λ l. d ∷ l) q) t
-      (subst (λ (x : ℕ). T (isAmong x ks)) (let z : suc N + 1 + length a ≡ N + 1 + suc (length a) = omega arith in z) m)))
+    (subst (λ (x : ℕ). T (isAmong x ks)) (let z : suc N + 1 + length a ≡ N + 1 + suc (length a) = omega arith in z) m)))
   where
     go : (x : Bool) → isAmong (suc N) ks ≡ x → (y : Bool) → touches h d ≡ y →
         ((c′ : Cell) → cellFrom h c′ (leftOf (suc N) ds ks) ≡ cellFrom h c′ ds) →
@@ -106,7 +107,7 @@ left-cell h N c (d ∷ ds) ks f = go (isAmong (suc N) ks) refl (touches h d) ref
     go false ex y ey below = below _
     go true ex true ey below =
         absurd (f [] d ds refl (true-T (touches h d) ey)
-          (subst (λ (x : ℕ). T (isAmong x ks)) (let z : suc N ≡ N + 1 + 0 = omega arith in z) (true-T (isAmong (suc N) ks) ex)))
+        (subst (λ (x : ℕ). T (isAmong x ks)) (let z : suc N ≡ N + 1 + 0 = omega arith in z) (true-T (isAmong (suc N) ks) ex)))
     go true ex false ey below =
         below c ∙ ap (λ (c′ : Cell). cellFrom h c′ ds) (sym (enterAll-untouched h d c (λ t. subst T ey t)))
 
@@ -118,7 +119,8 @@ record Stood (N : ℕ) (log : List Did) (ks : List ℕ) (a : List Did) (d : Did)
   same : a ≡ leftOf N before ks
   stays : T (isAmong (N + 1 + length before) ks) → ⊥
 
-left-stood : (N : ℕ) (log : List Did) (ks : List ℕ) (a : List Did) (d : Did) (b : List Did) → leftOf N log ks ≡ a ++ d ∷ b → Stood N log ks a d
+left-stood : (N : ℕ) (log : List Did) (ks : List ℕ) (a : List Did) (d : Did) (b : List Did) → leftOf N log ks ≡ a ++ d ∷ b →
+    Stood N log ks a d
 unfolding leftOf
 left-stood N [] ks [] d b e = absurd (let z : _≡_ {A = ℕ} 0 1 = cc in omega arith)
 left-stood N [] ks (x ∷ a) d b e = absurd (let z : _≡_ {A = ℕ} 0 1 = cc in omega arith)
@@ -182,10 +184,10 @@ module _ (σ : Base) (log : List Did) (ks : List ℕ)
       let first : lineAt N log (N + 1 + length x) ≡ e = line-here N log x e (y ++ d ∷ b) (split ∙ append-assoc x (e ∷ y) (d ∷ b)) in
       let second : lineAt N log (N + 1 + length (x ++ e ∷ y)) ≡ d = line-here N log (x ++ e ∷ y) d b split in
       among-of (closed k m (among-at k ks among)
-        (and-intro (ltb k m && isLine N log m) (shares (lineAt N log k) (lineAt N log m))
-          (and-intro (ltb k m) (isLine N log m) (lt→ltb k m (omega (arith, long))) (line-of N log m (omega arith) (omega (arith, all-long))))
-          (subst (λ (z : Did). T (shares z (lineAt N log m))) (sym first)
-            (subst (λ (z : Did). T (shares e z)) (sym second) (shares-of h e d td te)))))
+      (and-intro (ltb k m && isLine N log m) (shares (lineAt N log k) (lineAt N log m))
+      (and-intro (ltb k m) (isLine N log m) (lt→ltb k m (omega (arith, long))) (line-of N log m (omega arith) (omega (arith, all-long))))
+      (subst (λ (z : Did). T (shares z (lineAt N log m))) (sym first)
+      (subst (λ (z : Did). T (shares e z)) (sym second) (shares-of h e d td te)))))
 
   -- "since redo goes by places": each line that is left can run behind those left before it
   pub left-runs : Ran σ log → Ran σ (leftOf N log ks)
@@ -195,9 +197,9 @@ module _ (σ : Base) (log : List Did) (ks : List ℕ)
       all-of (λ (x : Change). runsAt (cell σ (x .history) a) x) (d .changes) (λ x m.
       subst (λ (c : Cell). T (runsAt c x))
       (sym (ap (cell σ (x .history)) (S .same)
-        ∙ left-cell (x .history) N (startCell σ (x .history)) (S .before) ks (λ x₁ f y q t among.
-          S .stays (subst (λ (l : List Did). T (isAmong (N + 1 + length l) ks)) (sym q)
-            (unshared x₁ f y d (S .behind) (x .history) (S .split ∙ ap (λ (l : List Did). l ++ d ∷ S .behind) q) t (touches-of d m) among)))))
+      ∙ left-cell (x .history) N (startCell σ (x .history)) (S .before) ks (λ x₁ f y q t among.
+      S .stays (subst (λ (l : List Did). T (isAmong (N + 1 + length l) ks)) (sym q)
+      (unshared x₁ f y d (S .behind) (x .history) (S .split ∙ ap (λ (l : List Did). l ++ d ∷ S .behind) q) t (touches-of d m) among)))))
       (all-at (λ (x : Change). runsAt (cell σ (x .history) (S .before)) x) (d .changes) (ran (S .before) d (S .behind) (S .split)) x m))
 
   left-mem : (M : ℕ) (l : List Did) (d : Did) → Mem d (leftOf M l ks) → Mem d l
@@ -205,7 +207,8 @@ module _ (σ : Base) (log : List Did) (ks : List ℕ)
   left-mem M [] d m = m
   left-mem M (x ∷ l) d m = go (isAmong (suc M) ks) m (λ q. left-mem (suc M) l d q)
     where
-      go : (t : Bool) → Mem d (cond t (leftOf (suc M) l ks) (x ∷ leftOf (suc M) l ks)) → (Mem d (leftOf (suc M) l ks) → Mem d l) → Mem d (x ∷ l)
+      go : (t : Bool) → Mem d (cond t (leftOf (suc M) l ks) (x ∷ leftOf (suc M) l ks)) → (Mem d (leftOf (suc M) l ks) → Mem d l) →
+          Mem d (x ∷ l)
       go true q below = there (below q)
       go false q below = ⊎-elim (λ z. here z) (λ z. there (below z)) (List·Memᴰ·cases-cons q)
 
@@ -216,6 +219,7 @@ module _ (σ : Base) (log : List Did) (ks : List ℕ)
   unfolding canRunWith
   left-places ran once a d b e x m =
       let p = runs-place (cell σ (x .history) a) x
-        (all-at (λ (y : Change). runsAt (cell σ (y .history) a) y) (d .changes) (left-runs ran a d b e) x m) in
-      let q = place-is σ (x .history) a (λ f w. once f (left-mem N log f (subst (λ (l : List Did). Mem f l) (sym e) (Memᴰ·append-left (d ∷ b) w)))) in
+      (all-at (λ (y : Change). runsAt (cell σ (y .history) a) y) (d .changes) (left-runs ran a d b e) x m) in
+      let q = place-is σ (x .history) a (λ f w. once f (left-mem N log f (subst (λ (l : List Did). Mem f l) (sym e) (Memᴰ·append-left
+      (d ∷ b) w)))) in
       omega (arith, p, q)

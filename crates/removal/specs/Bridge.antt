@@ -1,144 +1,32 @@
 -- What the code's walk removes is what the paper's rules remove: from a line along a history every later line is reached, and round a
 -- transaction each of its lines.
 use mathlib.Core.Path.{_≡_, refl, sym, ap, _∙_, subst}
-use mathlib.Core.Logic.{_⊎_, inl, inr, ⊎-elim}
-use mathlib.Core.Bool.{Bool, true, false, not, _&&_}
+use mathlib.Core.Logic.{⊎-elim}
+use mathlib.Core.Bool.{_&&_}
 use mathlib.Core.List.{List, [], _∷_, map}
 use mathlib.Core.List.{List·Memᴰ as Mem, List·Memᴰ·head as head-of, List·Memᴰ·tail as tail-of, List·Memᴰ·not-nil, List·Memᴰ·cases-cons}
 use Prim.Native.Nat.{ℕ, zero, suc, _+_, _-_, _*_, _/_, _%_, _<_, _≤_}
-use native.Mathlib.Nat.{eq-or-lt-of-le, not-suc-le-zero}
+use native.Mathlib.Nat.{eq-or-lt-of-le}
 use native.Mathlib.Omega.{arith}
-use borrow.Author.Tests.{eq-eqb}
-use lib.Dec.{T, eqb, ltb, leb, ltb→lt, leb→le, lt→ltb}
-use lib.ListN.{length, getD, List·getD-map}
+use lib.Dec.{T, ltb, leb, ltb→lt, leb→le, lt→ltb}
+use lib.ListN.{length, getD}
 use Rattle.forms.specs.Forms.{Change, Did}
 use Rattle.forms.specs.Limits.{baseTop}
-use Rattle.forms.specs.ListLaws.{true-T, and-intro, and-left, and-right}
+use Rattle.forms.specs.ListLaws.{and-intro, and-left, and-right}
 use Rattle.forms.specs.Read.{noDid}
 use Rattle.rules.specs.Book.{touches}
 use Rattle.rules.specs.BookLaws.{touches-of, touches-at}
 use Rattle.recovery.specs.Claim.{shares}
 use Rattle.recovery.specs.Ending.{shares-of, shares-at}
-use Rattle.recovery.specs.Removal.{isLine, lineAt, Pair, pairsOf, byHistory, byTransaction, Removed}
+use Rattle.recovery.specs.Removal.{isLine, lineAt, pairsOf, byHistory, byTransaction, Removed}
 use Rattle.recovery.specs.Removal as rule
-use Rattle.recovery.specs.RemovalLaws.{Named, line-of, line-at, Together, together-at, together-of, removed-line}
+use Rattle.recovery.specs.RemovalLaws.{Named, line-of, line-at, together-at, together-of, removed-line}
 use Rattle.removal.specs.Chains.{countOf, keyAt, Found, Ring}
-use Rattle.removal.specs.ChainLaws.{same-or, less-or, ring-next, ring-again, ring-same}
-use Rattle.removal.specs.Fall.{Net, net, linesIn, lineIn, Takes, onward, around, Fallen, itself, taken, Placed, Lost}
+use Rattle.removal.specs.ChainLaws.{less-or, ring-next, ring-again, ring-same}
+use Rattle.removal.specs.Fall.{Net, net, linesIn, lineIn, onward, around, Fallen, itself, taken, Placed, Lost}
 use Rattle.removal.specs.Names.{known, PairsKnown, LostKnown}
 use Rattle.removal.specs.Slots.{historyAt, SlotsAre}
-
--- ### Lists
-
--- where an element stands
-pub record At (l : List ℕ) (x : ℕ) : Type 0 where
-  pub place : ℕ
-  pub within : place < length l
-  pub is : getD l place 0 ≡ x
-
-pub mem-place : (x : ℕ) (l : List ℕ) → Mem x l → At l x
-mem-place x [] m = absurd (List·Memᴰ·not-nil m)
-mem-place x (y ∷ l) m = go (List·Memᴰ·cases-cons m) (λ k. mem-place x l k)
-  where
-    go : (x ≡ y) ⊎ Mem x l → (Mem x l → At l x) → At (y ∷ l) x
-    go (inl e) below = record { place = 0; within = omega arith; is = sym e }
-    go (inr k) below = let q = below k in record { place = suc (q .place); within = omega (arith, q .within); is = q .is }
-
-place-mem : (l : List ℕ) (p : ℕ) → p < length l → Mem (getD l p 0) l
-place-mem [] p lt = absurd (not-suc-le-zero lt)
-place-mem (y ∷ l) zero lt = head-of refl
-place-mem (y ∷ l) (suc p) lt = tail-of (place-mem l p (omega arith))
-
--- ### Pairs
-
--- pair p of some numbers
-abbrev pairAt : List ℕ → ℕ → Pair
-pairAt ws p = record { line = keyAt ws 0 p; transaction = keyAt ws 1 p }
-
--- where a pair stands
-pub record PairAt (ws : List ℕ) (x : Pair) : Type 0 where
-  pub place : ℕ
-  pub within : place < countOf ws
-  pub line : keyAt ws 0 place ≡ x .line
-  pub transaction : keyAt ws 1 place ≡ x .transaction
-
-key-later : (ws : List ℕ) (k t c p : ℕ) → keyAt (k ∷ t ∷ ws) c (suc p) ≡ keyAt ws c p
-key-later ws k t c p = ap (λ (i : ℕ). getD (k ∷ t ∷ ws) i 0) (let e : 2 * suc p + c ≡ suc (suc (2 * p + c)) = omega arith in e)
-
-pub pair-place : (ws : List ℕ) (x : Pair) → Mem x (pairsOf ws) → PairAt ws x
-unfolding pairsOf
-pair-place [] x m = absurd (List·Memᴰ·not-nil m)
-pair-place (k ∷ []) x m = absurd (List·Memᴰ·not-nil m)
-pair-place (k ∷ t ∷ ws) x m = go (List·Memᴰ·cases-cons m) (λ i. pair-place ws x i)
-  where
-    go : (x ≡ record { line = k; transaction = t }) ⊎ Mem x (pairsOf ws) → (Mem x (pairsOf ws) → PairAt ws x) → PairAt (k ∷ t ∷ ws) x
-    go (inl e) below =
-        record {
-          place = 0;
-          within = omega arith;
-          line = sym (ap (λ (y : Pair). y .line) e);
-          transaction = sym (ap (λ (y : Pair). y .transaction) e);
-        }
-    go (inr i) below =
-        let q = below i in
-        record {
-          place = suc (q .place);
-          within = omega (arith, q .within);
-          line = key-later ws k t 0 (q .place) ∙ q .line;
-          transaction = key-later ws k t 1 (q .place) ∙ q .transaction;
-        }
-
-pub place-pair : (ws : List ℕ) (p : ℕ) → p < countOf ws → Mem (pairAt ws p) (pairsOf ws)
-unfolding pairsOf
-place-pair [] p lt = absurd (omega arith)
-place-pair (k ∷ []) p lt = absurd (omega arith)
-place-pair (k ∷ t ∷ ws) zero lt = head-of refl
-place-pair (k ∷ t ∷ ws) (suc p) lt =
-    tail-of (subst (λ (y : Pair). Mem y (pairsOf ws)) (sym same) (place-pair ws p (omega arith)))
-  where
-    same : pairAt (k ∷ t ∷ ws) (suc p) ≡ pairAt ws p
-    same = λ i. record { line = key-later ws k t 0 p i; transaction = key-later ws k t 1 p i }
-
--- ### The next pair with a key is somewhere
-
-record Next (ws : List ℕ) (c key from : ℕ) : Type 0 where
-  at : ℕ
-  found : Found ws c key from at
-
-found-some : (ws : List ℕ) (c key fuel from : ℕ) → from ≤ countOf ws → countOf ws ≤ from + fuel → Next ws c key from
-found-some ws c key zero from a b =
-    record {
-      at = from;
-      found = record { low = omega arith; within = a; passed = λ s x y e. omega (arith, x, y); here = λ l. absurd (omega (arith, l, b)) };
-    }
-found-some ws c key (suc fuel) from a b = ⊎-elim
-  (λ l. ⊎-elim
-    (λ e. record {
-      at = from;
-      found = record { low = omega arith; within = a; passed = λ s x y e′. omega (arith, x, y); here = λ z. e };
-    })
-    (λ ne. let q = found-some ws c key fuel (suc from) l (omega (arith, b)) in record {
-      at = q .at;
-      found = record {
-        low = omega (arith, q .found .low);
-        within = q .found .within;
-        passed = λ s x y e. ⊎-elim (λ z. ne (ap (keyAt ws c) z ∙ e)) (λ z. q .found .passed s z y e) (eq-or-lt-of-le x);
-        here = q .found .here;
-      };
-    })
-    (same-or (keyAt ws c from) key))
-  (λ l. record {
-    at = from;
-    found = record { low = omega arith; within = a; passed = λ s x y e. omega (arith, x, y); here = λ z. absurd (omega (arith, z, l)) };
-  })
-  (less-or from (countOf ws))
-
-next-of : (ws : List ℕ) (c key from : ℕ) → from ≤ countOf ws → Next ws c key from
-next-of ws c key from a = found-some ws c key (countOf ws) from a (omega arith)
-
--- one with the key bounds it
-next-most : (ws : List ℕ) (c key from r q : ℕ) → Found ws c key from r → from ≤ q → keyAt ws c q ≡ key → r ≤ q
-next-most ws c key from r q F a e = ⊎-elim (λ l. absurd (F .passed q a l e)) (λ l. l) (less-or q r)
+use Rattle.removal.specs.PairLaws.{mem-place, place-mem, pairAt, pair-place, place-pair, next-of, next-most}
 
 -- ### Histories of a did line
 
@@ -146,7 +34,8 @@ history-touch : (d : Did) (u h : ℕ) → historyAt d u ≡ h → h < 16 → T (
 unfolding historyAt
 history-touch d u h e lt = go (d .changes) u (λ x m. touches-of d m) e
   where
-    go : (xs : List Change) (u : ℕ) → ((x : Change) → Mem x xs → T (touches (x .history) d)) → getD (map (λ (x : Change). x .history) xs) u 16 ≡ h →
+    go : (xs : List Change) (u : ℕ) → ((x : Change) → Mem x xs → T (touches (x .history) d)) →
+        getD (map (λ (x : Change). x .history) xs) u 16 ≡ h →
         T (touches h d)
     go [] u f e′ = absurd (omega (arith, e′, lt))
     go (x ∷ xs) zero f e′ = subst (λ (k : ℕ). T (touches k d)) e′ (f x (head-of refl))
@@ -165,9 +54,9 @@ touch-history d h t = let q = touches-at h d t in go (d .changes) (q .0) (q .1) 
         ((u : ℕ) → u < length xs → getD (map (λ (x : Change). x .history) xs) u 16 ≡ h → Touch d h) → Touch d h
     go [] x m e f = absurd (List·Memᴰ·not-nil m)
     go (y ∷ xs) x m e f = ⊎-elim
-      (λ z. f 0 (omega arith) (ap (λ (c : Change). c .history) (sym z) ∙ e))
-      (λ k. go xs x k e (λ u l p. f (suc u) (omega (arith, l)) p))
-      (List·Memᴰ·cases-cons m)
+        (λ z. f 0 (omega arith) (ap (λ (c : Change). c .history) (sym z) ∙ e))
+        (λ k. go xs x k e (λ u l p. f (suc u) (omega (arith, l)) p))
+        (List·Memᴰ·cases-cons m)
 
 -- ### The walk and the rules
 
@@ -210,8 +99,11 @@ module _ (N : ℕ) (log : List Did) (slots pairs lost : List ℕ) (L : Laid N lo
 
   known-at : (k : ℕ) → T (known N (N + length log) k) → (N < k) × (k ≤ N + length log)
   unfolding known
-  known-at k t =
-      (ltb→lt N k (and-left (ltb N k) (leb k (N + length log)) t), leb→le k (N + length log) (and-right (ltb N k) (leb k (N + length log)) t))
+  known-at k t = (
+    ltb→lt N k (and-left (ltb N k) (leb k (N + length log)) t),
+    leb→le k (N + length log) (and-right (ltb N k) (leb k
+        (N + length log)) t),
+  )
 
   pub laid-placed : Placed g
   laid-placed =
@@ -242,18 +134,19 @@ module _ (N : ℕ) (log : List Did) (slots pairs lost : List ℕ) (L : Laid N lo
       Found slots 1 (keyAt slots 1 p) (suc p) q → q < countOf slots → Out (N + 1 + q / 4)
   unfolding byHistory
   sound-onward k p q r lk a b h F l = ⊎-elim
-    (λ e. subst Out (let z : N + 1 + k ≡ N + 1 + q / 4 = omega (arith, e) in z) r)
-    (λ lt. rule.later r
-      (and-intro (ltb (N + 1 + k) (N + 1 + q / 4) && isLine N log (N + 1 + q / 4)) (shares (lineAt N log (N + 1 + k)) (lineAt N log (N + 1 + q / 4)))
-        (and-intro (ltb (N + 1 + k) (N + 1 + q / 4)) (isLine N log (N + 1 + q / 4))
-          (lt→ltb (N + 1 + k) (N + 1 + q / 4) (omega (arith, lt)))
-          (line-of N log (N + 1 + q / 4) (omega arith) (omega (arith, l, slots-are))))
-        (shares-of (keyAt slots 1 p) (lineAt N log (N + 1 + k)) (lineAt N log (N + 1 + q / 4))
-          (subst (λ (d : Did). T (touches (keyAt slots 1 p) d)) (sym (line-here (q / 4)))
-            (history-touch (getD log (q / 4) noDid) (q % 4) (keyAt slots 1 p) (sym (slot-history q l) ∙ F .here l) h))
-          (subst (λ (d : Did). T (touches (keyAt slots 1 p) d)) (sym (line-here k ∙ own))
-            (history-touch (getD log (p / 4) noDid) (p % 4) (keyAt slots 1 p) (sym (slot-history p lp)) h)))))
-    (eq-or-lt-of-le (let c = F .low in let z : k ≤ q / 4 = omega (arith, c, a) in z))
+      (λ e. subst Out (let z : N + 1 + k ≡ N + 1 + q / 4 = omega (arith, e) in z) r)
+      (λ lt. rule.later r
+      (and-intro (ltb (N + 1 + k) (N + 1 + q / 4) && isLine N log (N + 1 + q / 4)) (shares (lineAt N log (N + 1 + k)) (lineAt N log
+      (N + 1 + q / 4)))
+      (and-intro (ltb (N + 1 + k) (N + 1 + q / 4)) (isLine N log (N + 1 + q / 4))
+      (lt→ltb (N + 1 + k) (N + 1 + q / 4) (omega (arith, lt)))
+      (line-of N log (N + 1 + q / 4) (omega arith) (omega (arith, l, slots-are))))
+      (shares-of (keyAt slots 1 p) (lineAt N log (N + 1 + k)) (lineAt N log (N + 1 + q / 4))
+      (subst (λ (d : Did). T (touches (keyAt slots 1 p) d)) (sym (line-here (q / 4)))
+      (history-touch (getD log (q / 4) noDid) (q % 4) (keyAt slots 1 p) (sym (slot-history q l) ∙ F .here l) h))
+      (subst (λ (d : Did). T (touches (keyAt slots 1 p) d)) (sym (line-here k ∙ own))
+      (history-touch (getD log (p / 4) noDid) (p % 4) (keyAt slots 1 p) (sym (slot-history p lp)) h)))))
+      (eq-or-lt-of-le (let c = F .low in let z : k ≤ q / 4 = omega (arith, c, a) in z))
     where
       lp : p < countOf slots
       lp = omega (arith, b, lk, slots-are)
@@ -283,7 +176,8 @@ module _ (N : ℕ) (log : List Did) (slots pairs lost : List ℕ) (L : Laid N lo
 
   pub fallen-out : (k : ℕ) → Fallen g lost k → Out (N + 1 + k)
   fallen-out k (itself p l) =
-      rule.itself (subst (λ (x : ℕ). Mem x lost) (let z = laid-lost .above p l in let e : getD lost p 0 ≡ N + 1 + k = omega (arith, z) in e) (place-mem lost p l))
+      rule.itself (subst (λ (x : ℕ). Mem x lost) (let z = laid-lost .above p l in let e : getD lost p 0 ≡ N + 1 + k = omega
+      (arith, z) in e) (place-mem lost p l))
   fallen-out k (taken {k = i} r (onward p q a b h F l e)) =
       subst (λ (x : ℕ). Out (N + 1 + x)) (sym (slot-line q l) ∙ e) (sound-onward i p q (fallen-out i r) (fallen-line i r) a b h F l)
   fallen-out k (taken {k = i} r (around p q l h R e)) =
@@ -303,8 +197,8 @@ module _ (N : ℕ) (log : List Did) (slots pairs lost : List ℕ) (L : Laid N lo
       let most = next-most slots 1 (keyAt slots 1 s) (suc s) (n .at) t (n .found) a e in
       let lq : n .at < countOf slots = omega (arith, most, l) in
       let down : Down (n .at / 4) =
-        subst Down (slot-line (n .at) lq)
-        (taken r (onward s (n .at) (omega arith) (omega arith) h (n .found) lq refl)) in
+      subst Down (slot-line (n .at) lq)
+      (taken r (onward s (n .at) (omega arith) (omega arith) h (n .found) lq refl)) in
       let same : keyAt slots 1 (n .at) ≡ keyAt slots 1 s = n .found .here lq in
       let low = n .found .low in
       ⊎-elim
@@ -335,31 +229,33 @@ module _ (N : ℕ) (log : List Did) (slots pairs lost : List ℕ) (L : Laid N lo
       (eq-or-lt-of-le most)
 
   -- or behind the last one from the first again
-  round : (fuel p q : ℕ) → Pair-down p → p < countOf pairs → countOf pairs ≤ p + fuel → q ≤ p → keyAt pairs 1 q ≡ keyAt pairs 1 p → Pair-down q
+  round : (fuel p q : ℕ) → Pair-down p → p < countOf pairs → countOf pairs ≤ p + fuel → q ≤ p → keyAt pairs 1 q ≡ keyAt pairs 1 p →
+      Pair-down q
   round zero p q r l b a e = absurd (omega (arith, l, b))
   round (suc fuel) p q r l b a e =
       let n = next-of pairs 1 (keyAt pairs 1 p) (suc p) l in
       let low = n .found .low in
       ⊎-elim
       (λ z. let same : keyAt pairs 1 (n .at) ≡ keyAt pairs 1 p = n .found .here z in
-        round fuel (n .at) q (ring-down p (n .at) l r (ring-next pairs p (n .at) (n .found) z)) z (omega (arith, low, b)) (omega (arith, low, a))
-          (e ∙ sym same))
+      round fuel (n .at) q (ring-down p (n .at) l r (ring-next pairs p (n .at) (n .found) z)) z (omega (arith, low, b)) (omega
+      (arith, low, a))
+      (e ∙ sym same))
       (λ z. let f = next-of pairs 1 (keyAt pairs 1 p) 0 (omega arith) in
-        let R = ring-again pairs p (n .at) (f .at) l (n .found) z (f .found) in
-        let down = ring-down p (f .at) l r R in
-        let same : keyAt pairs 1 (f .at) ≡ keyAt pairs 1 p = ring-same pairs p (f .at) R in
-        let most = next-most pairs 1 (keyAt pairs 1 p) 0 (f .at) q (f .found) (omega arith) e in
-        ⊎-elim
-        (λ y. subst Pair-down y down)
-        (λ y. forward (countOf pairs) (f .at) q down y (omega (arith, a, l)) (omega (arith, a, l)) (e ∙ sym same))
-        (eq-or-lt-of-le most))
+      let R = ring-again pairs p (n .at) (f .at) l (n .found) z (f .found) in
+      let down = ring-down p (f .at) l r R in
+      let same : keyAt pairs 1 (f .at) ≡ keyAt pairs 1 p = ring-same pairs p (f .at) R in
+      let most = next-most pairs 1 (keyAt pairs 1 p) 0 (f .at) q (f .found) (omega arith) e in
+      ⊎-elim
+      (λ y. subst Pair-down y down)
+      (λ y. forward (countOf pairs) (f .at) q down y (omega (arith, a, l)) (omega (arith, a, l)) (e ∙ sym same))
+      (eq-or-lt-of-le most))
       (less-or (n .at) (countOf pairs))
 
   ring-all : (p q : ℕ) → Pair-down p → p < countOf pairs → q < countOf pairs → keyAt pairs 1 q ≡ keyAt pairs 1 p → Pair-down q
   ring-all p q r lp lq e = ⊎-elim
-    (λ z. forward (countOf pairs) p q r z (omega (arith, lq)) lq e)
-    (λ z. round (countOf pairs) p q r lp (omega arith) z e)
-    (less-or p q)
+      (λ z. forward (countOf pairs) p q r z (omega (arith, lq)) lq e)
+      (λ z. round (countOf pairs) p q r lp (omega arith) z e)
+      (less-or p q)
 
   down-later : (k m : ℕ) → Down (k - suc N) → N < k → T (byHistory N log k m) → Down (m - suc N)
   unfolding byHistory lineAt
@@ -369,7 +265,8 @@ module _ (N : ℕ) (log : List Did) (slots pairs lost : List ℕ) (L : Laid N lo
       let lm = line-at N log m (and-right (ltb k m) (isLine N log m) both) in
       let i = k - suc N in
       let j = m - suc N in
-      let S = shares-at (getD log i noDid) (getD log j noDid) (and-right (ltb k m && isLine N log m) (shares (lineAt N log k) (lineAt N log m)) t) in
+      let S = shares-at (getD log i noDid) (getD log j noDid) (and-right (ltb k m && isLine N log m) (shares (lineAt N log k)
+      (lineAt N log m)) t) in
       let a = touch-history (getD log i noDid) (S .0) (S .2) in
       let b = touch-history (getD log j noDid) (S .0) (S .1) in
       let li : i < length log = omega (arith, lt, lm .1, nk) in
@@ -384,8 +281,9 @@ module _ (N : ℕ) (log : List Did) (slots pairs lost : List ℕ) (L : Laid N lo
       let ku : keyAt slots 1 u ≡ S .0 = at-slot j (b .update) lb lu ∙ b .is in
       let h : S .0 < 16 = subst (λ (x : ℕ). x < 16) (a .is) (L .histories i (a .update) li (a .within)) in
       subst Down (let e : u / 4 ≡ j = omega (arith, lb) in e)
-      (along (countOf slots) s u (subst Down (let e : i ≡ s / 4 = omega (arith, la) in e) r) (omega (arith, la, lt, nk)) (omega (arith, lu)) lu
-        (subst (λ (x : ℕ). x < 16) (sym ks) h) (ku ∙ sym ks))
+      (along (countOf slots) s u (subst Down (let e : i ≡ s / 4 = omega (arith, la) in e) r) (omega (arith, la, lt, nk)) (omega
+      (arith, lu)) lu
+      (subst (λ (x : ℕ). x < 16) (sym ks) h) (ku ∙ sym ks))
     where
       at-slot : (i u : ℕ) → u < 4 → 4 * i + u < countOf slots → keyAt slots 1 (4 * i + u) ≡ historyAt (getD log i noDid) u
       at-slot i u l w =
@@ -401,22 +299,23 @@ module _ (N : ℕ) (log : List Did) (slots pairs lost : List ℕ) (L : Laid N lo
       let ea : keyAt pairs 0 (a .place) ≡ k = a .line ∙ S .its-line in
       let eb : keyAt pairs 0 (b .place) ≡ m = b .line ∙ S .other-line in
       subst Down (let e : lineIn N pairs (b .place) ≡ m - suc N = omega (arith, eb) in e)
-      (ring-all (a .place) (b .place) (subst Down (let e : k - suc N ≡ lineIn N pairs (a .place) = omega (arith, ea) in e) r) (a .within) (b .within)
-        (b .transaction ∙ S .same ∙ sym (a .transaction)))
+      (ring-all (a .place) (b .place) (subst Down (let e : k - suc N ≡ lineIn N pairs (a .place) = omega (arith, ea) in e) r)
+      (a .within) (b .within)
+      (b .transaction ∙ S .same ∙ sym (a .transaction)))
 
   all-named : Named N log (pairsOf pairs) lost
   all-named =
       record {
         pairs = λ x m.
-          let q = pair-place pairs x m in
-          let w = known-at (keyAt pairs 0 (q .place)) (L .pairsKnown (q .place) (q .within)) in
-          let e = q .line in
-          line-of N log (x .line) (omega (arith, w .0, e)) (omega (arith, w .1, e));
+            let q = pair-place pairs x m in
+            let w = known-at (keyAt pairs 0 (q .place)) (L .pairsKnown (q .place) (q .within)) in
+            let e = q .line in
+            line-of N log (x .line) (omega (arith, w .0, e)) (omega (arith, w .1, e));
         lines = λ k m.
-          let q = mem-place k lost m in
-          let w = known-at (getD lost (q .place) 0) (L .lostKnown (q .place) (q .within)) in
-          let e = q .is in
-          line-of N log k (omega (arith, w .0, e)) (omega (arith, w .1, e));
+            let q = mem-place k lost m in
+            let w = known-at (getD lost (q .place) 0) (L .lostKnown (q .place) (q .within)) in
+            let e = q .is in
+            line-of N log k (omega (arith, w .0, e)) (omega (arith, w .1, e));
       }
 
   above : (k : ℕ) → Out k → N < k
@@ -425,6 +324,7 @@ module _ (N : ℕ) (log : List Did) (slots pairs lost : List ℕ) (L : Laid N lo
   pub out-fallen : (k : ℕ) → N < k → Out k → Down (k - suc N)
   out-fallen k l (rule.itself m) =
       let q = mem-place k lost m in
-      subst Down (let e : getD lost (q .place) 0 - N - 1 ≡ k - suc N = (let z = q .is in omega (arith, z)) in e) (itself (q .place) (q .within))
+      subst Down (let e : getD lost (q .place) 0 - N - 1 ≡ k - suc N = (let z = q .is in omega (arith, z)) in e) (itself (q .place)
+      (q .within))
   out-fallen k l (rule.later {k = i} r t) = let li = above i r in down-later i k (out-fallen i li r) li t
   out-fallen k l (rule.together {k = i} r t) = down-together i k (out-fallen i (above i r) r) t

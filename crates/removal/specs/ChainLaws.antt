@@ -3,14 +3,15 @@ use mathlib.Core.Path.{_≡_, refl, sym, ap, _∙_, subst}
 use mathlib.Core.Logic.{_⊎_, inl, inr, ⊎-elim}
 use mathlib.Core.Bool.{Bool, true, false, cond}
 use mathlib.Core.List.{List}
-use Prim.Native.Nat.{ℕ, zero, suc, _+_, _-_, _*_, _/_, _%_, _<_, _≤_}
+use Prim.Native.Nat.{ℕ, suc, _+_, _-_, _%_, _<_, _≤_}
 use native.Mathlib.Nat.{eq-or-lt-of-le}
 use native.Mathlib.Omega.{arith}
 use borrow.Author.Tests.{lt-ltb, le-ltb, eqb-true, eqb-false, ltb-true, ltb-false}
 use lib.Dec.{eqb, ltb}
-use lib.ListN.{length, getD, set, length-set}
+use lib.ListN.{getD, set, length-set}
 use lib.Seq.{getD-set-same, getD-set-other}
-use Rattle.removal.specs.Chains.{countOf, keyAt, bucket, ChainedOf, Onward, Chained, ChainedFrom, Filled, afterIn, Starts, Found, FindsTo, Ring}
+use Rattle.removal.specs.Chains.{countOf, keyAt, bucket, ChainedOf, Onward, Chained, ChainedFrom, Filled, afterIn, Starts, Found}
+use Rattle.removal.specs.Chains.{FindsTo, Ring}
 
 pub same-or : (m n : ℕ) → (m ≡ n) ⊎ (m ≡ n → ⊥)
 same-or m n = go (eqb m n) refl
@@ -33,9 +34,9 @@ filled-next m b ch lt F =
     record {
       size = length-set ch b m ∙ F .size;
       heads = λ k l. ⊎-elim
-        (λ e. ap (λ (x : ℕ). getD (set ch b m) x 0) e ∙ getD-set-same ch b m 0 (omega (arith, F .size, lt)))
-        (λ ne. getD-set-other ch b k m 0 ne ∙ F .heads k (at-less k b l ne))
-        (same-or k b);
+          (λ e. ap (λ (x : ℕ). getD (set ch b m) x 0) e ∙ getD-set-same ch b m 0 (omega (arith, F .size, lt)))
+          (λ ne. getD-set-other ch b k m 0 ne ∙ F .heads k (at-less k b l ne))
+          (same-or k b);
     }
   where
     at-less : (k b : ℕ) → k < b + 1 → (k ≡ b → ⊥) → k < b
@@ -102,9 +103,9 @@ module _ (ws : List ℕ) (c p : ℕ) (ch : List ℕ) (C : ChainedFrom ws c p ch)
         low = omega (arith, O .low);
         high = O .high;
         passed = λ s x y e. ⊎-elim
-          (λ h. ne (sym e ∙ ap (λ (z : ℕ). bucket (keyAt ws c z)) (sym h)))
-          (λ h. O .passed s (omega (arith, h, pos)) y e)
-          (eq-or-lt-of-le x);
+            (λ h. ne (sym e ∙ ap (λ (z : ℕ). bucket (keyAt ws c z)) (sym h)))
+            (λ h. O .passed s (omega (arith, h, pos)) y e)
+            (eq-or-lt-of-le x);
         here = O .here;
       }
 
@@ -118,26 +119,26 @@ module _ (ws : List ℕ) (c p : ℕ) (ch : List ℕ) (C : ChainedFrom ws c p ch)
         most = omega (arith, C .most);
         within = omega (arith, C .within);
         heads = λ k l. ⊎-elim
-          (λ e. subst (λ (x : ℕ). Onward ws c q x (getD next x 0)) (sym e) (subst (λ (x : ℕ). Onward ws c q b x) (sym own-head) on-own))
-          (λ ne. subst (λ (x : ℕ). Onward ws c q k x) (sym (link-at k ne (λ e. omega (arith, e, l)))) (on-other k l ne))
-          (same-or k b);
+            (λ e. subst (λ (x : ℕ). Onward ws c q x (getD next x 0)) (sym e) (subst (λ (x : ℕ). Onward ws c q b x) (sym own-head) on-own))
+            (λ ne. subst (λ (x : ℕ). Onward ws c q k x) (sym (link-at k ne (λ e. omega (arith, e, l)))) (on-other k l ne))
+            (same-or k b);
         links = λ r x y z. ⊎-elim
-          (λ e. subst (λ (i : ℕ). Onward ws c (suc i) (bucket (keyAt ws c i)) (getD next (4096 + i) 0)) e
+            (λ e. subst (λ (i : ℕ). Onward ws c (suc i) (bucket (keyAt ws c i)) (getD next (4096 + i) 0)) e
             (subst (λ (i : ℕ). Onward ws c (suc q) b i) (sym own-link) on-link))
-          (λ h. subst (λ (i : ℕ). Onward ws c (suc r) (bucket (keyAt ws c r)) i)
+            (λ h. subst (λ (i : ℕ). Onward ws c (suc r) (bucket (keyAt ws c r)) i)
             (sym (link-at (4096 + r) (λ e. omega (arith, e, b-low)) (λ e. omega (arith, e, h))))
             (C .links r (omega (arith, h, pos)) y z))
-          (eq-or-lt-of-le x);
+            (eq-or-lt-of-le x);
         small = λ k l. ⊎-elim
-          (λ e. subst (λ (x : ℕ). getD next x 0 ≤ 12288) (sym e) (subst (λ (x : ℕ). x ≤ 12288) (sym own-head) (omega (arith, C .within))))
-          (λ ne. subst (λ (x : ℕ). x ≤ 12288) (sym (link-at k ne (λ e. omega (arith, e, l)))) (C .small k l))
-          (same-or k b);
+            (λ e. subst (λ (x : ℕ). getD next x 0 ≤ 12288) (sym e) (subst (λ (x : ℕ). x ≤ 12288) (sym own-head) (omega (arith, C .within))))
+            (λ ne. subst (λ (x : ℕ). x ≤ 12288) (sym (link-at k ne (λ e. omega (arith, e, l)))) (C .small k l))
+            (same-or k b);
         links-small = λ r x y z. ⊎-elim
-          (λ e. subst (λ (i : ℕ). getD next (4096 + i) 0 ≤ 12288) e (subst (λ (i : ℕ). i ≤ 12288) (sym own-link) (C .small b b-low)))
-          (λ h. subst (λ (i : ℕ). i ≤ 12288)
+            (λ e. subst (λ (i : ℕ). getD next (4096 + i) 0 ≤ 12288) e (subst (λ (i : ℕ). i ≤ 12288) (sym own-link) (C .small b b-low)))
+            (λ h. subst (λ (i : ℕ). i ≤ 12288)
             (sym (link-at (4096 + r) (λ e. omega (arith, e, b-low)) (λ e. omega (arith, e, h))))
             (C .links-small r (omega (arith, h, pos)) y z))
-          (eq-or-lt-of-le x);
+            (eq-or-lt-of-le x);
       }
 
 pub chained-done : (ws : List ℕ) (c p : ℕ) (ch : List ℕ) → ChainedFrom ws c p ch → p ≤ 0 → Chained ws c ch
@@ -156,19 +157,20 @@ pub finds-start : (ws : List ℕ) (c key from : ℕ) → Starts ws c key from �
 finds-start ws c key from S = record { low = omega arith; starts = S; passed = λ s x y e. omega (arith, x, y) }
 
 -- where a chain leads
-pub after-on : (ws : List ℕ) (c p : ℕ) (ch : List ℕ) → Chained ws c ch → p < countOf ws → Onward ws c (suc p) (bucket (keyAt ws c p)) (afterIn ch p)
+pub after-on : (ws : List ℕ) (c p : ℕ) (ch : List ℕ) → Chained ws c ch → p < countOf ws →
+    Onward ws c (suc p) (bucket (keyAt ws c p)) (afterIn ch p)
 unfolding afterIn
 after-on ws c p ch C lt = ⊎-elim
-  (λ h. subst (λ (b : Bool). Onward ws c (suc p) (bucket (keyAt ws c p)) (cond b (getD ch (4096 + p) 0) (p + 1))) (sym (lt-ltb p 12288 h))
+    (λ h. subst (λ (b : Bool). Onward ws c (suc p) (bucket (keyAt ws c p)) (cond b (getD ch (4096 + p) 0) (p + 1))) (sym (lt-ltb p 12288 h))
     (C .links p lt h))
-  (λ h. subst (λ (b : Bool). Onward ws c (suc p) (bucket (keyAt ws c p)) (cond b (getD ch (4096 + p) 0) (p + 1))) (sym (le-ltb p 12288 h))
+    (λ h. subst (λ (b : Bool). Onward ws c (suc p) (bucket (keyAt ws c p)) (cond b (getD ch (4096 + p) 0) (p + 1))) (sym (le-ltb p 12288 h))
     (record {
       low = omega arith;
       high = omega (arith, lt);
       passed = λ s x y e. omega (arith, x, y);
       here = λ x y. absurd (omega (arith, y, h));
     }))
-  (less-or p 12288)
+    (less-or p 12288)
 
 after-walks : (ch : List ℕ) (q : ℕ) → 12288 ≤ q → afterIn ch q ≡ q + 1
 unfolding afterIn
@@ -189,12 +191,12 @@ finds-next ws c key from q ch C F lt ne = ⊎-elim chained walked (less-or q 122
           low = omega (arith, F .low, O .low);
           starts = record { within = O .high; here = λ x y. O .here x y ∙ same };
           passed = λ s x y e. ⊎-elim
-            (λ l. F .passed s x l e)
-            (λ l. ⊎-elim
+              (λ l. F .passed s x l e)
+              (λ l. ⊎-elim
               (λ z. ne (ap (keyAt ws c) z ∙ e))
               (λ z. O .passed s z y (ap bucket e ∙ sym same))
               (eq-or-lt-of-le l))
-            (less-or s q);
+              (less-or s q);
         }
 
     walked : 12288 ≤ q → FindsTo ws c key from (afterIn ch q)
@@ -204,9 +206,9 @@ finds-next ws c key from q ch C F lt ne = ⊎-elim chained walked (less-or q 122
           low = omega (arith, F .low, one);
           starts = record { within = omega (arith, one, lt); here = λ x y. absurd (omega (arith, y, one, h)) };
           passed = λ s x y e. ⊎-elim
-            (λ l. F .passed s x l e)
-            (λ l. ne (ap (keyAt ws c) (let z : q ≡ s = omega (arith, l, y, one) in z) ∙ e))
-            (less-or s q);
+              (λ l. F .passed s x l e)
+              (λ l. ne (ap (keyAt ws c) (let z : q ≡ s = omega (arith, l, y, one) in z) ∙ e))
+              (less-or s q);
         }
 
 pub finds-here : (ws : List ℕ) (c key from q : ℕ) → FindsTo ws c key from q → q < countOf ws → keyAt ws c q ≡ key → Found ws c key from q
@@ -225,16 +227,17 @@ pub starts-first : (ws : List ℕ) (c key : ℕ) (ch : List ℕ) → Chained ws 
 starts-first ws c key ch C =
     let O = C .heads (key % 4096) (omega arith) in record { within = O .high; here = O .here }
 
-pub found-first : (ws : List ℕ) (c key r : ℕ) (ch : List ℕ) → Chained ws c ch → Found ws c key (getD ch (key % 4096) 0) r → Found ws c key 0 r
+pub found-first : (ws : List ℕ) (c key r : ℕ) (ch : List ℕ) → Chained ws c ch → Found ws c key (getD ch (key % 4096) 0) r →
+    Found ws c key 0 r
 found-first ws c key r ch C F =
     let O = C .heads (key % 4096) (omega arith) in
     record {
       low = omega arith;
       within = F .within;
       passed = λ s x y e. ⊎-elim
-        (λ l. O .passed s (omega arith) l (ap bucket e))
-        (λ l. F .passed s l y e)
-        (less-or s (getD ch (key % 4096) 0));
+          (λ l. O .passed s (omega arith) l (ap bucket e))
+          (λ l. F .passed s l y e)
+          (less-or s (getD ch (key % 4096) 0));
       here = F .here;
     }
 
@@ -242,7 +245,8 @@ found-first ws c key r ch C F =
 pub starts-further : (ws : List ℕ) (c p : ℕ) (ch : List ℕ) → Chained ws c ch → p < countOf ws → Starts ws c (keyAt ws c p) (afterIn ch p)
 starts-further ws c p ch C lt = let O = after-on ws c p ch C lt in record { within = O .high; here = O .here }
 
-pub found-further : (ws : List ℕ) (c p r : ℕ) (ch : List ℕ) → Chained ws c ch → p < countOf ws → Found ws c (keyAt ws c p) (afterIn ch p) r →
+pub found-further : (ws : List ℕ) (c p r : ℕ) (ch : List ℕ) → Chained ws c ch → p < countOf ws →
+    Found ws c (keyAt ws c p) (afterIn ch p) r →
     Found ws c (keyAt ws c p) (suc p) r
 found-further ws c p r ch C lt F =
     let O = after-on ws c p ch C lt in
@@ -250,9 +254,9 @@ found-further ws c p r ch C lt F =
       low = omega (arith, O .low, F .low);
       within = F .within;
       passed = λ s x y e. ⊎-elim
-        (λ l. O .passed s x l (ap bucket e))
-        (λ l. F .passed s l y e)
-        (less-or s (afterIn ch p));
+          (λ l. O .passed s x l (ap bucket e))
+          (λ l. F .passed s l y e)
+          (less-or s (afterIn ch p));
       here = F .here;
     }
 
@@ -260,9 +264,9 @@ found-further ws c p r ch C lt F =
 
 pub found-once : (ws : List ℕ) (c key from r r′ : ℕ) → Found ws c key from r → Found ws c key from r′ → r ≡ r′
 found-once ws c key from r r′ F G = ⊎-elim
-  (λ l. absurd (G .passed r (F .low) l (F .here (omega (arith, l, G .within)))))
-  (λ l. ⊎-elim (λ e. sym e) (λ h. absurd (F .passed r′ (G .low) h (G .here (omega (arith, h, F .within))))) (eq-or-lt-of-le l))
-  (less-or r r′)
+    (λ l. absurd (G .passed r (F .low) l (F .here (omega (arith, l, G .within)))))
+    (λ l. ⊎-elim (λ e. sym e) (λ h. absurd (F .passed r′ (G .low) h (G .here (omega (arith, h, F .within))))) (eq-or-lt-of-le l))
+    (less-or r r′)
 
 pub ring-next : (ws : List ℕ) (p r : ℕ) → Found ws 1 (keyAt ws 1 p) (suc p) r → r < countOf ws → Ring ws p r
 ring-next ws p r F lt = record { within = lt; next = r; behind = F; onward = λ x. refl; again = λ x. absurd (omega (arith, x, lt)) }
@@ -288,9 +292,9 @@ ring-once ws p q q′ R S =
 
 pub ring-same : (ws : List ℕ) (p q : ℕ) → Ring ws p q → keyAt ws 1 q ≡ keyAt ws 1 p
 ring-same ws p q R = ⊎-elim
-  (λ l. ap (keyAt ws 1) (R .onward l) ∙ R .behind .here l)
-  (λ l. R .again l .here (R .within))
-  (less-or (R .next) (countOf ws))
+    (λ l. ap (keyAt ws 1) (R .onward l) ∙ R .behind .here l)
+    (λ l. R .again l .here (R .within))
+    (less-or (R .next) (countOf ws))
 
 -- ### Values
 

@@ -1,16 +1,16 @@
 -- Laws of the marks: they only grow, what is newly marked is closed, and the number of lines not yet removed falls.
 use mathlib.Core.Path.{_≡_, refl, sym, ap, _∙_, subst}
-use mathlib.Core.Logic.{_⊎_, inl, inr, ⊎-elim}
+use mathlib.Core.Logic.{_⊎_, ⊎-elim}
 use mathlib.Core.List.{List, [], _∷_}
-use Prim.Native.Nat.{ℕ, zero, suc, _+_, _-_, _*_, _/_, _<_, _≤_}
+use Prim.Native.Nat.{ℕ, zero, suc, _+_, _-_, _*_, _<_, _≤_}
 use native.Mathlib.Nat.{le-refl, le-trans, le-of-suc-le-suc, suc-le-suc-iff, not-suc-le-zero, le-suc, eq-or-lt-of-le}
 use native.Mathlib.Omega.{arith}
-use lib.ListN.{length, getD, set, length-set, replicate, length-replicate, getD-replicate}
+use lib.ListN.{length, getD, set, length-set, replicate, length-replicate}
 use lib.Seq.{getD-set-same, getD-set-other}
 use Rattle.removal.specs.Chains.{countOf, keyAt, Found, Ring}
 use Rattle.removal.specs.ChainLaws.{same-or, less-or, found-once, ring-once}
 use Rattle.removal.specs.Fall.{Net, linesIn, lineIn, Takes, onward, around, Reach, here, on, Fallen, itself, taken, Gone, left}
-use Rattle.removal.specs.Fall.{Placed, Lost, Fit, LaterAt, Fell, FellLine, FellPair, Marked, SlotsTo, PairsTo, MarksTo}
+use Rattle.removal.specs.Fall.{Placed, Fit, LaterAt, Fell, FellLine, FellPair, Marked, SlotsTo, PairsTo, MarksTo}
 
 -- zero or not
 zero-or : (n : ℕ) → (n ≡ 0) ⊎ (n ≡ 0 → ⊥)
@@ -85,11 +85,11 @@ fell-line g i old new lt z a all = record { fell = whole; itself = mine }
         record {
           size = a .size ∙ length-set old i 1;
           grows = λ k h. ⊎-elim (λ e. absurd (h (ap (λ (n : ℕ). getD old n 0) e ∙ z)))
-            (λ ne. a .grows k (λ y. h (sym (old-at k ne) ∙ y))) (same-or k i);
+              (λ ne. a .grows k (λ y. h (sym (old-at k ne) ∙ y))) (same-or k i);
           closed = λ k j h y t. ⊎-elim (λ e. all j (subst (λ (n : ℕ). Takes g n j) e t))
-            (λ ne. a .closed k j h (old-at k ne ∙ y) t) (same-or k i);
+              (λ ne. a .closed k j h (old-at k ne ∙ y) t) (same-or k i);
           from = λ k h y. ⊎-elim (λ e. subst (λ (n : ℕ). Reach g i n) (sym e) here)
-            (λ ne. a .from k h (old-at k ne ∙ y)) (same-or k i);
+              (λ ne. a .from k h (old-at k ne ∙ y)) (same-or k i);
         }
 
 pub fit-on : (g : Net) (i : ℕ) (a b c old new : List ℕ) → Fit g a b c old → Fell g i old new → Fit g a b c new
@@ -122,7 +122,8 @@ pub slots-none : (g : Net) (i : ℕ) (m : List ℕ) → SlotsTo g i m m 0
 slots-none g i m =
     record { fell = fell-none g i m; within = omega arith; all = λ p q a b. absurd (omega (arith, a, b)) }
 
-module _ (g : Net) (i : ℕ) (old mid : List ℕ) (u q : ℕ) (S : SlotsTo g i old mid u) (lt : u < 4) (L : LaterAt (g .slots) (4 * i + u) q) where
+module _ (g : Net) (i : ℕ) (old mid : List ℕ) (u q : ℕ) (S : SlotsTo g i old mid u) (lt : u < 4) (L : LaterAt (g .slots)
+    (4 * i + u) q) where
   -- the slots before this one, or this
   last-or : (p : ℕ) → p < 4 * i + (u + 1) → (p ≡ 4 * i + u) ⊎ (p < 4 * i + u)
   last-or p l = eq-or-lt-of-le (omega arith)
@@ -134,17 +135,17 @@ module _ (g : Net) (i : ℕ) (old mid : List ℕ) (u q : ℕ) (S : SlotsTo g i o
         fell = S .fell;
         within = omega arith;
         all = λ p r a b h F z. ⊎-elim
-          (λ e. absurd (none p r e h F z))
-          (λ l. S .all p r a l h F z)
-          (last-or p b);
+            (λ e. absurd (none p r e h F z))
+            (λ l. S .all p r a l h F z)
+            (last-or p b);
       }
     where
       none : (p r : ℕ) → p ≡ 4 * i + u → keyAt (g .slots) 1 p < 16 → Found (g .slots) 1 (keyAt (g .slots) 1 p) (suc p) r →
           r < countOf (g .slots) → ⊥
       none p r e h F z =
           let G : Found (g .slots) 1 (keyAt (g .slots) 1 p) (suc p) q =
-            subst (λ (x : ℕ). Found (g .slots) 1 (keyAt (g .slots) 1 x) (suc x) q) (sym e)
-            (L .found (subst (λ (x : ℕ). keyAt (g .slots) 1 x < 16) e h)) in
+          subst (λ (x : ℕ). Found (g .slots) 1 (keyAt (g .slots) 1 x) (suc x) q) (sym e)
+          (L .found (subst (λ (x : ℕ). keyAt (g .slots) 1 x < 16) e h)) in
           omega (arith, found-once (g .slots) 1 (keyAt (g .slots) 1 p) (suc p) r q F G, z, le)
 
   taken-next : q < countOf (g .slots) → Takes g i (lineIn (g .base) (g .slots) q)
@@ -159,9 +160,9 @@ module _ (g : Net) (i : ℕ) (old mid : List ℕ) (u q : ℕ) (S : SlotsTo g i o
         fell = fell-then g i old mid new (S .fell) (fell-taken g i (lineIn (g .base) (g .slots) q) mid new (taken-next l) (D .fell));
         within = omega arith;
         all = λ p r a b h F z. ⊎-elim
-          (λ e. subst (λ (x : ℕ). Gone new (lineIn (g .base) (g .slots) x)) (sym (once p r e h F)) (D .itself))
-          (λ k. D .fell .grows (lineIn (g .base) (g .slots) r) (S .all p r a k h F z))
-          (last-or p b);
+            (λ e. subst (λ (x : ℕ). Gone new (lineIn (g .base) (g .slots) x)) (sym (once p r e h F)) (D .itself))
+            (λ k. D .fell .grows (lineIn (g .base) (g .slots) r) (S .all p r a k h F z))
+            (last-or p b);
       }
     where
       once : (p r : ℕ) → p ≡ 4 * i + u → keyAt (g .slots) 1 p < 16 → Found (g .slots) 1 (keyAt (g .slots) 1 p) (suc p) r → r ≡ q
@@ -194,12 +195,12 @@ pairs-next g i old mid new p r S lt D F =
       within = F .within;
       here = λ l. F .here l ∙ e;
       all = λ s q l h R. ⊎-elim
-        (λ k. D .fell .grows (lineIn (g .base) (g .pairs) q) (S .all s q k h R))
-        (λ k. ⊎-elim
+          (λ k. D .fell .grows (lineIn (g .base) (g .pairs) q) (S .all s q k h R))
+          (λ k. ⊎-elim
           (λ z. D .next q (subst (λ (x : ℕ). Ring (g .pairs) x q) (sym z) R))
           (λ z. absurd (F .passed s z l (h ∙ sym e)))
           (eq-or-lt-of-le k))
-        (less-or s p);
+          (less-or s p);
     }
 
 -- ### A line, and a pair
@@ -224,7 +225,7 @@ pair-done g p q old new j G lt R same fallen =
     let D : FellLine g (lineIn (g .base) (g .pairs) q) old new = subst (λ (x : ℕ). FellLine g x old new) same fallen in
     record {
       fell = fell-taken g (lineIn (g .base) (g .pairs) p) (lineIn (g .base) (g .pairs) q) old new
-        (around p q lt (let a : g .base < keyAt (g .pairs) 0 p = G .pairs p lt in omega (arith, a)) R refl) (D .fell);
+          (around p q lt (let a : g .base < keyAt (g .pairs) 0 p = G .pairs p lt in omega (arith, a)) R refl) (D .fell);
       next = λ r S. subst (λ (x : ℕ). Gone new (lineIn (g .base) (g .pairs) x)) (ring-once (g .pairs) p q r R S) (D .itself);
     }
 
@@ -278,9 +279,9 @@ marks-next g lost mid new n a lt b =
       sound = λ k h. ⊎-elim (λ z. reach-fallen (itself n lt) (b .fell .from k h z)) (λ o. a .sound k o) (zero-or (getD mid k 0));
       closed = λ k j h t. ⊎-elim (λ z. b .fell .closed k j h z t) (λ o. b .fell .grows j (a .closed k j o t)) (zero-or (getD mid k 0));
       all = λ p h. ⊎-elim
-        (λ l. b .fell .grows (getD lost p 0 - g .base - 1) (a .all p l))
-        (λ l. subst (λ (q : ℕ). Gone new (getD lost q 0 - g .base - 1)) (let e : n ≡ p = omega (arith, h, l) in e) (b .itself))
-        (less-or p n);
+          (λ l. b .fell .grows (getD lost p 0 - g .base - 1) (a .all p l))
+          (λ l. subst (λ (q : ℕ). Gone new (getD lost q 0 - g .base - 1)) (let e : n ≡ p = omega (arith, h, l) in e) (b .itself))
+          (less-or p n);
     }
 
 pub marks-done : (g : Net) (lost new : List ℕ) (n : ℕ) → MarksTo g lost new n → length lost ≤ n → Marked g lost new

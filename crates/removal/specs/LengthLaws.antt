@@ -1,14 +1,15 @@
 -- A did line has at least 22 bytes with its end, so a log of 65,536 bytes has at most 2,978 of them.
-use mathlib.Core.Path.{_≡_, refl, sym, ap, _∙_}
+use mathlib.Core.Path.{_≡_, refl}
 use mathlib.Core.List.{List, [], _∷_, _++_}
 use mathlib.Core.List.{List·Memᴰ as Mem, List·Memᴰ·head as head-of, List·Memᴰ·tail as tail-of}
-use Prim.Native.Nat.{ℕ, suc, _+_, _*_, _≤_, _<_}
+use Prim.Native.Nat.{ℕ, _*_, _≤_}
 use native.Mathlib.Omega.{arith}
 use lib.ListN.{length, length-append}
 use Rattle.forms.specs.Decimal.{digits}
 use Rattle.forms.specs.DecimalLaws.{digits-some}
 use Rattle.forms.specs.Words.{bytes}
-use Rattle.forms.specs.Forms.{Change, Did, Line, didLine, stableLine, fieldText, doneRuleText, changeText, itemsText, tailText, listText, didText, lineText}
+use Rattle.forms.specs.Forms.{Change, Did, Line, didLine, stableLine, fieldText, doneRuleText, changeText, itemsText, tailText, listText}
+use Rattle.forms.specs.Forms.{didText, lineText}
 use Rattle.forms.specs.declared.DoneRule.{DoneRule}
 use Rattle.forms.specs.declared.DoneRule.the-variants.{DidInc, DidSet, DidNot}
 use Rattle.rules.specs.CheckLaws.{formed-changes}
@@ -72,7 +73,8 @@ did-long n d F = go (d .changes) (formed-changes n (d .changes) (F .passes) .som
           length-append (digits (d .id)) (tailText changeText (x ∷ xs)),
         )
 
-pub dids-most : (n : ℕ) (lines : List Line) → ((d : Did) → Mem d (dids lines) → FormedDid n d) → 22 * length (dids lines) ≤ length (linesText lines)
+pub dids-most : (n : ℕ) (lines : List Line) → ((d : Did) → Mem d (dids lines) → FormedDid n d) →
+    22 * length (dids lines) ≤ length (linesText lines)
 unfolding linesText lineText
 dids-most n [] F = omega arith
 dids-most n (didLine d ∷ ls) F =

@@ -6,6 +6,7 @@ pub mod Slots
 pub mod SlotLaws
 pub mod Names
 pub mod NameLaws
+pub mod PairLaws
 pub mod Bridge
 pub mod Model
 pub mod LengthLaws

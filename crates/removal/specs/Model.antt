@@ -1,7 +1,7 @@
 -- What the report promises, and what is known of a log that was read.
 use mathlib.Core.Path.{_≡_}
 use mathlib.Core.List.{List, _++_}
-use Prim.Native.Nat.{ℕ, _+_, _-_, _≤_}
+use Prim.Native.Nat.{ℕ, _+_, _≤_}
 use lib.Dec.{T}
 use lib.ListN.{length, drop}
 use Rattle.forms.specs.Forms.{Did, Line}

@@ -1,14 +1,14 @@
 -- Laws of known numbers, and of the numbers named: one line more.
 use mathlib.Core.Path.{_≡_, refl, sym, ap, _∙_, subst}
-use mathlib.Core.Logic.{_⊎_, inl, inr, ⊎-elim}
+use mathlib.Core.Logic.{⊎-elim}
 use mathlib.Core.Bool.{Bool, true, false, not, cond, _&&_}
 use mathlib.Core.List.{List, [], _∷_, _++_, append-nil, append-assoc}
 use Prim.Native.Nat.{ℕ, zero, suc, _+_, _-_, _*_, _<_, _≤_}
 use native.Mathlib.Omega.{arith}
 use borrow.Author.Tests.{lt-ltb, le-ltb, eq-eqb, ne-eqb}
-use lib.Dec.{T, eqb, ltb, leb}
+use lib.Dec.{T, leb}
 use lib.ListN.{length, getD, set, drop, length-append, length-drop}
-use lib.Seq.{set-append-seam, set-append-left, drop-cons, set-at, take-at}
+use lib.Seq.{drop-cons, set-at}
 use Rattle.forms.specs.Lists.{keep}
 use Rattle.forms.specs.ListLaws.{keep-append, length-keep, true-T}
 use Rattle.forms.specs.declared.Refusal.the-variants.{NoRoom}
@@ -16,7 +16,7 @@ use Rattle.recovery.specs.Removal.{numbersFrom, tooLong}
 use Rattle.recovery.specs.RemovalLaws.{length-numbers}
 use Rattle.removal.specs.Chains.{keyAt}
 use Rattle.removal.specs.ChainLaws.{less-or}
-use Rattle.removal.specs.Names.{known, KnownIf, isMarked, names, WritesTo, Writes, Answers, AnswersIf, AnswersNothing, AnswersNames}
+use Rattle.removal.specs.Names.{known, KnownIf, isMarked, names, WritesTo, Writes, Answers, AnswersIf}
 use Rattle.removal.specs.FallLaws.{same-at}
 use Rattle.removal.specs.declared.Removals.the-variants.{Named, Refused}
 
@@ -33,9 +33,9 @@ known-below base done k h = ap (λ (b : Bool). b && leb k done) (sym (le-ltb bas
 pub known-next : (base done : ℕ) (f : ℕ → ℕ) (i : ℕ) → ((n : ℕ) → n < i → T (known base done (f n))) → T (known base done (f i)) →
     (n : ℕ) → n < i + 1 → T (known base done (f n))
 known-next base done f i before t n l = ⊎-elim
-  (λ h. before n h)
-  (λ h. subst (λ (x : ℕ). T (known base done (f x))) (let e : i ≡ n = omega (arith, h, l) in e) t)
-  (less-or n i)
+    (λ h. before n h)
+    (λ h. subst (λ (x : ℕ). T (known base done (f x))) (let e : i ≡ n = omega (arith, h, l) in e) t)
+    (less-or n i)
 
 pub known-said : (r b : Bool) → r ≡ b → r ≡ true → T b
 known-said r b e t = true-T b (sym e ∙ t)
@@ -45,7 +45,8 @@ known-unsaid r b e f t = subst T (sym e ∙ f) t
 
 pub known-pair : (base done : ℕ) (ws : List ℕ) (p : ℕ) (r : Bool) → r ≡ known base done (getD ws (2 * p) 0) → r ≡ true →
     T (known base done (keyAt ws 0 p))
-known-pair base done ws p r e t = subst (λ (x : ℕ). T (known base done x)) (same-at ws p) (known-said r (known base done (getD ws (2 * p) 0)) e t)
+known-pair base done ws p r e t = subst (λ (x : ℕ). T (known base done x)) (same-at ws p) (known-said r (known base done (getD ws
+    (2 * p) 0)) e t)
 
 pub known-not : (base done : ℕ) (ws : List ℕ) (p : ℕ) (r : Bool) → r ≡ known base done (getD ws (2 * p) 0) → r ≡ false →
     T (known base done (keyAt ws 0 p)) → ⊥
@@ -67,9 +68,11 @@ numbers-snoc : (N n : ℕ) → numbersFrom N (suc n) ≡ numbersFrom N n ++ (N +
 unfolding numbersFrom
 numbers-snoc N zero = ap (λ (x : ℕ). x ∷ []) (let e : suc N ≡ N + 1 + 0 = omega arith in e)
 numbers-snoc N (suc n) =
-    ap {B = List ℕ} (λ l. suc N ∷ l) (numbers-snoc (suc N) n ∙ ap (λ (x : ℕ). numbersFrom (suc N) n ++ x ∷ []) (let e : suc N + 1 + n ≡ N + 1 + suc n = omega arith in e))
+    ap {B = List ℕ} (λ l. suc N ∷ l) (numbers-snoc (suc N) n
+    ∙ ap (λ (x : ℕ). numbersFrom (suc N) n ++ x ∷ []) (let e : suc N + 1 + n ≡ N + 1 + suc n = omega arith in e))
 
-names-snoc : (base : ℕ) (gone : List ℕ) (i : ℕ) → names base gone (i + 1) ≡ names base gone i ++ keep (isMarked base gone) ((base + 1 + i) ∷ [])
+names-snoc : (base : ℕ) (gone : List ℕ) (i : ℕ) →
+    names base gone (i + 1) ≡ names base gone i ++ keep (isMarked base gone) ((base + 1 + i) ∷ [])
 unfolding names
 names-snoc base gone i =
     ap (λ (x : ℕ). keep (isMarked base gone) (numbersFrom base x)) (let e : i + 1 ≡ suc i = omega arith in e)
@@ -84,15 +87,17 @@ mark-at : (base : ℕ) (gone : List ℕ) (i : ℕ) → getD gone (base + 1 + i -
 mark-at base gone i = ap (λ (x : ℕ). getD gone x 0) (let e : base + 1 + i - suc base ≡ i = omega arith in e)
 
 -- a line that is marked
-pub names-more : (base : ℕ) (gone : List ℕ) (i : ℕ) → (getD gone i 0 ≡ 0 → ⊥) → names base gone (i + 1) ≡ names base gone i ++ (base + 1 + i) ∷ []
+pub names-more : (base : ℕ) (gone : List ℕ) (i : ℕ) → (getD gone i 0 ≡ 0 → ⊥) →
+    names base gone (i + 1) ≡ names base gone i ++ (base + 1 + i) ∷ []
 unfolding isMarked
 names-more base gone i ne =
     names-snoc base gone i
     ∙ ap (λ (b : Bool). names base gone i ++ cond (not b) ((base + 1 + i) ∷ []) [])
-      (ne-eqb (getD gone (base + 1 + i - suc base) 0) 0 (λ e. ne (sym (mark-at base gone i) ∙ e)))
+    (ne-eqb (getD gone (base + 1 + i - suc base) 0) 0 (λ e. ne (sym (mark-at base gone i) ∙ e)))
 
 pub names-marked : (base : ℕ) (gone : List ℕ) (i : ℕ) → (getD gone i 0 ≡ 0 → ⊥) →
-    (names base gone (i + 1) ≡ names base gone i ++ (base + 1 + i) ∷ []) × (length (names base gone (i + 1)) ≡ length (names base gone i) + 1)
+    (names base gone (i + 1) ≡ names base gone i ++ (base + 1 + i) ∷ []) × (length (names base gone (i + 1)) ≡ length
+    (names base gone i) + 1)
 names-marked base gone i ne =
     (names-more base gone i ne, ap length (names-more base gone i ne) ∙ length-append (names base gone i) ((base + 1 + i) ∷ []))
 
@@ -102,7 +107,7 @@ unfolding isMarked
 names-unmarked base gone i e =
     names-snoc base gone i
     ∙ ap (λ (b : Bool). names base gone i ++ cond (not b) ((base + 1 + i) ∷ []) [])
-      (eq-eqb (getD gone (base + 1 + i - suc base) 0) 0 (mark-at base gone i ∙ e))
+    (eq-eqb (getD gone (base + 1 + i - suc base) 0) 0 (mark-at base gone i ∙ e))
     ∙ append-nil (names base gone i)
 
 pub names-few : (base : ℕ) (gone : List ℕ) (i : ℕ) → length (names base gone i) ≤ i
@@ -115,7 +120,8 @@ names-grow base gone i zero = omega (arith, ap (λ (x : ℕ). length (names base
 names-grow base gone i (suc d) =
     let h = names-grow base gone i d in
     let e = ap (λ (x : ℕ). length (names base gone x)) (let e : i + d + 1 ≡ i + suc d = omega arith in e) in
-    let s = ap length (names-snoc base gone (i + d)) ∙ length-append (names base gone (i + d)) (keep (isMarked base gone) ((base + 1 + (i + d)) ∷ [])) in
+    let s = ap length (names-snoc base gone (i + d))
+    ∙ length-append (names base gone (i + d)) (keep (isMarked base gone) ((base + 1 + (i + d)) ∷ [])) in
     omega (arith, h, e, s)
 
 -- ### Written
@@ -146,7 +152,7 @@ writes-next base gone i at old new W ne lt =
       position = ap (λ (x : ℕ). x + 1) (W .position) ∙ sym (more .1);
       numbers =
           ap (λ (l : List ℕ). set l at (base + 1 + i))
-            (W .numbers ∙ ap (λ (l : List ℕ). names base gone i ++ l) (drop-cons old at 0 lt))
+          (W .numbers ∙ ap (λ (l : List ℕ). names base gone i ++ l) (drop-cons old at 0 lt))
           ∙ set-at (names base gone i) (getD old at 0) (drop (suc at) old) (base + 1 + i) at (sym (W .position))
           ∙ ap (λ (x : ℕ). names base gone i ++ (base + 1 + i) ∷ drop x old) (let e : suc at ≡ at + 1 = omega arith in e)
           ∙ sym (append-assoc (names base gone i) ((base + 1 + i) ∷ []) (drop (at + 1) old))

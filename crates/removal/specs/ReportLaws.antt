@@ -1,27 +1,26 @@
 -- The report from its parts: a log that was read has its lines behind its head, its slots lie as the walk asks, and the marks name the
 -- least set.
 use mathlib.Core.Path.{_≡_, refl, sym, ap, _∙_, subst}
-use mathlib.Core.Logic.{_⊎_, inl, inr, ⊎-elim}
-use mathlib.Core.Bool.{Bool, true, false, not, cond, _&&_, _||_}
-use mathlib.Core.List.{List, [], _∷_, _++_, map}
+use mathlib.Core.Logic.{⊎-elim}
+use mathlib.Core.Bool.{Bool, true, false, not, cond, _||_}
+use mathlib.Core.List.{List, [], _∷_, map}
 use mathlib.Core.List.{List·Memᴰ as Mem}
 use mathlib.Core.Option.{Option}
-use Prim.Native.Nat.{ℕ, zero, suc, _+_, _-_, _*_, _/_, _<_, _≤_}
+use Prim.Native.Nat.{ℕ, zero, suc, _+_, _-_, _*_, _<_, _≤_}
 use native.Mathlib.Nat.{not-suc-le-zero, le-of-suc-le-suc}
 use native.Mathlib.Omega.{arith}
-use borrow.Author.Tests.{lt-ltb, le-ltb, eqb-true, ne-eqb, not-true}
-use lib.Dec.{T, eqb, ltb, leb, eqb→eq, ltb→lt, leb→le, T-not, not-T}
+use borrow.Author.Tests.{lt-ltb, le-ltb}
+use lib.Dec.{T, eqb, eqb→eq, T-not, not-T}
 use lib.ListN.{length, getD, take, drop, length-append}
 use lib.Seq.{length-take-le, getD-take, drop-at}
 use Rattle.forms.specs.Forms.{Base, Change, Did, Line}
 use Rattle.forms.specs.Limits.{logLimit, baseTop}
 use Rattle.forms.specs.Lists.{any, keep}
-use Rattle.forms.specs.ListLaws.{T-true, true-T, T-false, and-intro, and-left, and-right, any-at, any-of, or-cases, or-left, or-right}
+use Rattle.forms.specs.ListLaws.{T-false, any-at, or-cases}
 use Rattle.forms.specs.Read.{noDid}
 use Rattle.forms.specs.Refusals.{numberOf}
 use Rattle.forms.specs.declared.DoneRule.the-variants.{DidInc}
-use Rattle.forms.specs.declared.Refusal.{Refusal}
-use Rattle.forms.specs.declared.Refusal.the-variants.{NoRoom, AboveLimit, BadLog}
+use Rattle.forms.specs.declared.Refusal.the-variants.{AboveLimit, BadLog}
 use Rattle.rules.specs.Book.{baseOf}
 use Rattle.rules.specs.CheckLaws.{formed-changes}
 use Rattle.rules.specs.Good.{FormedDid}
@@ -29,18 +28,20 @@ use Rattle.rules.specs.HeadLaws.{head-low}
 use Rattle.rules.specs.Log.{Journal, journal, noJournal, dids, historiesFit, headText, logText, linesText, readLog}
 use Rattle.rules.specs.LogLaws.{histories-most}
 use Rattle.history.specs.EntryLaws.{mem-getD}
-use Rattle.log_reader.specs.Model.{HoldsLog, ReadsLog, Reads}
+use Rattle.log_reader.specs.Model.{ReadsLog, Reads}
 use Rattle.log_reader.specs.declared.JournalRead.{JournalRead}
-use Rattle.recovery.specs.Removal.{numbersFrom, isLine, Pair, pairsOf, Removed, removal, Report, refused, named, refuseIf, notAmong, tooLong}
+use Rattle.recovery.specs.Removal.{numbersFrom, isLine, Pair, pairsOf, Removed, removal, Report, refused, named, refuseIf, notAmong}
+use Rattle.recovery.specs.Removal.{tooLong}
 use Rattle.recovery.specs.Removal.{reportLines, reportLog, report}
 use Rattle.recovery.specs.RemovalLaws.{line-at, named-of, sifted-removal}
 use Rattle.removal.specs.declared.Removals.{Removals}
-use Rattle.removal.specs.declared.Removals.the-variants.{Named as Names, Refused, NotAmong}
-use Rattle.removal.specs.Chains.{countOf, keyAt}
+use Rattle.removal.specs.declared.Removals.the-variants.{Refused, NotAmong}
+use Rattle.removal.specs.Chains.{keyAt}
 use Rattle.removal.specs.Fall.{net, Gone, Placed, Lost, Marked}
 use Rattle.removal.specs.Slots.{historyAt, SlotsAre, StandsFrom, ReadsSlots}
-use Rattle.removal.specs.Names.{known, KnownIf, PairsKnown, LostKnown, isMarked, names, CanAnswer, Answers, AnswersIf, AnswersNothing, AnswersNames}
-use Rattle.removal.specs.Bridge.{At, mem-place, Laid, PairAt, pair-place, place-pair, laid-placed, laid-lost, fallen-out, out-fallen}
+use Rattle.removal.specs.Names.{known, PairsKnown, LostKnown, isMarked, names, CanAnswer, Answers, AnswersIf}
+use Rattle.removal.specs.Bridge.{Laid, laid-placed, laid-lost, fallen-out, out-fallen}
+use Rattle.removal.specs.PairLaws.{mem-place, pair-place, place-pair}
 use Rattle.removal.specs.LengthLaws.{dids-most}
 use Rattle.removal.specs.Model.{refusal, outcomeOf, Says, Reports, ReadsLines, MarksExactly, FallsIn}
 
@@ -86,7 +87,8 @@ module _ (base : ℕ) (n : ℕ) (log : List Did) (full pairs lost : List ℕ) (f
           histories = λ i u l h. getD-take (8 * length log) full (8 * i + 2 * u + 1) 0 (omega (arith, l, h)) ∙ S .histories i u l h;
         };
         changes = λ i l. formed-changes n (getD log i noDid .changes) (formed (getD log i noDid) (mem-getD log i noDid l) .passes) .few;
-        histories = λ i u l h. history-low n (getD log i noDid) u (formed (getD log i noDid) (mem-getD log i noDid l)) (histories-most n fit) h;
+        histories = λ i u l h. history-low n (getD log i noDid) u (formed (getD log i noDid) (mem-getD log i noDid l))
+            (histories-most n fit) h;
         pairsKnown = pk;
         lostKnown = lk;
       }
@@ -105,11 +107,11 @@ module _ (base : ℕ) (n : ℕ) (log : List Did) (full pairs lost : List ℕ) (f
       record {
         size = M .size;
         sound = λ k l t.
-          let q = line-at base log k l in
-          subst (Removed base log (pairsOf pairs) lost) (let e : base + 1 + (k - suc base) ≡ k = omega (arith, q .0) in e)
-          (fallen-out base log front pairs lost laid (k - suc base) (M .sound (k - suc base) (mark-at gone k t)));
+            let q = line-at base log k l in
+            subst (Removed base log (pairsOf pairs) lost) (let e : base + 1 + (k - suc base) ≡ k = omega (arith, q .0) in e)
+            (fallen-out base log front pairs lost laid (k - suc base) (M .sound (k - suc base) (mark-at gone k t)));
         whole = λ k l r.
-          mark-of gone k (M .whole (k - suc base) (out-fallen base log front pairs lost laid k (line-at base log k l .0) r));
+            mark-of gone k (M .whole (k - suc base) (out-fallen base log front pairs lost laid k (line-at base log k l .0) r));
       }
 
 -- ### A log that was read
@@ -147,7 +149,8 @@ module _ (log : List ℕ) (j : JournalRead) (book notes : List ℕ) (n : ℕ) (�
   pub read-done : j .done ≡ j .base + length (dids lines)
   read-done = R .holds .done ∙ ap (λ (x : ℕ). x + length (dids lines)) (sym (R .holds .base))
 
-  pub read-lines : (pairs lost : List ℕ) → PairsKnown pairs (j .base) (j .done) → LostKnown lost (j .base) (j .done) → ReadsLines printed j pairs lost
+  pub read-lines : (pairs lost : List ℕ) → PairsKnown pairs (j .base) (j .done) → LostKnown lost (j .base) (j .done) →
+      ReadsLines printed j pairs lost
   unfolding logText
   read-lines pairs lost pk lk =
       let H = R .holds in
@@ -180,7 +183,8 @@ let-through : (x : Report) → refuseIf false 16 x ≡ x
 unfolding refuseIf
 let-through x = refl
 
-says-answer : (l old : List ℕ) (r : Removals) (new : List ℕ) → Answers l old r new → Says (refuseIf (tooLong (length old) l) 12 (named l)) old r new
+says-answer : (l old : List ℕ) (r : Removals) (new : List ℕ) → Answers l old r new →
+    Says (refuseIf (tooLong (length old) l) 12 (named l)) old r new
 unfolding refuseIf numberOf
 says-answer l old r new A = go (tooLong (length old) l) A
   where
@@ -191,13 +195,15 @@ says-answer l old r new A = go (tooLong (length old) l) A
 pub report-above : (log pairs lost old : List ℕ) → 65536 < length log → Reports log pairs lost old (Refused AboveLimit) old
 unfolding report refuseIf numberOf
 report-above log pairs lost old h =
-    subst (λ (b : Bool). Says (cond b (refused 13) (reportLog (readLog log) (pairsOf pairs) lost (length old))) old (Refused AboveLimit) old)
+    subst (λ (b : Bool). Says (cond b (refused 13) (reportLog (readLog log) (pairsOf pairs) lost (length old))) old
+    (Refused AboveLimit) old)
     (sym (lt-ltb logLimit (length log) h)) (says-refused 13 (Refused AboveLimit) old refl)
 
 module _ (log pairs lost old : List ℕ) (small : length log ≤ 65536) where
   within : report log (pairsOf pairs) lost (length old) ≡ reportLog (readLog log) (pairsOf pairs) lost (length old)
   unfolding report refuseIf
-  within = ap (λ (b : Bool). cond b (refused 13) (reportLog (readLog log) (pairsOf pairs) lost (length old))) (le-ltb logLimit (length log) small)
+  within = ap (λ (b : Bool). cond b (refused 13) (reportLog (readLog log) (pairsOf pairs) lost (length old))) (le-ltb logLimit
+      (length log) small)
 
   pub report-bad : (j : JournalRead) (book notes : List ℕ) → Reads (readLog log) log j book notes → j .ok ≡ false →
       Reports log pairs lost old (Refused BadLog) old
@@ -246,8 +252,11 @@ module _ (log pairs lost old : List ℕ) (small : length log ≤ 65536) where
     known-both : notAmong N log′ (pairsOf pairs) lost ≡ false → PairsKnown pairs (j .base) (j .done) × LostKnown lost (j .base) (j .done)
     unfolding known isLine
     known-both e =
-        let K = named-of N log′ (pairsOf pairs) lost e in
-        (λ p l. moved (keyAt pairs 0 p) (K .pairs _ (place-pair pairs p l)), λ k l. moved (getD lost k 0) (K .lines _ (mem-getD lost k 0 l)))
+        let K = named-of N log′ (pairsOf pairs) lost e in (
+          λ p l. moved (keyAt pairs 0 p) (K .pairs _ (place-pair pairs p l)),
+          λ k l. moved (getD lost k 0) (K .lines _
+              (mem-getD lost k 0 l)),
+        )
       where
         moved : (k : ℕ) → T (isLine N log′ k) → T (known (j .base) (j .done) k)
         moved k t =
@@ -263,21 +272,23 @@ module _ (log pairs lost old : List ℕ) (small : length log ≤ 65536) where
         T-false (any (λ p. not (isLine N log′ (p .line))) (pairsOf pairs) || any (λ k. not (isLine N log′ k)) lost) (λ t.
         ⊎-elim
         (λ a. let q = any-at (λ (p : Pair). not (isLine N log′ (p .line))) (pairsOf pairs) a in
-          let w = pair-place pairs (q .0) (q .1) in
-          T-not (isLine N log′ (q .0 .line)) (q .2)
-          (known-line (q .0 .line) (subst (λ (x : ℕ). T (known (j .base) (j .done) x)) (w .line) (both .0 (w .place) (w .within)))))
+        let w = pair-place pairs (q .0) (q .1) in
+        T-not (isLine N log′ (q .0 .line)) (q .2)
+        (known-line (q .0 .line) (subst (λ (x : ℕ). T (known (j .base) (j .done) x)) (w .line) (both .0 (w .place) (w .within)))))
         (λ a. let q = any-at (λ (k : ℕ). not (isLine N log′ k)) lost a in
-          let w = mem-place (q .0) lost (q .1) in
-          T-not (isLine N log′ (q .0)) (q .2)
-          (known-line (q .0) (subst (λ (x : ℕ). T (known (j .base) (j .done) x)) (w .is) (both .1 (w .place) (w .within)))))
+        let w = mem-place (q .0) lost (q .1) in
+        T-not (isLine N log′ (q .0)) (q .2)
+        (known-line (q .0) (subst (λ (x : ℕ). T (known (j .base) (j .done) x)) (w .is) (both .1 (w .place) (w .within)))))
         (or-cases (any (λ p. not (isLine N log′ (p .line))) (pairsOf pairs)) (any (λ k. not (isLine N log′ k)) lost) t))
 
     -- 16
-    pub report-unknown : (PairsKnown pairs (j .base) (j .done) × LostKnown lost (j .base) (j .done) → ⊥) → Reports log pairs lost old NotAmong old
+    pub report-unknown : (PairsKnown pairs (j .base) (j .done) × LostKnown lost (j .base) (j .done) → ⊥) →
+        Reports log pairs lost old NotAmong old
     unfolding reportLines refuseIf
     report-unknown not-known =
         subst (λ (x : Report). Says x old NotAmong old)
-        (sym (on-lines ∙ ap (λ (b : Bool). cond b (refused 16) (cond (tooLong (length old) answer) (refused 12) (named answer))) some-unknown))
+        (sym (on-lines ∙ ap (λ (b : Bool). cond b (refused 16) (cond (tooLong (length old) answer) (refused 12)
+        (named answer))) some-unknown))
         (says-refused 16 NotAmong old refl)
       where
         answer : List ℕ
@@ -296,10 +307,10 @@ module _ (log pairs lost old : List ℕ) (small : length log ≤ 65536) where
     unfolding names
     names-removal gone both M =
         ap (λ (x : ℕ). keep (isMarked (j .base) gone) (numbersFrom (j .base) x))
-          (let e : j .done - j .base ≡ length log′ = omega (arith, at-done, at-base) in e)
+        (let e : j .done - j .base ≡ length log′ = omega (arith, at-done, at-base) in e)
         ∙ ap (λ (x : ℕ). keep (isMarked x gone) (numbersFrom x (length log′))) at-base
         ∙ sifted-removal N log′ (pairsOf pairs) lost (named-of N log′ (pairsOf pairs) lost (none-unknown both)) (isMarked N gone)
-          (λ k l. (exact .sound k l, exact .whole k l))
+        (λ k l. (exact .sound k l, exact .whole k l))
       where
         exact : MarksExactly N log′ pairs lost gone
         exact = subst (λ (x : ℕ). MarksExactly x log′ pairs lost gone) at-base M
@@ -312,7 +323,7 @@ module _ (log pairs lost old : List ℕ) (small : length log ≤ 65536) where
     report-names both gone M r new A =
         subst (λ (x : Report). Says x old r new)
         (sym (on-lines ∙ ap (λ (b : Bool). refuseIf b 16 (refuseIf (tooLong (length old) answer) 12 (named answer))) (none-unknown both)
-          ∙ let-through (refuseIf (tooLong (length old) answer) 12 (named answer))))
+        ∙ let-through (refuseIf (tooLong (length old) answer) 12 (named answer))))
         (says-answer answer old r new (subst (λ (l : List ℕ). Answers l old r new) (names-removal gone both M) A))
       where
         answer : List ℕ
@@ -325,9 +336,10 @@ pub marks-placed : (s : List ℕ) (j : JournalRead) (pairs lost full : List ℕ)
     Placed (net (take (8 * (j .done - j .base)) full) pairs (j .base)) × Lost (take (8 * (j .done - j .base)) full) (j .base) lost
 marks-placed s j pairs lost full L size S =
     subst (λ (x : ℕ). Placed (net (take (8 * x) full) pairs (j .base)) × Lost (take (8 * x) full) (j .base) lost)
-    (let e : length (dids (L .lines)) ≡ j .done - j .base = omega (arith, L .done) in e)
-    (laid-placed (j .base) (dids (L .lines)) (take (8 * length (dids (L .lines))) full) pairs lost at,
-      laid-lost (j .base) (dids (L .lines)) (take (8 * length (dids (L .lines))) full) pairs lost at)
+    (let e : length (dids (L .lines)) ≡ j .done - j .base = omega (arith, L .done) in e) (
+      laid-placed (j .base) (dids (L .lines)) (take (8 * length (dids (L .lines))) full) pairs lost at,
+      laid-lost (j .base) (dids (L .lines)) (take (8 * length (dids (L .lines))) full) pairs lost at,
+    )
   where
     at : Laid (j .base) (dids (L .lines)) (take (8 * length (dids (L .lines))) full) pairs lost
     at =
@@ -339,9 +351,10 @@ pub marks-fall : (s : List ℕ) (j : JournalRead) (pairs lost full gone : List �
     ReadsSlots s (j .head) (j .base) full → Marked (net (take (8 * (j .done - j .base)) full) pairs (j .base)) lost gone →
     FallsIn s j pairs lost gone
 marks-fall s j pairs lost full gone L size S M n lines F done =
-    marks-exact (j .base) n (dids lines) full pairs lost (F .fit) (F .formed) (omega (arith, done, L .done, L .few)) (L .low) size (S n lines F)
+    marks-exact (j .base) n (dids lines) full pairs lost (F .fit) (F .formed) (omega (arith, done, L .done, L .few)) (L .low) size
+    (S n lines F)
     (subst (λ (x : ℕ). PairsKnown pairs (j .base) x) done (L .pairsKnown))
     (subst (λ (x : ℕ). LostKnown lost (j .base) x) done (L .lostKnown))
     gone
     (subst (λ (x : ℕ). Marked (net (take (8 * x) full) pairs (j .base)) lost gone)
-      (let e : j .done - j .base ≡ length (dids lines) = omega (arith, done) in e) M)
+    (let e : j .done - j .base ≡ length (dids lines) = omega (arith, done) in e) M)

@@ -61,7 +61,16 @@ fn by_history(
             let q = later(slots, histories, SLOTS * i + u);
             if q < slots.len() / 2 {
                 let line = line_of(slots, base, q);
-                by_history(slots, histories, pairs, lines, transactions, gone, base, line);
+                by_history(
+                    slots,
+                    histories,
+                    pairs,
+                    lines,
+                    transactions,
+                    gone,
+                    base,
+                    line,
+                );
             }
             u += 1;
         }
@@ -92,7 +101,16 @@ fn by_transaction(
 {
     let q = mate(pairs, transactions, p);
     let line = line_of(pairs, base, q);
-    by_history(slots, histories, pairs, lines, transactions, gone, base, line);
+    by_history(
+        slots,
+        histories,
+        pairs,
+        lines,
+        transactions,
+        gone,
+        base,
+        line,
+    );
 }
 
 // No line is marked.
@@ -114,7 +132,16 @@ pub fn mark(slots: &[u64], pairs: &[u64], lost: &[u64], base: u64) -> Marks
     let mut k = 0;
     while k < lost.len() {
         let line = (lost[k] - base - 1) as usize;
-        by_history(slots, &histories, pairs, &lines, &transactions, &mut gone, base, line);
+        by_history(
+            slots,
+            &histories,
+            pairs,
+            &lines,
+            &transactions,
+            &mut gone,
+            base,
+            line,
+        );
         k += 1;
     }
     gone

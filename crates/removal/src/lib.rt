@@ -5,8 +5,6 @@ pub mod fall;
 mod names;
 mod slots;
 
-ghost use Rattle.recovery.specs.Removal.{pairsOf, report as reportOf};
-ghost use lib.ListN.{length};
 ghost use Rattle.removal.specs.Model.{Reports, FallsIn, ReadsLines};
 use fall::Marks;
 use fall::mark;

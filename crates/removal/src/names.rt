@@ -4,7 +4,6 @@ ghost use Prim.Native.Nat.{_+_, _≤_};
 ghost use lib.ListN.{length};
 ghost use Rattle.removal.specs.Names.{KnownIf, PairsKnown, LostKnown, known, names, CanName, Writes, CanAnswer, Answers};
 use super::Removals;
-use super::fall::Marks;
 use forms::Refusal;
 
 // Whether a number is among those of the lines: above base, and not above done.

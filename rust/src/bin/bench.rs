@@ -193,7 +193,7 @@ fn trim(log: Vec<u8>) -> Figure {
 fn removals() -> Figure {
     let (log, lines) = short_lines();
     let scattered = (1..=lines).map(|at| 1 + at * 7919 % lines);
-    let pairs: Vec<u64> = scattered.flat_map(|line| [line, line * 31 % (lines / 3)]).collect();
+    let pairs: Vec<u64> = scattered.flat_map(|line| [line, line * 31 % 911]).collect();
     figure("removals of a full log", "lines/s", lines as f64, |program| {
         let (log, pairs, mut out) = (log.clone(), pairs.clone(), vec![0; lines as usize]);
         move || {

@@ -128,7 +128,8 @@ fn line(random: &mut Random, base: u64, done: u64, sure: bool) -> u64 {
     if base < done && (sure || random.percent(97)) {
         return base + 1 + random.below(done - base);
     }
-    random.pick(&[0, base, done, done.wrapping_add(1), random.pick(&EDGES)])
+    let edge = random.pick(&EDGES);
+    random.pick(&[0, base, done, done.wrapping_add(1), edge])
 }
 
 /// A report over a log, with room for its answer or a number more or less.

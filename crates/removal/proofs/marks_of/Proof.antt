@@ -9,11 +9,6 @@ use Rattle.removal.specs.ReportLaws.{marks-placed, marks-fall}
 use borrow.Author.Needs.{needs}
 use Rattle.removal.proofs.marks_of.Statement.{statement}
 use Rattle.removal.proofs.marks_of.Tie as tie
-use Rattle.removal.proofs.marks_of.Reads as reads
-use Rattle.removal.proofs.marks_of.Lts as lts
-use Rattle.removal.proofs.fall.mark.Reads as mark-reads
-use Rattle.removal.proofs.slots.blank_slots.Reads as blank-slots-reads
-use Rattle.removal.proofs.slots.read_slots.Reads as read-slots-reads
 
 -- the slots are as many as before
 long : (c : tie.After-read-slots) → length (c .read-slots .last .1 .1 .1 .0) ≡ 23824

@@ -1,19 +1,13 @@
 -- Each return is one law: 13 by the length, 15 where no log was read, 16 where a number is not known, and else the answer of the exact marks.
 use denote.Ref.{now}
 use native.Mathlib.Omega.{arith}
-use mathlib.Core.Path.{_≡_, sym}
+use mathlib.Core.Path.{sym}
 use lib.Seq.{length-take-le}
 use Rattle.removal.specs.NameLaws.{known-yes, known-no}
 use Rattle.removal.specs.ReportLaws.{report-above, report-bad, report-unknown, report-names, read-some, read-stands, read-done, read-lines, read-can}
 use borrow.Author.Needs.{needs}
 use Rattle.removal.proofs.report.Statement.{statement}
 use Rattle.removal.proofs.report.Tie as tie
-use Rattle.removal.proofs.report.Reads as reads
-use Rattle.removal.proofs.report.Lts as lts
-use Rattle.log_reader.proofs.read_log.Reads as read-log-reads
-use Rattle.removal.proofs.marks_of.Reads as marks-of-reads
-use Rattle.removal.proofs.names.all_known.Reads as all-known-reads
-use Rattle.removal.proofs.names.answer.Reads as answer-reads
 
 returns : tie.Need-returns
 returns c = let p = c .before .before .before .before .before in report-above (now (p .args .log)) (now (p .args .pairs)) (now (p .args .lost)) (now (p .args .out)) (c .if1 .taken)
@@ -58,8 +52,8 @@ answer-requires c κs =
     let small = c .before .before .before .before .before .before .before .before .before .before .if1 .left in
     let S = read-some (now (p .args .log)) (now (p .args .pairs)) (now (p .args .lost)) (now (p .args .out)) small (x .result) _ _ (x .ensures) (c .before .before .before .before .before .before .if2 .taken) in
     let M = c .before .before .marks-of .ensures (S .histories) (S .lines)
-      (read-stands (now (p .args .log)) (x .result) _ _ (S .histories) (S .baseLine) (S .lines) (S .reads) small)
-      (read-done (now (p .args .log)) (x .result) _ _ (S .histories) (S .baseLine) (S .lines) (S .reads) small) in
+    (read-stands (now (p .args .log)) (x .result) _ _ (S .histories) (S .baseLine) (S .lines) (S .reads) small)
+    (read-done (now (p .args .log)) (x .result) _ _ (S .histories) (S .baseLine) (S .lines) (S .reads) small) in
     read-can (now (p .args .log)) (x .result) _ _ (S .histories) (S .baseLine) (S .lines) (S .reads) small (c .before .before .marks-of .result) (M .size)
 
 same-length : tie.Need-same-length
@@ -73,8 +67,8 @@ returns-2 c =
     let S = read-some (now (p .args .log)) (now (p .args .pairs)) (now (p .args .lost)) (now (p .args .out)) small (x .result) _ _ (x .ensures) (c .before .before .before .before .before .before .before .before .before .if2 .taken) in
     let both = known-yes _ (c .before .before .before .before .before .before .before .before .all-known .result) (c .before .before .before .before .before .before .before .before .all-known .ensures) (c .before .before .before .before .before .before .before .if3 .taken) in
     let M = c .before .before .before .before .before .marks-of .ensures (S .histories) (S .lines)
-      (read-stands (now (p .args .log)) (x .result) _ _ (S .histories) (S .baseLine) (S .lines) (S .reads) small)
-      (read-done (now (p .args .log)) (x .result) _ _ (S .histories) (S .baseLine) (S .lines) (S .reads) small) in
+    (read-stands (now (p .args .log)) (x .result) _ _ (S .histories) (S .baseLine) (S .lines) (S .reads) small)
+    (read-done (now (p .args .log)) (x .result) _ _ (S .histories) (S .baseLine) (S .lines) (S .reads) small) in
     report-names (now (p .args .log)) (now (p .args .pairs)) (now (p .args .lost)) (now (p .args .out)) small (x .result) _ _ S both (c .before .before .before .before .before .marks-of .result) M
     (c .before .before .answer .result) (c .before .before .answer .last .1 .1 .1 .0) (c .before .before .answer .ensures)
 

@@ -1,16 +1,11 @@
 -- The report keeps its own contract, and it names no more lines than there is room, so that the number is in range.
 use denote.Ref.{now}
-use native.Mathlib.Omega.{arith}
 use lib.ListN.{length}
 use Rattle.recovery.specs.Removal.{pairsOf, report}
 use Rattle.c_api.specs.RemovalLaws.{removals-few, removals-number}
 use borrow.Author.Needs.{needs}
 use Rattle.c_api.proofs.removals.log_removals.Statement.{statement}
 use Rattle.c_api.proofs.removals.log_removals.Tie as tie
-use Rattle.c_api.proofs.removals.log_removals.Reads as reads
-use Rattle.c_api.proofs.removals.log_removals.Lts as lts
-use Rattle.c_api.proofs.removals.removals_number.Reads as removals-number-reads
-use Rattle.removal.proofs.report.Reads as report-reads
 
 report-requires : tie.Need-report-requires
 report-requires c κs = search needs

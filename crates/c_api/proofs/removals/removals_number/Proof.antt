@@ -5,9 +5,6 @@ use Rattle.c_api.specs.Removals.{removalsNumber}
 use borrow.Author.Needs.{needs}
 use Rattle.c_api.proofs.removals.removals_number.Statement.{statement}
 use Rattle.c_api.proofs.removals.removals_number.Tie as tie
-use Rattle.c_api.proofs.removals.removals_number.Reads as reads
-use Rattle.c_api.proofs.removals.removals_number.Lts as lts
-use Rattle.forms.proofs.writer.refusal_number.Reads as refusal-number-reads
 
 enum-known-r : tie.Need-enum-known-r
 enum-known-r c = search needs

@@ -5,8 +5,6 @@ use Rattle.removal.specs.ChainLaws.{after-links, after-walks-on}
 use borrow.Author.Needs.{needs}
 use Rattle.removal.proofs.chains.after.Statement.{statement}
 use Rattle.removal.proofs.chains.after.Tie as tie
-use Rattle.removal.proofs.chains.after.Reads as reads
-use Rattle.removal.proofs.chains.after.Lts as lts
 
 add-result : tie.Need-add-result
 add-result c = search needs

@@ -1,18 +1,11 @@
 -- The loop's invariant: the pairs from p on are chained; at 0 all are.
 use native.Mathlib.Omega.{arith}
 use denote.Ref.{now}
-use Prim.Native.Nat.{_-_, _≤_, _+_, _*_}
-use lib.ListN.{length}
 use Rattle.removal.specs.Chains.{ChainedFrom}
 use Rattle.removal.specs.ChainLaws.{chained-start, chained-next, chained-done}
 use borrow.Author.Needs.{needs}
 use Rattle.removal.proofs.chains.chain.Statement.{statement}
 use Rattle.removal.proofs.chains.chain.Tie as tie
-use Rattle.removal.proofs.chains.chain.Reads as reads
-use Rattle.removal.proofs.chains.chain.Lts as lts
-use Rattle.removal.proofs.chains.blank.Reads as blank-reads
-use Rattle.removal.proofs.chains.chained.Reads as chained-reads
-use Rattle.removal.proofs.chains.fill.Reads as fill-reads
 
 abbrev Inv-loop : tie.InvT-loop
 Inv-loop words c m chains₀ p₀ chains p = ChainedFrom words c p chains

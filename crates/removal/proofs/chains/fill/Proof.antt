@@ -3,12 +3,9 @@ use native.Mathlib.Omega.{arith}
 use Prim.Native.Nat.{_-_, _≤_}
 use Rattle.removal.specs.Chains.{Filled}
 use Rattle.removal.specs.ChainLaws.{filled-next}
-use mathlib.Core.Path.{_≡_, subst}
 use borrow.Author.Needs.{needs}
 use Rattle.removal.proofs.chains.fill.Statement.{statement}
 use Rattle.removal.proofs.chains.fill.Tie as tie
-use Rattle.removal.proofs.chains.fill.Reads as reads
-use Rattle.removal.proofs.chains.fill.Lts as lts
 
 abbrev Inv-loop : tie.InvT-loop
 Inv-loop chains₀ m b₀ chains b = Filled m b chains × (b ≤ 4096)

@@ -1,16 +1,12 @@
 -- The loop's invariant: no pair from the first position to q has the key, and q is on the chain of its bucket or behind those chained.
 use native.Mathlib.Omega.{arith}
-use mathlib.Core.Path.{_≡_, sym, subst}
-use Prim.Native.Nat.{ℕ, _-_, _≤_, _/_}
-use lib.ListN.{length}
-use Rattle.removal.specs.Chains.{countOf, FindsTo}
+use mathlib.Core.Path.{sym, subst}
+use Prim.Native.Nat.{ℕ, _-_}
+use Rattle.removal.specs.Chains.{FindsTo}
 use Rattle.removal.specs.ChainLaws.{finds-start, finds-next, finds-here, finds-none, after-more}
 use borrow.Author.Needs.{needs}
 use Rattle.removal.proofs.chains.find.Statement.{statement}
 use Rattle.removal.proofs.chains.find.Tie as tie
-use Rattle.removal.proofs.chains.find.Reads as reads
-use Rattle.removal.proofs.chains.find.Lts as lts
-use Rattle.removal.proofs.chains.after.Reads as after-reads
 
 abbrev Inv-loop : tie.InvT-loop
 Inv-loop words chains c key from count q₀ q = FindsTo words c key from q
@@ -56,7 +52,7 @@ loop-again c =
     let l = c .before .before .before .before .loop in
     subst (λ (x : ℕ). FindsTo (c .before .before .before .before .before .before .args .words .now) (c .before .before .before .before .before .before .args .c) (c .before .before .before .before .before .before .args .key) (c .before .before .before .before .before .before .args .from) x) (sym (c .after .ensures))
     (finds-next (c .before .before .before .before .before .before .args .words .now) (c .before .before .before .before .before .before .args .c) (c .before .before .before .before .before .before .args .key) (c .before .before .before .before .before .before .args .from) (l .q) (c .before .before .before .before .before .before .args .chains .now)
-      (c .before .before .before .before .before .before .pre .0) (l .inv) (c .before .before .before .loop-test .taken) (c .before .if1 .left))
+    (c .before .before .before .before .before .before .pre .0) (l .inv) (c .before .before .before .loop-test .taken) (c .before .if1 .left))
 
 returns-2 : tie.Need-returns-2 Inv-loop μ-loop
 returns-2 c =

@@ -6,9 +6,6 @@ use Rattle.removal.specs.ChainLaws.{starts-first, found-first}
 use borrow.Author.Needs.{needs}
 use Rattle.removal.proofs.chains.first.Statement.{statement}
 use Rattle.removal.proofs.chains.first.Tie as tie
-use Rattle.removal.proofs.chains.first.Reads as reads
-use Rattle.removal.proofs.chains.first.Lts as lts
-use Rattle.removal.proofs.chains.find.Reads as find-reads
 
 mul-from : tie.Need-mul-from
 mul-from c = search needs

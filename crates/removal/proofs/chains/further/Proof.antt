@@ -1,17 +1,12 @@
 -- No pair between p and where the chain leads from it has its key.
-use native.Mathlib.Omega.{arith}
 use denote.Ref.{now}
-use mathlib.Core.Path.{_≡_, sym, subst}
-use Prim.Native.Nat.{ℕ, suc}
+use mathlib.Core.Path.{sym, subst}
+use Prim.Native.Nat.{ℕ}
 use Rattle.removal.specs.Chains.{Starts, Found, keyAt}
 use Rattle.removal.specs.ChainLaws.{starts-further, found-further}
 use borrow.Author.Needs.{needs}
 use Rattle.removal.proofs.chains.further.Statement.{statement}
 use Rattle.removal.proofs.chains.further.Tie as tie
-use Rattle.removal.proofs.chains.further.Reads as reads
-use Rattle.removal.proofs.chains.further.Lts as lts
-use Rattle.removal.proofs.chains.after.Reads as after-reads
-use Rattle.removal.proofs.chains.find.Reads as find-reads
 
 mul-key : tie.Need-mul-key
 mul-key c = search needs
@@ -31,17 +26,19 @@ after-requires c κs =
 
 find-requires : tie.Need-find-requires
 find-requires c κs =
-    let p = c .before .before .before in
-    (p .pre .0, p .pre .1,
+    let p = c .before .before .before in (
+      p .pre .0,
+      p .pre .1,
       subst (λ (x : ℕ). Starts (now (p .args .words)) (p .args .c) (keyAt (now (p .args .words)) (p .args .c) (p .args .p)) x) (sym (c .after .ensures))
-      (starts-further (now (p .args .words)) (p .args .c) (p .args .p) (now (p .args .chains)) (p .pre .0) (p .pre .2)))
+          (starts-further (now (p .args .words)) (p .args .c) (p .args .p) (now (p .args .chains)) (p .pre .0) (p .pre .2)),
+    )
 
 returns : tie.Need-returns
 returns c =
     let p = c .before .before .before .before in
     found-further (now (p .args .words)) (p .args .c) (p .args .p) (c .find .result) (now (p .args .chains)) (p .pre .0) (p .pre .2)
     (subst (λ (x : ℕ). Found (now (p .args .words)) (p .args .c) (keyAt (now (p .args .words)) (p .args .c) (p .args .p)) x (c .find .result))
-      (c .before .after .ensures) (c .find .ensures))
+    (c .before .after .ensures) (c .find .ensures))
 
 pub further-spec : {M : Type 1} → statement M
 further-spec =

@@ -4,10 +4,6 @@ use Rattle.removal.specs.ChainLaws.{ring-next, ring-again}
 use borrow.Author.Needs.{needs}
 use Rattle.removal.proofs.chains.mate.Statement.{statement}
 use Rattle.removal.proofs.chains.mate.Tie as tie
-use Rattle.removal.proofs.chains.mate.Reads as reads
-use Rattle.removal.proofs.chains.mate.Lts as lts
-use Rattle.removal.proofs.chains.first.Reads as first-reads
-use Rattle.removal.proofs.chains.further.Reads as further-reads
 
 further-requires : tie.Need-further-requires
 further-requires c κs = search needs

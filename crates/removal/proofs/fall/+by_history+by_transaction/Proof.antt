@@ -1,14 +1,14 @@
 -- The proof of the cycle: by_history has 2 for each line not yet removed and by_transaction one more, so each call has less; what is newly
 -- marked takes only marked lines with it, and fell with the line that was asked for.
-use Prim.Native.Nat.{ℕ, _<_, _≤_, _+_, _-_, _*_, _/_}
-use mathlib.Core.Path.{_≡_, refl, sym, ap, _∙_, subst}
+use Prim.Native.Nat.{ℕ, _<_, _+_, _-_, _*_}
+use mathlib.Core.Path.{sym, subst}
 use mathlib.Core.Logic.{⊎-elim}
 use mathlib.Core.List.{List}
 use native.Mathlib.Omega.{arith}
-use lib.ListN.{length, getD, set}
+use lib.ListN.{set}
 use borrow.Author.Needs.{needs}
 use Rattle.removal.specs.Chains.{countOf}
-use Rattle.removal.specs.Fall.{net, linesIn, lineIn, left, FellLine, SlotsTo, PairsTo}
+use Rattle.removal.specs.Fall.{net, left, SlotsTo, PairsTo}
 use Rattle.removal.specs.FallLaws.{fit-on, fit-set, has-mark, slots-none, slots-skip, slots-next, pairs-none, pairs-next}
 use Rattle.removal.specs.FallLaws.{line-was, line-done, pair-done, less-slot, less-pair, in-slots}
 use borrow.Fn.Kinds.{In}
@@ -108,9 +108,9 @@ by-history-loop-again t c =
     let g = net (a .slots .now) (a .pairs .now) (a .base) in
     let next : List ℕ → Type 0 = λ m. SlotsTo g (a .i) (set (a .gone .now) (a .i) 1) m (l .u + 1) in
     ⊎-elim
-      (λ w. subst next (sym (w .4)) (slots-next g (a .i) _ (l .gone) (l .u) (c .before .later .result) (l .inv) (c .before .before .loop-test .taken) (c .before .later .ensures) _ (w .1 .result) (w .1 .ensures) (w .0 .taken) (w .3 .ensures)))
-      (λ w. subst next (sym (w .1)) (slots-skip g (a .i) _ (l .gone) (l .u) (c .before .later .result) (l .inv) (c .before .before .loop-test .taken) (c .before .later .ensures) (w .0 .left)))
-      (c .if2 .came)
+    (λ w. subst next (sym (w .4)) (slots-next g (a .i) _ (l .gone) (l .u) (c .before .later .result) (l .inv) (c .before .before .loop-test .taken) (c .before .later .ensures) _ (w .1 .result) (w .1 .ensures) (w .0 .taken) (w .3 .ensures)))
+    (λ w. subst next (sym (w .1)) (slots-skip g (a .i) _ (l .gone) (l .u) (c .before .later .result) (l .inv) (c .before .before .loop-test .taken) (c .before .later .ensures) (w .0 .left)))
+    (c .if2 .came)
 
 by-history-add-number : (t : ℕ) → by-history-lts.Need-add-number (by-history-calls t) (by-history-at t) by-history.Post by-history-Inv-loop by-history-μ-loop by-history-Inv-loop2 by-history-μ-loop2
 by-history-add-number t c = let l = c .before .before .before .before .before .before .pre .1 .0 .placed .low in search needs
@@ -151,14 +151,14 @@ by-history-returns t c =
 by-history-returns-2 : (t : ℕ) → by-history-lts.Need-returns-2 (by-history-calls t) (by-history-at t) by-history.Post by-history-Inv-loop by-history-μ-loop by-history-Inv-loop2 by-history-μ-loop2
 by-history-returns-2 t c = line-was _ _ _ (c .if1 .left)
 
-by-transaction-mate-requires : (t : ℕ) → by-transaction-lts.Need-mate-requires (by-transaction-calls t) (by-transaction-at t) by-transaction.Post 
+by-transaction-mate-requires : (t : ℕ) → by-transaction-lts.Need-mate-requires (by-transaction-calls t) (by-transaction-at t) by-transaction.Post
 by-transaction-mate-requires t c κs = (c .before .before .pre .1 .0 .transactions, c .before .before .pre .1 .1)
 
-by-transaction-line-of-requires : (t : ℕ) → by-transaction-lts.Need-line-of-requires (by-transaction-calls t) (by-transaction-at t) by-transaction.Post 
+by-transaction-line-of-requires : (t : ℕ) → by-transaction-lts.Need-line-of-requires (by-transaction-calls t) (by-transaction-at t) by-transaction.Post
 by-transaction-line-of-requires t c κs =
     let R = c .mate .ensures in record { within = R .within; above = c .before .before .before .pre .1 .0 .placed .pairs (c .mate .result) (R .within) }
 
-by-transaction-by-history-requires : (t : ℕ) → by-transaction-lts.Need-by-history-requires (by-transaction-calls t) (by-transaction-at t) by-transaction.Post 
+by-transaction-by-history-requires : (t : ℕ) → by-transaction-lts.Need-by-history-requires (by-transaction-calls t) (by-transaction-at t) by-transaction.Post
 by-transaction-by-history-requires t c κs =
     let s = c .before .before .before .before .before in
     let F = s .pre .1 .0 in
@@ -167,7 +167,7 @@ by-transaction-by-history-requires t c κs =
     let z = F .placed .pairs-there (c .before .before .mate .result) (R .within) in
     (omega (arith, s .pre .0), (F, omega (arith, e, z)))
 
-by-transaction-returns : (t : ℕ) → by-transaction-lts.Need-returns (by-transaction-calls t) (by-transaction-at t) by-transaction.Post 
+by-transaction-returns : (t : ℕ) → by-transaction-lts.Need-returns (by-transaction-calls t) (by-transaction-at t) by-transaction.Post
 by-transaction-returns t c =
     let s = c .before .before .before .before .before .before in
     let g = net (s .args .slots .now) (s .args .pairs .now) (s .args .base) in
@@ -176,4 +176,4 @@ by-transaction-returns t c =
 pub +by-history+by-transaction-spec : {M : Type 1} → statement M
 +by-history+by-transaction-spec = close μ-by-history μ-by-transaction
     (λ t. by-history-lts.spec (by-history-calls t) (by-history-at t) by-history.Post by-history-Inv-loop by-history-μ-loop by-history-Inv-loop2 by-history-μ-loop2 (by-history-element-copy-out-if1 t) (by-history-element-write-gone t) (by-history-loop-holds t) (by-history-mul-later t) (by-history-add-later t) (by-history-later-requires t) (by-history-line-of-requires t) (by-history-by-history-requires t) (by-history-add-u t) (by-history-loop-less t) (by-history-loop-again t) (by-history-add-number t) (by-history-add-number-2 t) (by-history-first-requires t) (by-history-loop2-holds t) (by-history-by-transaction-requires t) (by-history-further-requires t) (by-history-loop2-less t) (by-history-loop2-again t) (by-history-returns t) (by-history-returns-2 t))
-    (λ t. by-transaction-lts.spec (by-transaction-calls t) (by-transaction-at t) by-transaction.Post  (by-transaction-mate-requires t) (by-transaction-line-of-requires t) (by-transaction-by-history-requires t) (by-transaction-returns t))
+    (λ t. by-transaction-lts.spec (by-transaction-calls t) (by-transaction-at t) by-transaction.Post (by-transaction-mate-requires t) (by-transaction-line-of-requires t) (by-transaction-by-history-requires t) (by-transaction-returns t))

@@ -8,8 +8,6 @@ use Rattle.removal.specs.FallLaws.{same-at}
 use borrow.Author.Needs.{needs}
 use Rattle.removal.proofs.fall.line_of.Statement.{statement}
 use Rattle.removal.proofs.fall.line_of.Tie as tie
-use Rattle.removal.proofs.fall.line_of.Reads as reads
-use Rattle.removal.proofs.fall.line_of.Lts as lts
 
 mul-result : tie.Need-mul-result
 mul-result c = search needs

@@ -1,5 +1,4 @@
 -- The loop's invariant: the lines lost so far are marked, what is marked takes only marked lines with it, and fell with them.
-use denote.Ref.{now}
 use native.Mathlib.Omega.{arith}
 use Prim.Native.Nat.{_-_}
 use lib.ListN.{length}
@@ -8,11 +7,6 @@ use Rattle.removal.specs.FallLaws.{marks-none, marks-next, marks-done}
 use borrow.Author.Needs.{needs}
 use Rattle.removal.proofs.fall.mark.Statement.{statement}
 use Rattle.removal.proofs.fall.mark.Tie as tie
-use Rattle.removal.proofs.fall.mark.Reads as reads
-use Rattle.removal.proofs.fall.mark.Lts as lts
-use Rattle.removal.proofs.chains.chain.Reads as chain-reads
-use Rattle.removal.proofs.fall.by_history.Reads as by-history-reads
-use Rattle.removal.proofs.fall.no_marks.Reads as no-marks-reads
 
 abbrev Inv-loop : tie.InvT-loop
 Inv-loop slots pairs lost base histories lines transactions gone₀ k₀ gone k = MarksTo (net slots pairs base) lost gone k
@@ -49,14 +43,16 @@ sub-line-2 c = let l = c .before .before .before .before .before .before .before
 
 by-history-requires : tie.Need-by-history-requires Inv-loop μ-loop
 by-history-requires c κs =
-    let p = c .before .before .before .before .before .before .before .before .before .before .before .before .before .before in
-    (record {
-      placed = p .pre .0;
-      histories = c .before .before .before .before .before .before .before .before .before .before .chain .ensures;
-      lines = c .before .before .before .before .before .before .before .before .before .chain2 .ensures;
-      transactions = c .before .before .before .before .before .before .before .before .chain3 .ensures;
-      size = c .before .before .before .before .before .before .loop .inv .size;
-    }, p .pre .1 .there (c .before .before .before .before .before .before .loop .k) (c .before .before .before .before .before .loop-test .taken))
+    let p = c .before .before .before .before .before .before .before .before .before .before .before .before .before .before in (
+      record {
+        placed = p .pre .0;
+        histories = c .before .before .before .before .before .before .before .before .before .before .chain .ensures;
+        lines = c .before .before .before .before .before .before .before .before .before .chain2 .ensures;
+        transactions = c .before .before .before .before .before .before .before .before .chain3 .ensures;
+        size = c .before .before .before .before .before .before .loop .inv .size;
+      },
+      p .pre .1 .there (c .before .before .before .before .before .before .loop .k) (c .before .before .before .before .before .loop-test .taken),
+    )
 
 add-k : tie.Need-add-k Inv-loop μ-loop
 add-k c = let l = c .before .before .before .before .before .before .loop-test .taken in search needs

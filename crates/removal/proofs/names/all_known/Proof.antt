@@ -5,10 +5,6 @@ use Rattle.removal.specs.NameLaws.{both-known, first-unknown}
 use borrow.Author.Needs.{needs}
 use Rattle.removal.proofs.names.all_known.Statement.{statement}
 use Rattle.removal.proofs.names.all_known.Tie as tie
-use Rattle.removal.proofs.names.all_known.Reads as reads
-use Rattle.removal.proofs.names.all_known.Lts as lts
-use Rattle.removal.proofs.names.lost_known.Reads as lost-known-reads
-use Rattle.removal.proofs.names.pairs_known.Reads as pairs-known-reads
 
 pairs-known-requires : tie.Need-pairs-known-requires
 pairs-known-requires c κs = search needs

@@ -6,10 +6,6 @@ use Rattle.removal.specs.NameLaws.{answers-nothing, answers-names}
 use borrow.Author.Needs.{needs}
 use Rattle.removal.proofs.names.answer.Statement.{statement}
 use Rattle.removal.proofs.names.answer.Tie as tie
-use Rattle.removal.proofs.names.answer.Reads as reads
-use Rattle.removal.proofs.names.answer.Lts as lts
-use Rattle.removal.proofs.names.count_marks.Reads as count-marks-reads
-use Rattle.removal.proofs.names.write_names.Reads as write-names-reads
 
 count-marks-requires : tie.Need-count-marks-requires
 count-marks-requires c κs = search needs

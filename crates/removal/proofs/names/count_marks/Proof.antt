@@ -1,7 +1,7 @@
 -- The loop's invariant: `sum` is how many of the first i lines are marked.
 use native.Mathlib.Omega.{arith}
 use denote.Ref.{now}
-use mathlib.Core.Path.{_≡_, refl, sym, ap, subst, _∙_}
+use mathlib.Core.Path.{_≡_, sym, ap, _∙_}
 use mathlib.Core.Logic.{⊎-elim}
 use Prim.Native.Nat.{ℕ, _-_, _+_, _≤_}
 use lib.ListN.{length}
@@ -10,8 +10,6 @@ use Rattle.removal.specs.NameLaws.{names-none, names-marked, names-unmar
 use borrow.Author.Needs.{needs}
 use Rattle.removal.proofs.names.count_marks.Statement.{statement}
 use Rattle.removal.proofs.names.count_marks.Tie as tie
-use Rattle.removal.proofs.names.count_marks.Reads as reads
-use Rattle.removal.proofs.names.count_marks.Lts as lts
 
 abbrev Inv-loop : tie.InvT-loop
 Inv-loop gone n base i₀ sum₀ i sum = (sum ≡ length (names base gone i)) × (i ≤ n)
@@ -42,11 +40,13 @@ loop-less c = omega (arith, c .before .before .loop-test .taken)
 loop-again : tie.Need-loop-again Inv-loop μ-loop
 loop-again c =
     let a = c .before .before .before .before .args in
-    let l = c .before .before .before .loop in
-    (⊎-elim
-      (λ w. w .1 ∙ ap (λ (x : ℕ). x + 1) (l .inv .0) ∙ sym (names-marked (a .base) (a .gone .now) (l .i) (w .0 .taken) .1))
-      (λ w. w .1 ∙ l .inv .0 ∙ sym (ap length (names-unmarked (a .base) (a .gone .now) (l .i) (w .0 .left))))
-      (c .if1 .came), omega (arith, c .before .before .loop-test .taken))
+    let l = c .before .before .before .loop in (
+      ⊎-elim
+          (λ w. w .1 ∙ ap (λ (x : ℕ). x + 1) (l .inv .0) ∙ sym (names-marked (a .base) (a .gone .now) (l .i) (w .0 .taken) .1))
+          (λ w. w .1 ∙ l .inv .0 ∙ sym (ap length (names-unmarked (a .base) (a .gone .now) (l .i) (w .0 .left))))
+          (c .if1 .came),
+      omega (arith, c .before .before .loop-test .taken),
+    )
 
 returns : tie.Need-returns Inv-loop μ-loop
 returns c =

@@ -1,13 +1,7 @@
 -- Above the base it is known if it is not above the last; else it is not.
-use mathlib.Core.Path.{_≡_, sym, ap}
-use mathlib.Core.Bool.{Bool, _&&_}
-use lib.Dec.{leb}
 use Rattle.removal.specs.NameLaws.{known-above, known-below}
-use borrow.Author.Needs.{needs}
 use Rattle.removal.proofs.names.is_known.Statement.{statement}
 use Rattle.removal.proofs.names.is_known.Tie as tie
-use Rattle.removal.proofs.names.is_known.Reads as reads
-use Rattle.removal.proofs.names.is_known.Lts as lts
 
 returns : tie.Need-returns
 returns c = known-above (c .before .args .base) (c .before .args .done) (c .before .args .k) (c .if1 .taken)

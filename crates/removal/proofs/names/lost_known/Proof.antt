@@ -1,19 +1,13 @@
 -- The loop's invariant: all numbers before this one are known; at one that is not, not all are.
 use native.Mathlib.Omega.{arith}
-use denote.Ref.{now}
-use Prim.Native.Nat.{ℕ, _-_, _<_, _≤_, _*_}
+use Prim.Native.Nat.{ℕ, _-_, _<_}
 use lib.Dec.{T}
 use lib.ListN.{length, getD}
-use Rattle.removal.specs.Chains.{countOf, keyAt}
 use Rattle.removal.specs.Names.{known}
 use Rattle.removal.specs.NameLaws.{known-next, known-said, known-unsaid}
-use Rattle.forms.specs.ListLaws.{true-T}
 use borrow.Author.Needs.{needs}
 use Rattle.removal.proofs.names.lost_known.Statement.{statement}
 use Rattle.removal.proofs.names.lost_known.Tie as tie
-use Rattle.removal.proofs.names.lost_known.Reads as reads
-use Rattle.removal.proofs.names.lost_known.Lts as lts
-use Rattle.removal.proofs.names.is_known.Reads as is-known-reads
 
 abbrev Inv-loop : tie.InvT-loop
 Inv-loop lost base done k₀ k = (n : ℕ) → n < k → T (known base done (getD lost n 0))

@@ -1,19 +1,13 @@
 -- The loop's invariant: all numbers before this one are known; at one that is not, not all are.
 use native.Mathlib.Omega.{arith}
-use denote.Ref.{now}
-use Prim.Native.Nat.{ℕ, _-_, _<_, _≤_, _*_}
+use Prim.Native.Nat.{ℕ, _-_, _<_}
 use lib.Dec.{T}
-use lib.ListN.{length, getD}
 use Rattle.removal.specs.Chains.{countOf, keyAt}
 use Rattle.removal.specs.Names.{known}
 use Rattle.removal.specs.NameLaws.{known-next, known-not, known-pair}
-use Rattle.forms.specs.ListLaws.{true-T}
 use borrow.Author.Needs.{needs}
 use Rattle.removal.proofs.names.pairs_known.Statement.{statement}
 use Rattle.removal.proofs.names.pairs_known.Tie as tie
-use Rattle.removal.proofs.names.pairs_known.Reads as reads
-use Rattle.removal.proofs.names.pairs_known.Lts as lts
-use Rattle.removal.proofs.names.is_known.Reads as is-known-reads
 
 abbrev Inv-loop : tie.InvT-loop
 Inv-loop pairs base done p₀ p = (n : ℕ) → n < p → T (known base done (keyAt pairs 0 n))

@@ -1,7 +1,6 @@
 -- The loop's invariant: the numbers of the marked ones of the first i lines stand at the front, and the rest is as it was.
-use denote.Ref.{now}
 use native.Mathlib.Omega.{arith}
-use mathlib.Core.Path.{_≡_, refl, sym, ap, subst, _∙_}
+use mathlib.Core.Path.{sym, subst}
 use mathlib.Core.Logic.{⊎-elim}
 use mathlib.Core.List.{List}
 use Prim.Native.Nat.{ℕ, _-_, _+_, _≤_}
@@ -11,8 +10,6 @@ use Rattle.removal.specs.NameLaws.{writes-none, writes-skip, writes-next
 use borrow.Author.Needs.{needs}
 use Rattle.removal.proofs.names.write_names.Statement.{statement}
 use Rattle.removal.proofs.names.write_names.Tie as tie
-use Rattle.removal.proofs.names.write_names.Reads as reads
-use Rattle.removal.proofs.names.write_names.Lts as lts
 
 abbrev Inv-loop : tie.InvT-loop
 Inv-loop gone n base out₀ i₀ at₀ out i at = WritesTo base gone i at out₀ out × (i ≤ n) × (at ≤ length out₀)
@@ -60,12 +57,12 @@ loop-again c =
     let l = c .before .before .before .loop in
     let next : List ℕ → ℕ → Type 0 = λ o k. WritesTo (a .base) (a .gone .now) (l .i + 1) k (a .out .now) o × (l .i + 1 ≤ a .n) × (k ≤ length (a .out .now)) in
     ⊎-elim
-      (λ w. subst (λ (o : List ℕ). next o (c .if1 .at)) (sym (w .1)) (subst (next (set (l .out) (l .at) (a .base + 1 + l .i))) (sym (w .2))
-        (let r = writes-room (a .base) (a .gone .now) (l .i) (a .n) (l .at) (length (a .out .now)) (l .inv .0 .position) (c .before .before .loop-test .taken) (w .0 .taken) (p .pre .fits) in
-        (writes-next (a .base) (a .gone .now) (l .i) (l .at) (a .out .now) (l .out) (l .inv .0) (w .0 .taken) r, omega (arith, c .before .before .loop-test .taken), omega (arith, r)))))
-      (λ w. subst (λ (o : List ℕ). next o (c .if1 .at)) (sym (w .1)) (subst (next (l .out)) (sym (w .2))
-        (writes-skip (a .base) (a .gone .now) (l .i) (l .at) (a .out .now) (l .out) (l .inv .0) (w .0 .left), omega (arith, c .before .before .loop-test .taken), l .inv .2)))
-      (c .if1 .came)
+    (λ w. subst (λ (o : List ℕ). next o (c .if1 .at)) (sym (w .1)) (subst (next (set (l .out) (l .at) (a .base + 1 + l .i))) (sym (w .2))
+    (let r = writes-room (a .base) (a .gone .now) (l .i) (a .n) (l .at) (length (a .out .now)) (l .inv .0 .position) (c .before .before .loop-test .taken) (w .0 .taken) (p .pre .fits) in
+    (writes-next (a .base) (a .gone .now) (l .i) (l .at) (a .out .now) (l .out) (l .inv .0) (w .0 .taken) r, omega (arith, c .before .before .loop-test .taken), omega (arith, r)))))
+    (λ w. subst (λ (o : List ℕ). next o (c .if1 .at)) (sym (w .1)) (subst (next (l .out)) (sym (w .2))
+    (writes-skip (a .base) (a .gone .now) (l .i) (l .at) (a .out .now) (l .out) (l .inv .0) (w .0 .left), omega (arith, c .before .before .loop-test .taken), l .inv .2)))
+    (c .if1 .came)
 
 same-length : tie.Need-same-length Inv-loop μ-loop
 same-length c =
