@@ -16,7 +16,7 @@ use Rattle.site.specs.Model.{lent}
 use Rattle.site.specs.Polls.{ValidWith}
 use Rattle.session.specs.declared.Session.{Session}
 use Rattle.session.specs.Model.{ValidSession, sessionView}
-pub use Rattle.session.specs.Polls.{polledNumber}
+unfoldable pub use Rattle.session.specs.Polls.{polledNumber}
 use Rattle.c_api.specs.Play.{Plays}
 
 -- The poll of a history of a session's site: 14 "before site".

@@ -11,7 +11,7 @@ use Rattle.rules.specs.Poll.{Polled, poll}
 use Rattle.site.specs.Model.{Lent, view}
 use Rattle.session.specs.declared.Session.{Session}
 use Rattle.session.specs.Model.{viewIf, sessionView}
-pub use Rattle.session.specs.Polls.{polledNumber}
+unfoldable pub use Rattle.session.specs.Polls.{polledNumber}
 use Rattle.fitting_ledger.specs.Counters.{sessionAt}
 use Rattle.fitting_ledger.specs.Model.{stateAt}
 
