@@ -51,8 +51,8 @@ pub refused-number : (s : Site) (old : Lent) (q : Refusal) (r : CallResult) (new
 refused-number s old q r new d =
     record {
       form = says-refused _ q (d .answer);
-      first = d .answer .alone .0;
-      second = d .answer .alone .1;
+      first = d .answer .numberOnly .0;
+      second = d .answer .numberOnly .1;
       site = d .site;
       kept = d .kept;
     }

@@ -104,15 +104,15 @@ pub record Printable (r : Replied) : Type 0 where
   pub second : Few (r .second)
 
 -- "A refusal returns its number only": its lists are empty.
-abbrev pub Alone : Outcome → Replied → Type 0
-Alone (Refused q) r = (r .first .count ≡ 0) × (r .second .count ≡ 0)
-Alone (Accepted a) r = Unit {0}
+abbrev pub NumberOnly : Outcome → Replied → Type 0
+NumberOnly (Refused q) r = (r .first .count ≡ 0) × (r .second .count ≡ 0)
+NumberOnly (Accepted a) r = Unit {0}
 
 -- A reply says this, and can be printed.
 pub record Says (r : Replied) (o : Outcome) : Type 0 where
   pub outcome : outcomeOf r ≡ o
   pub printable : Printable r
-  pub alone : Alone o r
+  pub numberOnly : NumberOnly o r
 
 -- "A refusal returns its number only; site, log .. and all other lent buffers do not change."
 pub record RefusedAs (s : Site) (old : Lent) (q : Refusal) (r : CallResult) (new : Lent) : Type 0 where

@@ -27,7 +27,7 @@ use Rattle.site.specs.declared.Site.{Site}
 use Rattle.site.specs.declared.CallResult.{CallResult}
 use Rattle.site.specs.Representation.{Representation, linesOfJournal, linesRead, baseOfJournal, baseRead, stateOf, Carries}
 use Rattle.site.specs.Representation.{Represents, Sound}
-use Rattle.site.specs.Model.{Lent, lent, represented, Few, Alone, Says, DoesWith, Does}
+use Rattle.site.specs.Model.{Lent, lent, represented, Few, NumberOnly, Says, DoesWith, Does}
 
 -- ### Replies
 
@@ -45,19 +45,19 @@ unfolding numbersOf
 means-none ws = record { fits = record { few = omega arith; within = omega arith }; list = refl }
 
 -- A reply says what its form and its lists mean.
-pub says-lists : (r : Replied) (xs ys : List ℕ) → Means (r .first) xs → Means (r .second) ys → Alone (outcomeWith (r .form) xs ys) r →
+pub says-lists : (r : Replied) (xs ys : List ℕ) → Means (r .first) xs → Means (r .second) ys → NumberOnly (outcomeWith (r .form) xs ys) r →
     Says r (outcomeWith (r .form) xs ys)
 unfolding outcomeOf
-says-lists r xs ys a b alone =
+says-lists r xs ys a b only =
     record {
       outcome = ap₂ (outcomeWith (r .form)) (a .list) (b .list);
       printable = record { first = a .fits; second = b .fits };
-      alone = alone;
+      numberOnly = only;
     }
 
 -- A reply that counts no numbers has empty lists, whatever its form.
 pub alone-none : (f : ReplyForm) (xs ys : List ℕ) →
-    Alone (outcomeWith f [] []) (record { form = f; first = listed 0 xs; second = listed 0 ys })
+    NumberOnly (outcomeWith f [] []) (record { form = f; first = listed 0 xs; second = listed 0 ys })
 unfolding outcomeWith
 alone-none (ReplyForm.Refused q) xs ys = (refl, refl)
 alone-none ReplyForm.Opened xs ys = tt
