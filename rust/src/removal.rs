@@ -67,8 +67,8 @@ impl Removal {
     /// The log numbers of the lines that fall.
     fn named(&self, lost: &[u64]) -> Vec<u64> {
         let mut gone = vec![false; self.lines.len()];
-        for number in lost.iter().filter(|number| **number > self.base) {
-            gone[(number - self.base) as usize - 1] = true;
+        for line in lost.iter().filter_map(|number| self.line(*number)) {
+            gone[line] = true;
         }
         let mut count = 0;
         for _ in 0..self.rules.removal_passes(gone.len()) {
@@ -85,14 +85,19 @@ impl Removal {
         named
     }
 
+    /// The line with a log number, counted from 0.
+    fn line(&self, number: u64) -> Option<usize> {
+        let line = number.checked_sub(self.base + 1)? as usize;
+        (line < self.lines.len()).then_some(line)
+    }
+
     /// One pass over the transactions and one over the lines.
     fn pass(&self, gone: &mut [bool]) {
-        let at = |line: u64| (line - self.base) as usize - 1;
-        let known = || self.pairs.iter().filter(|(line, _)| *line > self.base);
-        let falling = known().filter(|(line, _)| gone[at(*line)]);
-        let transactions: BTreeSet<u64> = falling.map(|(_, transaction)| *transaction).collect();
-        for (line, _) in known().filter(|(_, transaction)| transactions.contains(transaction)) {
-            gone[at(*line)] = true;
+        let known = self.pairs.iter().filter_map(|(line, of)| Some((self.line(*line)?, *of)));
+        let falling = known.clone().filter(|(line, _)| gone[*line]);
+        let transactions: BTreeSet<u64> = falling.map(|(_, of)| of).collect();
+        for (line, _) in known.filter(|(_, of)| transactions.contains(of)) {
+            gone[line] = true;
         }
         self.fall(gone, (0..self.lines.len()).collect());
         if self.rules.removes_earlier() {
