@@ -51,11 +51,7 @@ impl Rules {
 
     /// The refusals of a report, the first one first: 16 and then 12. `full` says that no answer
     /// would fit.
-    pub fn order_removal(
-        self,
-        tests: [(bool, Refusal); 2],
-        full: bool,
-    ) -> [(bool, Refusal); 2] {
+    pub fn order_removal(self, tests: [(bool, Refusal); 2], full: bool) -> [(bool, Refusal); 2] {
         if self.has(Flaw::RemovalRoomFirst) {
             [(tests[1].0 || full, tests[1].1), tests[0]]
         } else {

@@ -3,7 +3,8 @@
 use super::*;
 
 /// Five lines: 1 and 3 in history 0, 2 and 4 in history 1, of which both are `not`, 5 in history 2.
-const FIVE: &str = "(site 3)\n(did 1 (set 0 1 1 10))\n(did 2 (not 1 0 1 0))\n(did 3 (set 0 2 2 20))\n\
+const FIVE: &str =
+    "(site 3)\n(did 1 (set 0 1 1 10))\n(did 2 (not 1 0 1 0))\n(did 3 (set 0 2 2 20))\n\
                     (did 4 (not 1 0 2 0))\n(did 5 (set 2 1 1 30))\n";
 
 /// What a report gives, and the numbers of its room after it.
@@ -71,7 +72,8 @@ fn refusals_come_in_their_order() {
 /// (g), (h): stable lines have no numbers, and the first line behind a base line of N is N + 1.
 #[test]
 fn numbers_go_on_behind_a_base() {
-    let log = "(site 1)\n(base 5 (0 2 5 9))\n(did 6 (set 0 3 6 1))\n(stable 6)\n(did 7 (set 0 4 7 2))\n";
+    let log =
+        "(site 1)\n(base 5 (0 2 5 9))\n(did 6 (set 0 3 6 1))\n(stable 6)\n(did 7 (set 0 4 7 2))\n";
     assert_eq!(named(log, &[], &[6]), [6, 7]);
     assert_eq!(named(log, &[], &[7]), [7]);
     assert_eq!(refused(log, &[], &[5], 9), 16);
@@ -100,6 +102,7 @@ fn a_full_log_falls() {
         let pairs: Vec<u64> = (0..count).flat_map(|at| [last - at % last, 9]).collect();
         falls(&pairs, last);
     }
-    let ladder: Vec<u64> = (1..last).flat_map(|line| [line, 4096 * line, line + 1, 4096 * line]).collect();
+    let ladder: Vec<u64> =
+        (1..last).flat_map(|line| [line, 4096 * line, line + 1, 4096 * line]).collect();
     falls(&ladder, last);
 }
