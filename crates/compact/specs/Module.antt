@@ -13,6 +13,7 @@ use Rattle.rules.specs.State.{State, Reply, refused, ok, live}
 use Rattle.rules.specs.Calls.{unless, openSite, restart, Call, Add, Finish, Withdraw, Persistent, Stable, Show, Cut, Changeover, Redo, End}
 use Rattle.rules.specs.Calls.{writable, step}
 use Rattle.rules.specs.When.{lastly, stepWhen}
+pub use Rattle.rules.specs.Within.{keptLive}
 
 -- ### The module
 
@@ -88,11 +89,6 @@ taken i m = leb (free m) (sum lacks (others i m))
 -- "A cut or restart is refused 10 .. when the entries free once its own are given back do not cover its kept live lines and what the others lack."
 unfoldable pub uncovered : ℕ → ℕ → Module → Bool
 uncovered i kept m = ltb (free m + liveOf (slotAt i m)) (kept + sum lacks (others i m))
-
--- the kept live lines of a cut or restart: those that are live after it
-abbrev pub keptLive : Reply → ℕ
-keptLive (refused r) = 0
-keptLive (ok after answer) = live after
 
 -- Does a call of slot i meet 10 from outside?
 unfoldable pub meetsTen : ℕ → Call → State → Module → Bool

@@ -11,7 +11,7 @@ use Rattle.recovery.specs.Claim.{Start, counted, Fair, lostBy, Asked}
 use Rattle.recovery.specs.Recovery.{run-append}
 use Rattle.recovery.specs.Arrival.{didLines, every, SameWork}
 use Rattle.recovery.specs.ArrivalLaws.{did-lines, arrival, all-three}
-use Rattle.end_to_end.specs.SiteCalls.{Memory, stateIn, ValidIn, logIn}
+use Rattle.end_to_end.specs.SiteCalls.{Memory, stateIn, ValidIn, Alone, logIn}
 use Rattle.end_to_end.specs.SiteCallsLaws.{RunsAs, log-bytes, good-in, makes-runs, calls-run, starts-at}
 use Rattle.end_to_end.specs.ArrivalCalls.{linesBefore, linesAtEnd, SiteArrivalClaim, SiteOrdersClaim}
 
@@ -45,22 +45,22 @@ unfolding run
 site-arrival D =
     subst (λ (l : List Did). SameWork l (linesAtEnd D)) (sym (lines-in (D .before) (a .valid)))
     (subst (λ (l : List Did). SameWork (stateIn (D .before) .log) l) (sym (lines-in (D .final) (c .valid)))
-    (arrives-at (D .counts) (stateIn (D .start)) (at-start .1) (D .calls) (D .kept) (D .room) (D .further)
+    (arrives-at (D .counts) (stateIn (D .start)) (at-start .2) (D .calls) (D .kept) (D .room) (D .further)
     (stateIn (D .before)) (stateIn (D .after)) (stateIn (D .final)) (sym (a .state))
     (sym (c .state ∙ ap (run (D .further)) (b .state ∙ ap (λ (st : State). settle (step (Cut (D .kept) (D .room)) st) st) (a .state))
     ∙ sym (run-append (D .calls) (Cut (D .kept) (D .room) ∷ D .further) (stateIn (D .start))))) (D .fair) (D .asked)))
   where
-    at-start : ValidIn (D .start) × Start (D .counts) (stateIn (D .start))
+    at-start : ValidIn (D .start) × Alone (D .start) × Start (D .counts) (stateIn (D .start))
     at-start = starts-at (D .starts)
 
     a : RunsAs (D .before) (run (D .calls) (stateIn (D .start)))
-    a = calls-run (at-start .0) (D .makes)
+    a = calls-run (at-start .0) (at-start .1) (D .makes)
 
     b : RunsAs (D .after) (settle (step (Cut (D .kept) (D .room)) (stateIn (D .before))) (stateIn (D .before)))
-    b = makes-runs (a .valid) (D .cuts)
+    b = makes-runs (a .valid) (a .alone) (D .cuts)
 
     c : RunsAs (D .final) (run (D .further) (stateIn (D .after)))
-    c = calls-run (b .valid) (D .resends)
+    c = calls-run (b .valid) (b .alone) (D .resends)
 
 pub site-orders : SiteOrdersClaim
 site-orders D E same =

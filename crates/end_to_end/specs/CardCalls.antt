@@ -20,7 +20,7 @@ use Rattle.site.specs.Representation.{Sound}
 use Rattle.card.specs.declared.Card.{Card}
 use Rattle.card.specs.declared.Made.{Made}
 use Rattle.card.specs.Model.{rowWidth, LogOf, IsCard, MadeAs, CountsAfresh, Follows}
-use Rattle.end_to_end.specs.SiteCalls.{Memory, stateIn, ValidIn, logIn, Execution, StartsSite}
+use Rattle.end_to_end.specs.SiteCalls.{Memory, stateIn, ValidIn, Alone, logIn, Execution, StartsSite}
 use Rattle.end_to_end.specs.SiteCallsLaws.{log-bytes, good-in, calls-run, starts-at}
 
 -- ### Calls of the code's site, and a card that follows them
@@ -50,6 +50,7 @@ pub data CardSteps (w : ℕ) : Memory → CardMemory → List Call → Memory �
 -- The card is the one counted afresh from the log then held: the numbers of the site's histories; and it can go on from there.
 pub record CardIs (w : ℕ) (x : Memory) (k : CardMemory) (st : State) : Type 0 where
   pub valid : ValidIn x
+  pub alone : Alone x
   pub state : stateIn x ≡ st
   pub past : List ℕ
   pub numbers : k .counts ≡ cardNumbers (cardAfresh w st) ++ past
@@ -97,23 +98,23 @@ made-card (carded rows) w st old made new (d, e, K) c is =
     let same : d ≡ c = cc in
     (drop (rowWidth * st .histories) old, subst (λ (r : Card). IsCard w st r new (drop (rowWidth * st .histories) old)) same K)
 
-card-is : (w : ℕ) (x : Memory) (c : Card) (counts past : List ℕ) → ValidIn x → IsCard w (stateIn x) c counts past →
+card-is : (w : ℕ) (x : Memory) (c : Card) (counts past : List ℕ) → ValidIn x → Alone x → IsCard w (stateIn x) c counts past →
     CardIs w x (record { card = c; counts = counts }) (stateIn x)
-card-is w x c counts past v K = record { valid = v; state = refl; past = past; numbers = K .numbers; goesOn = K }
+card-is w x c counts past v one K = record { valid = v; alone = one; state = refl; past = past; numbers = K .numbers; goesOn = K }
 
-afresh-is : (w : ℕ) (x : Memory) (old : List ℕ) (made : Made) (new : List ℕ) → ValidIn x →
+afresh-is : (w : ℕ) (x : Memory) (old : List ℕ) (made : Made) (new : List ℕ) → ValidIn x → Alone x →
     CountsAfresh w (logIn x) (x .site .count) (x .site .head) old made new → (c : Card) → made ≡ Made.Counted c →
     CardIs w x (record { card = c; counts = new }) (stateIn x)
-afresh-is w x old made new v A c is =
+afresh-is w x old made new v one A c is =
     let K = made-card (card w (stateIn x)) w (stateIn x) old made new (A (stateIn x) (log-of x v)) c is in
-    card-is w x c new (K .0) v (K .1)
+    card-is w x c new (K .0) v one (K .1)
 
 -- One step.
 step-is : {w : ℕ} {x y : Memory} {k l : CardMemory} {cs : List Call} → CardIs w x k (stateIn x) → CardStep w x k cs y l →
     CardIs w y l (stateIn y)
 step-is {w} {x} {k = k} I (follows cs y plain made r new F) =
-    let R = calls-run (I .valid) made in
-    card-is w y r new (I .past) (R .valid)
+    let R = calls-run (I .valid) (I .alone) made in
+    card-is w y r new (I .past) (R .valid) (R .alone)
     (F w (stateIn x) (stateIn y) (I .past)
     (record {
       card = I .goesOn;
@@ -122,21 +123,23 @@ step-is {w} {x} {k = k} I (follows cs y plain made r new F) =
       text = log-bytes y (R .valid);
     }))
 step-is {w} {x} {k = k} I (afresh cs y made given new A r is) =
-    afresh-is w y (k .counts) given new (calls-run (I .valid) made .valid) A r is
+    let R = calls-run (I .valid) (I .alone) made in
+    afresh-is w y (k .counts) given new (R .valid) (R .alone) A r is
 
-step-runs : {w : ℕ} {x y : Memory} {k l : CardMemory} {cs : List Call} → ValidIn x → CardStep w x k cs y l →
+step-runs : {w : ℕ} {x y : Memory} {k l : CardMemory} {cs : List Call} → ValidIn x → Alone x → CardStep w x k cs y l →
     stateIn y ≡ run cs (stateIn x)
-step-runs v (follows cs y plain made r new F) = calls-run v made .state
-step-runs v (afresh cs y made given new A r is) = calls-run v made .state
+step-runs v one (follows cs y plain made r new F) = calls-run v one made .state
+step-runs v one (afresh cs y made given new A r is) = calls-run v one made .state
 
 steps-are : {w : ℕ} {x y : Memory} {k l : CardMemory} {cs : List Call} → CardIs w x k (stateIn x) → CardSteps w x k cs y l →
     CardIs w y l (run cs (stateIn x))
 unfolding run
 steps-are I (none x k) = I
 steps-are {w} {x} I (next {y = y} {z = z} {m = m} {cs = cs} {ds = ds} one more) =
-    subst (CardIs w z m) (sym (run-append cs ds (stateIn x) ∙ ap (run ds) (sym (step-runs (I .valid) one))))
+    subst (CardIs w z m) (sym (run-append cs ds (stateIn x) ∙ ap (run ds) (sym (step-runs (I .valid) (I .alone) one))))
     (steps-are (step-is I one) more)
 
 -- "after every call and cut the card equals one counted afresh from the log then held"
 pub card-calls : CardClaim
-card-calls w m start begins old made new A c is cs x k s = steps-are (afresh-is w start old made new (starts-at begins .0) A c is) s
+card-calls w m start begins old made new A c is cs x k s =
+    let b = starts-at begins in steps-are (afresh-is w start old made new (b .0) (b .1) A c is) s

@@ -32,7 +32,7 @@ use Rattle.forms.specs.declared.Refusal.{Refusal}
 use Rattle.trim.specs.declared.Copied.{Copied}
 use Rattle.trim.specs.declared.Copied.the-variants.{Used, Refused}
 use Rattle.trim.specs.Model.{CopiesLog}
-use Rattle.site.specs.Model.{Lent, view, Valid, AcceptedAs, Opens, Steps}
+use Rattle.site.specs.Model.{Lent, view, Valid, AcceptedAs, Opens, Steps, StepsWithin}
 
 -- ### Calls of the code's site
 
@@ -51,6 +51,10 @@ stateIn x = view (x .site) (x .lent)
 abbrev pub ValidIn : Memory → Type 0
 ValidIn x = Valid (x .site) (x .lent)
 
+-- The site is alone: the order has 64 entries that it may use.
+abbrev pub Alone : Memory → Type 0
+Alone x = length (x .lent .order) ≡ 64
+
 -- the bytes in use of the log buffer
 abbrev pub logIn : Memory → List ℕ
 logIn x = take (x .site .used) (x .lent .log)
@@ -68,7 +72,8 @@ KeepsBase x k = (stateIn x .base ≡ option.none) ⊎ (x .site .head ≤ k)
 -- One call of the list, a transition: from the site and what is lent to it before the call, to those after it.
 pub data Transition (x : Memory) : Call → Memory → Type 0 where
   -- a call that keeps its contract: add, finish, withdraw, persistent, stable, show, redo, end, and a cut that goes on in the same buffer
-  calls : (c : Call) (r : CallResult) (new : Lent) → Steps (x .site) (x .lent) c r new → Transition x c (memory (r .site) new)
+  -- (those that take no entries promise `Steps`, from which this follows: `steps-within`)
+  calls : (c : Call) (r : CallResult) (new : Lent) → StepsWithin (x .site) (x .lent) c r new → Transition x c (memory (r .site) new)
   -- "A cut in the list is a restart from them": the first k bytes of the log stand in another buffer; `Site::restart` keeps its contract
   restarts : (k : ℕ) (buffer : Lent) (r : CallResult) (new : Lent) → KeepsBase x k → k ≤ x .site .used →
       take k (buffer .log) ≡ take k (x .lent .log) →

@@ -39,17 +39,21 @@ use Rattle.recovery.specs.Recovery.{run-append, recovery}
 use Rattle.site.specs.declared.CallResult.{CallResult}
 use Rattle.site.specs.Representation.{Sound}
 use Rattle.site.specs.OpenLaws.{blankSite}
+use Rattle.site.specs.ModelLaws.{steps-alone}
+use Rattle.table.specs.OrderLaws.{same-length}
+use Rattle.history.specs.WordLaws.{below-long}
 use Rattle.site.specs.EntryOf.{entry-is}
 use Rattle.site.specs.Model.{Lent, represented, AcceptedAs, Does, Opens}
 use Rattle.site.specs.RestartLaws.{cut-restarts, log-limit, used-limit}
-use Rattle.end_to_end.specs.SiteCalls.{EntryClaim, PollsAs, PollClaim, Memory, memory, stateIn, ValidIn, logIn, goesOnFrom, KeepsBase}
+use Rattle.end_to_end.specs.SiteCalls.{EntryClaim, PollsAs, PollClaim, Memory, memory, stateIn, ValidIn, Alone, logIn, goesOnFrom, KeepsBase}
 use Rattle.end_to_end.specs.SiteCalls.{Transition, calls, restarts, changesOver, staysWith}
 use Rattle.end_to_end.specs.SiteCalls.{Execution, none, next}
 use Rattle.end_to_end.specs.SiteCalls.{StartsSite, opens, restarted, AnswersCall, ShowsIn, RecoveredIn, SiteCallsClaim}
 
--- A site and what is lent to it after calls: valid, and the state that the specification's calls give.
+-- A site and what is lent to it after calls: valid, alone, and the state that the specification's calls give.
 pub record RunsAs (x : Memory) (st : State) : Type 0 where
   pub valid : ValidIn x
+  pub alone : Alone x
   pub state : stateIn x ≡ st
 
 -- ### What the invariant says
@@ -71,21 +75,29 @@ good-in x v = v .sound .good
 
 -- ### One call
 
+-- An accepted call leaves as many entries as there are numbers.
+pub alone-after : (numbers : List ℕ) (old : Lent) (st : State) (a : Answer) (r : CallResult) (new : Lent) → length numbers ≡ 64 →
+    AcceptedAs numbers old st a r new → Alone (memory (r .site) new)
+alone-after numbers old st a r new e A = same-length (new .order) numbers (A .same) ∙ e
+
 -- A call that keeps its contract gives the next state of the specification, and keeps the invariant.
-call-runs : (x : Memory) → ValidIn x → (reply : Reply) (r : CallResult) (new : Lent) → Does (x .site) (x .lent) reply r new →
+call-runs : (x : Memory) → ValidIn x → Alone x → (reply : Reply) (r : CallResult) (new : Lent) → Does (x .site) (x .lent) reply r new →
     RunsAs (memory (r .site) new) (settle reply (stateIn x))
 unfolding settle
-call-runs x v (refused q) r new d =
-    subst (λ (y : Memory). RunsAs y (stateIn x)) (λ i. memory (sym (d .site) i) (sym (d .kept) i)) (record { valid = v; state = refl })
-call-runs x v (ok st a) r new d = record { valid = d .valid; state = d .state }
+call-runs x v one (refused q) r new d =
+    subst (λ (y : Memory). RunsAs y (stateIn x)) (λ i. memory (sym (d .site) i) (sym (d .kept) i))
+    (record { valid = v; alone = one; state = refl })
+call-runs x v one (ok st a) r new d =
+    record { valid = d .valid; alone = alone-after (x .lent .order) (x .lent) st a r new one d; state = d .state }
 
 -- .. and so does a restart into another buffer
-restart-runs : (x : Memory) → ValidIn x → (reply : Reply) (buffer : Lent) (r : CallResult) (new : Lent) →
+restart-runs : (x : Memory) → ValidIn x → Alone x → (reply : Reply) (buffer : Lent) (r : CallResult) (new : Lent) →
     Opens blankSite buffer reply r new →
     RunsAs (goesOnFrom reply x (memory (r .site) new)) (settle reply (stateIn x))
 unfolding settle
-restart-runs x v (refused q) buffer r new d = record { valid = v; state = refl }
-restart-runs x v (ok st a) buffer r new d = record { valid = d .valid; state = d .state }
+restart-runs x v one (refused q) buffer r new d = record { valid = v; alone = one; state = refl }
+restart-runs x v one (ok st a) buffer r new d =
+    record { valid = d .valid; alone = alone-after (below 64) buffer st a r new (below-long 64) d; state = d .state }
 
 -- Without a base line a restart from any of the first bytes is a cut.
 plain-restarts : (x : Memory) → ValidIn x → (buffer : List ℕ) (k : ℕ) → k ≤ top → stateIn x .base ≡ option.none → k ≤ x .site .used →
@@ -171,7 +183,11 @@ changed-runs : (x : Memory) → ValidIn x → (n : ℕ) (fresh copy : List ℕ) 
     RunsAs (memory (r .site) new) (settle (step (Changeover n (length fresh)) (stateIn x)) (stateIn x))
 unfolding settle
 changed-runs x v n fresh copy used t buffer is r new d =
-    record { valid = A .valid; state = A .state ∙ sym (ap (λ (reply : Reply). settle reply (stateIn x)) (stepped ∙ over)) }
+    record {
+      valid = A .valid;
+      alone = alone-after (below 64) buffer after _ r new (below-long 64) A;
+      state = A .state ∙ sym (ap (λ (reply : Reply). settle reply (stateIn x)) (stepped ∙ over));
+    }
   where
     G : Good (stateIn x)
     G = good-in x v
@@ -191,12 +207,13 @@ changed-runs x v n fresh copy used t buffer is r new d =
         (ap (λ (b : List ℕ). restart b used) is ∙ trimmed-restarts n fresh (stateIn x) G copy used t ∙ over) d
 
 -- One call of the list gives the next state.
-pub makes-runs : {x y : Memory} {c : Call} → ValidIn x → Transition x c y → RunsAs y (settle (step c (stateIn x)) (stateIn x))
-makes-runs {x} v (calls c r new d) = call-runs x v (step c (stateIn x)) r new d
-makes-runs {x} v (restarts k buffer r new whole le same d) =
+pub makes-runs : {x y : Memory} {c : Call} → ValidIn x → Alone x → Transition x c y → RunsAs y (settle (step c (stateIn x)) (stateIn x))
+makes-runs {x} v one (calls c r new d) =
+    call-runs x v one (step c (stateIn x)) r new (steps-alone (x .site) (x .lent) c r new one d)
+makes-runs {x} v one (restarts k buffer r new whole le same d) =
     subst (λ (reply : Reply). RunsAs (goesOnFrom (restart (buffer .log) k) x (memory (r .site) new)) (settle reply (stateIn x)))
     (sym (go whole))
-    (restart-runs x v (restart (buffer .log) k) buffer r new d)
+    (restart-runs x v one (restart (buffer .log) k) buffer r new d)
   where
     low : k ≤ top
     low =
@@ -207,30 +224,37 @@ makes-runs {x} v (restarts k buffer r new whole le same d) =
     go : KeepsBase x k → step (Cut k (length (buffer .log))) (stateIn x) ≡ restart (buffer .log) k
     go (inl none-of) = plain-restarts x v (buffer .log) k low none-of le same
     go (inr h) = cut-restarts (represented (x .site) (x .lent)) (x .lent .log) (v .sound) (buffer .log) k low h le same
-makes-runs {x} v (changesOver n fresh c copy T used e buffer is r new d) =
+makes-runs {x} v one (changesOver n fresh c copy T used e buffer is r new d) =
     changed-runs x v n fresh copy used (copy-made x v n fresh c copy T used e) buffer is r new d
-makes-runs {x} v (staysWith n fresh c copy T q e) =
-    record { valid = v; state = sym (changeover-stays n (length fresh) (stateIn x) q (copy-refused x v n fresh c copy T q e .number)) }
+makes-runs {x} v one (staysWith n fresh c copy T q e) =
+    record {
+      valid = v;
+      alone = one;
+      state = sym (changeover-stays n (length fresh) (stateIn x) q (copy-refused x v n fresh c copy T q e .number));
+    }
 
 -- ### A list of calls
 
 -- Calls that keep their contracts are `run` of the list of calls.
-pub calls-run : {x y : Memory} {cs : List Call} → ValidIn x → Execution x cs y → RunsAs y (run cs (stateIn x))
+pub calls-run : {x y : Memory} {cs : List Call} → ValidIn x → Alone x → Execution x cs y → RunsAs y (run cs (stateIn x))
 unfolding run
-calls-run v (none x) = record { valid = v; state = refl }
-calls-run v (next {cs = cs} one more) =
-    let a = makes-runs v one in
-    let b = calls-run (a .valid) more in
-    record { valid = b .valid; state = b .state ∙ ap (run cs) (a .state) }
+calls-run v one (none x) = record { valid = v; alone = one; state = refl }
+calls-run v one (next {cs = cs} first more) =
+    let a = makes-runs v one first in
+    let b = calls-run (a .valid) (a .alone) more in
+    record { valid = b .valid; alone = b .alone; state = b .state ∙ ap (run cs) (a .state) }
 
 -- A list starts with a valid site, in a state at which the claim's lists start.
-pub starts-at : {m : ℕ} {x : Memory} → StartsSite m x → ValidIn x × Start m (stateIn x)
+pub starts-at : {m : ℕ} {x : Memory} → StartsSite m x → ValidIn x × Alone x × Start m (stateIn x)
 starts-at (opens n old r new st a d e) =
     let q : AcceptedAs (below 64) old st a r new = subst (λ (reply : Reply). Opens blankSite old reply r new) e d in
-    (q .valid, subst (Start 0) (sym (q .state)) (justOpened n (length (old .log)) st a e))
+    (q .valid, alone-after (below 64) old st a r new (below-long 64) q, subst (Start 0) (sym (q .state)) (justOpened n (length (old .log)) st a e))
 starts-at (restarted k old r new st a d e) =
-    let q : AcceptedAs (below 64) old st a r new = subst (λ (reply : Reply). Opens blankSite old reply r new) e d in
-    (q .valid, subst (λ (s : State). Start (length (linesIn s)) s) (sym (q .state)) (justRestarted (old .log) k st a e))
+    let q : AcceptedAs (below 64) old st a r new = subst (λ (reply : Reply). Opens blankSite old reply r new) e d in (
+      q .valid,
+      alone-after (below 64) old st a r new (below-long 64) q,
+      subst (λ (s : State). Start (length (linesIn s)) s) (sym (q .state)) (justRestarted (old .log) k st a e),
+    )
 
 -- ### What the site shows
 
@@ -289,24 +313,24 @@ unfolding run
 site-calls m start begins xs before first k room after cut ys final later chosen fair asked =
     recovered-in before after (lostBy (stateIn before) (stateIn after)) chosen (came (xs ++ Cut k room ∷ ys) (stateIn start)) final
     (a .valid) (c .valid) (C .lines .0) (C .lines .1) (sym (lost-dids room (stateIn before) (stateIn after) C))
-    (claim-at m (stateIn start) (at-start .1) xs k room ys (stateIn before) (stateIn after) (stateIn final) chosen (sym (a .state))
+    (claim-at m (stateIn start) (at-start .2) xs k room ys (stateIn before) (stateIn after) (stateIn final) chosen (sym (a .state))
     (sym (c .state ∙ ap (run ys) (b .state ∙ ap (λ (st : State). settle (step (Cut k room) st) st) (a .state))
     ∙ sym (run-append xs (Cut k room ∷ ys) (stateIn start)))) fair asked)
   where
-    at-start : ValidIn start × Start m (stateIn start)
+    at-start : ValidIn start × Alone start × Start m (stateIn start)
     at-start = starts-at begins
 
     a : RunsAs before (run xs (stateIn start))
-    a = calls-run (at-start .0) first
+    a = calls-run (at-start .0) (at-start .1) first
 
     b : RunsAs after (settle (step (Cut k room) (stateIn before)) (stateIn before))
-    b = makes-runs (a .valid) cut
+    b = makes-runs (a .valid) (a .alone) cut
 
     C : Cutting room (stateIn before) (stateIn after)
     C = cutting k room (stateIn before) (stateIn after) (fair .answer) (good-in before (a .valid)) (fair .accepted)
 
     c : RunsAs final (run ys (stateIn after))
-    c = calls-run (b .valid) later
+    c = calls-run (b .valid) (b .alone) later
 
 -- ### The entry of an id
 
@@ -314,7 +338,7 @@ site-calls m start begins xs before first k room after cut ys final later chosen
 pub entry-claim : EntryClaim
 entry-claim m start begins cs x made id =
     let b = starts-at begins in
-    let r = calls-run (b .0) made in
+    let r = calls-run (b .0) (b .1) made in
     (r .state, entry-is (x .site) (x .lent) (r .valid) id)
 
 -- ### The poll of a history
@@ -332,4 +356,6 @@ polls-as x st r =
     })
 
 pub poll-claim : PollClaim
-poll-claim m start begins cs x made = polls-as x (run cs (stateIn start)) (calls-run (starts-at begins .0) made)
+poll-claim m start begins cs x made =
+    let b = starts-at begins in
+    polls-as x (run cs (stateIn start)) (calls-run (b .0) (b .1) made)

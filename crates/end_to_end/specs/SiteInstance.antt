@@ -14,9 +14,10 @@ use Rattle.recovery.specs.Claim.{counted, Fair, lostBy, came, Asked}
 use Rattle.recovery.specs.Recovery.{run-append}
 use Rattle.site.specs.declared.CallResult.{CallResult}
 use Rattle.site.specs.OpenLaws.{blankSite}
+use Rattle.history.specs.WordLaws.{below-long}
 use Rattle.site.specs.Model.{Lent, AcceptedAs, Opens}
 use Rattle.end_to_end.specs.SiteCalls.{Memory, memory, stateIn, logIn, Transition, Execution, StartsSite, opens, RecoveredIn}
-use Rattle.end_to_end.specs.SiteCallsLaws.{RunsAs, makes-runs, calls-run, log-bytes, site-calls}
+use Rattle.end_to_end.specs.SiteCallsLaws.{RunsAs, alone-after, makes-runs, calls-run, log-bytes, site-calls}
 
 -- A site of n histories in `room` bytes, calls, a fair cut, and calls behind it that are as asked.
 pub record Instance (n room : ℕ) : Type 0 where
@@ -61,14 +62,14 @@ module _ (n room : ℕ) (i : Instance n room) (lends : Lent) (size : length (len
   begins = opens n lends r new (i .site) Opened opening accepted
 
   a : RunsAs before (run (i .earlier) (stateIn start))
-  a = calls-run (begun .valid) first
+  a = calls-run (begun .valid) (alone-after (below 64) lends (i .site) Opened r new (below-long 64) begun) first
 
   -- Before the cut, behind it, and at the end the site is the state that the instance says.
   at-before : stateIn before ≡ stateBefore i
   at-before = a .state ∙ ap (run (i .earlier)) (begun .state)
 
   b : RunsAs after (settle (step (Cut (i .kept) room) (stateIn before)) (stateIn before))
-  b = makes-runs (a .valid) cut
+  b = makes-runs (a .valid) (a .alone) cut
 
   at-cut : stateIn after ≡ settle (step (Cut (i .kept) room) (stateBefore i)) (stateBefore i)
   at-cut = b .state ∙ ap (λ (st : State). settle (step (Cut (i .kept) room) st) st) at-before
@@ -78,7 +79,7 @@ module _ (n room : ℕ) (i : Instance n room) (lends : Lent) (size : length (len
   at-after = at-cut ∙ ap (λ (reply : Reply). settle reply (stateBefore i)) (i .fair .accepted)
 
   c : RunsAs final (run (i .later) (stateIn after))
-  c = calls-run (b .valid) rest
+  c = calls-run (b .valid) (b .alone) rest
 
   at-end : stateIn final ≡ stateAtEnd i
   unfolding run

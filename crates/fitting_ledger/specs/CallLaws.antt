@@ -16,7 +16,8 @@ use Rattle.rules.specs.Calls.{Call, step}
 use Rattle.rules.specs.Session.{turnOf, calling}
 use Rattle.site.specs.declared.Site.{Site}
 use Rattle.site.specs.declared.CallResult.{CallResult}
-use Rattle.site.specs.Model.{Lent, view, Valid, Does, Steps}
+use Rattle.site.specs.Model.{Lent, view, Valid, Does, Steps, StepsWithin}
+use Rattle.site.specs.ModelLaws.{steps-alone}
 use Rattle.session.specs.declared.Session.{Session}
 use Rattle.session.specs.Model.{viewIf, sessionView}
 use Rattle.stream.specs.Logging.{overlaid}
@@ -116,6 +117,13 @@ performs s ws old c r new n after head said is o v h p =
   where
     opened : sessionAt ws .opened ≡ true
     opened = sym (ap (λ (x : Session). x .opened) is) ∙ o
+
+-- .. of one that takes entries: the site is lent an order of 64
+pub performs-alone : (s : Session) (ws : List ℕ) (old : Lent) (c : Call) (r : CallResult) (new : Lent) (n : ℕ) (after head said : List ℕ) →
+    length (old .order) ≡ 64 → s ≡ sessionAt ws → s .opened ≡ true → ValidState ws old → StepsWithin (s .site) old c r new →
+    PutsCall r n after head said → PerformsCall ws old c n after new head said
+performs-alone s ws old c r new n after head said long is o v h p =
+    performs s ws old c r new n after head said is o v (steps-alone (s .site) old c r new long h) p
 
 -- .. "before site"
 pub performs-not : (s : Session) (ws : List ℕ) (old : Lent) (c : Call) (head : List ℕ) → s ≡ sessionAt ws → s .opened ≡ false →

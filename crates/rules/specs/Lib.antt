@@ -43,6 +43,8 @@ pub mod RecordMasks
 pub mod When
 pub mod WhenLaws
 pub mod WhenExactly
+pub mod Within
+pub mod WithinLaws
 pub mod LiveLaws
 pub mod Poll
 pub mod PollLaws

@@ -13,18 +13,21 @@ use Rattle.forms.specs.ListLaws.{and-left, and-right}
 use Rattle.forms.specs.Limits.{liveLimit}
 use Rattle.forms.specs.declared.writer.Written.{Written}
 use Rattle.forms.specs.Reading.{readWhole, readCommand}
+use Rattle.forms.specs.Forms.{Did}
 use Rattle.forms.specs.Held.{Numbers, numbersOf, Replied, replied}
 use Rattle.forms.specs.declared.ReplyLine.{ReplyLine}
 use Rattle.forms.specs.declared.Refusal.{Refusal}
 use Rattle.forms.specs.declared.Refusal.the-variants.{Unreadable}
 use Rattle.rules.specs.State.{State, Reply, refused, ok}
-use Rattle.rules.specs.Calls.{openSite}
+use Rattle.rules.specs.Calls.{unless, openSite, delivered}
+use Rattle.rules.specs.WithinLaws.{redo-own}
 use Rattle.rules.specs.Session.{Turn, turnOf, onCommand, turn}
 use Rattle.forms.specs.declared.reader.CommandForm.{CommandForm}
 use Rattle.forms.specs.declared.reader.CommandRead.{CommandRead}
 use Rattle.site.specs.declared.Site.{Site}
 use Rattle.site.specs.declared.CallResult.{CallResult}
 use Rattle.site.specs.Model.{Lent, view, Valid, Does, Printable, Few}
+use Rattle.site.specs.Trim.{redoOf, redoWithin}
 use Rattle.session.specs.declared.Session.{Session}
 use Rattle.session.specs.declared.LineResult.{LineResult}
 use Rattle.session.specs.Model.{viewIf, sessionView, ValidSession, Refuses, Turns, turnedOf}
@@ -155,6 +158,14 @@ form-called s old c r new t e v d same =
     subst (λ (x : LineResult). TurnsForm s old c x new) (sym same)
     (subst (λ (b : Bool). Turns s old (obeyed (length (old .log)) c (viewIf b (s .site) old)) (turnedOf r) new) (sym e)
     (call-turns s old (siteReply (length (old .log)) (c .form) (c .asked) (c .did) (view (s .site) old)) r new e v d))
+
+-- A redo of a site with 64 entries is that of a site alone.
+pub redo-alone : (s : Site) (old : Lent) (did : Did) (r : CallResult) (new : Lent) → length (old .order) ≡ 64 →
+    Does s old (redoWithin (length (old .order)) did (view s old)) r new → Does s old (redoOf did (view s old)) r new
+redo-alone s old did r new e d =
+    subst (λ (x : Reply). Does s old x r new)
+    (ap (λ (n : ℕ). redoWithin n did (view s old)) e ∙ ap (λ (o : Option Refusal). unless o (delivered did (view s old))) (redo-own did (view s old)))
+    d
 
 -- .. of the form that it is
 pub formed : (s : Site) (old : Lent) (c : CommandRead) (f : CommandForm) (r : CallResult) (new : Lent) → c .form ≡ f →

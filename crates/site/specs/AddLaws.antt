@@ -7,7 +7,7 @@ use mathlib.Core.List.{List, [], _∷_, _++_, map, map-append}
 use mathlib.Core.List.{List·Memᴰ as Mem}
 use mathlib.Core.Logic.{_⊎_, inl, inr}
 use mathlib.Core.Option.{Option, none, some}
-use lib.Dec.{T, leb}
+use lib.Dec.{T}
 use lib.ListN.{length, getD}
 use borrow.Author.Tests.{le-leb}
 use Rattle.forms.specs.Decimal.{top}
@@ -22,12 +22,14 @@ use Rattle.forms.specs.declared.Refusal.{Refusal}
 use Rattle.forms.specs.declared.Refusal.the-variants.{NothingOrders, IdPending, AlreadyDone, ReadOvertaken, HighestVersion, TableFull}
 use Rattle.forms.specs.declared.Refusal.the-variants.{OutOfTurn}
 use Rattle.rules.specs.Checks.{check, andThen, updatesRefusal}
-use Rattle.rules.specs.CheckLaws.{check-none, andThen-none, formed-updates, not-le}
+use Rattle.rules.specs.CheckLaws.{check-none, andThen-none, formed-updates, not-le, or-false-left}
 use Rattle.rules.specs.Poll.{asksIn, busy}
 use Rattle.rules.specs.PollLaws.{busy-added, busy-few}
 use Rattle.rules.specs.State.{Operation, State, refused, ok, startOf, live, withPending}
 use Rattle.rules.specs.Calls.{Call, unless, writable, writableUpdate, perform, step, tryAll, madeReady}
-use Rattle.rules.specs.Calls.{add, addRefusal, arrived, nothingOrders, idPending, idDone, alreadyDone, readOvertaken, atHighest, tableFull}
+use Rattle.rules.specs.Calls.{add, addRefusalWhen, addRefusal, arrived, nothingOrders, idPending, idDone, alreadyDone, readOvertaken, atHighest, tableFull}
+use Rattle.rules.specs.When.{addWhen, performWhen, stepWhen}
+use Rattle.rules.specs.Within.{usesAll, stepWithin}
 use Rattle.history.specs.declared.History.{History}
 use Rattle.history.specs.declared.Entry.{Entry}
 use Rattle.history.specs.declared.Verdict.{Verdict}
@@ -55,7 +57,7 @@ addedOperation i us = record { id = i; updates = us; running = false }
 
 -- ### Refusals
 
-module _ (x : CheckInputs) (hs : List History) (i : ℕ) (us : List Update) (st : State) (s : Sees x hs i st) where
+module _ (x : CheckInputs) (hs : List History) (i : ℕ) (us : List Update) (full : Bool) (st : State) (s : Sees x hs i full st) where
   -- the checks behind turn and form, by what was read
   abbrev others : Option Refusal
   others =
@@ -63,8 +65,8 @@ module _ (x : CheckInputs) (hs : List History) (i : ℕ) (us : List Update) (st 
       (conflictRefusal (x .pending) (x .done || any (alreadyDone st) us) (any (readOvertaken st) us) (any (atHighest st) us)
       (x .full) false)
 
-  pub add-refusal-is : addRefusal i us st ≡ check (x .restoring) OutOfTurn (andThen (updatesRefusal (x .count) us) others)
-  unfolding addRefusal conflictRefusal check
+  pub add-refusal-is : addRefusalWhen full i us st ≡ check (x .restoring) OutOfTurn (andThen (updatesRefusal (x .count) us) others)
+  unfolding conflictRefusal check
   add-refusal-is =
       sym (λ j. check (s .restoring j) OutOfTurn (andThen (updatesRefusal (s .count j) us) (check (nothingOrders us) NothingOrders
       (conflictRefusal (s .pending j) (s .done j || any (alreadyDone st) us) (any (readOvertaken st) us) (any (atHighest st) us)
@@ -104,15 +106,14 @@ module _ (x : CheckInputs) (hs : List History) (i : ℕ) (us : List Update) (st 
           t ∙ at-highest-book (x .count) hs st (s .book) e within
           ∙ ap (λ (y : Operation). any (atHighest st) (y .updates)) (enters .operation)
 
--- What passed all checks.
-pub record Free (i : ℕ) (us : List Update) (st : State) : Type 0 where
+-- What passed all checks: `full` does not say that the site may use no more entries.
+pub record Free (full : Bool) (i : ℕ) (us : List Update) (st : State) : Type 0 where
   pub turn : st .restoring ≡ false
   pub formed : updatesRefusal (st .histories) us ≡ none
-  pub room : live st < 64
+  pub own : full ≡ false
 
-pub free-of : (i : ℕ) (us : List Update) (st : State) → addRefusal i us st ≡ none → Free i us st
-unfolding addRefusal tableFull
-free-of i us st e =
+free-when : (full : Bool) (i : ℕ) (us : List Update) (st : State) → addRefusalWhen full i us st ≡ none → Free full i us st
+free-when full i us st e =
     let a = check-none (st .restoring) OutOfTurn _ e in
     let b = andThen-none (updatesRefusal (st .histories) us) _ (a .1) in
     let c = check-none (nothingOrders us) NothingOrders _ (b .1) in
@@ -120,8 +121,20 @@ free-of i us st e =
     let f = check-none (idDone i st || any (alreadyDone st) us) AlreadyDone _ (d .1) in
     let g = check-none (any (readOvertaken st) us) ReadOvertaken _ (f .1) in
     let u = check-none (any (atHighest st) us) HighestVersion _ (g .1) in
-    let h = check-none (leb 64 (live st)) TableFull none (u .1) in
-    record { turn = a .0; formed = b .0; room = not-le 64 (live st) (h .0) }
+    let h = check-none (full || tableFull st) TableFull none (u .1) in
+    record { turn = a .0; formed = b .0; own = or-false-left full (tableFull st) (h .0) }
+
+-- .. then the checks of a site alone passed
+pub free-own : (full : Bool) (i : ℕ) (us : List Update) (st : State) → addRefusalWhen full i us st ≡ none →
+    (full ≡ false) × (addRefusal i us st ≡ none)
+unfolding addRefusal
+free-own full i us st e =
+    let own = free-when full i us st e .own in
+    (own, subst (λ (b : Bool). addRefusalWhen b i us st ≡ none) own e)
+
+pub free-of : (i : ℕ) (us : List Update) (st : State) → addRefusal i us st ≡ none → Free false i us st
+unfolding addRefusal
+free-of i us st e = free-when false i us st e
 
 -- updates that passed 2 to 5 can become an entry
 pub usable-asked : (a : AskedHeld) (us : List Update) (n : ℕ) → n ≤ 16 → a ≡ heldUpdates us → updatesRefusal n us ≡ none → UsableHeld a
@@ -141,11 +154,11 @@ pub add-performs : (i : ℕ) (us : List Update) (st : State) → i ≤ top → T
 unfolding writable perform
 add-performs i us st le w = step-performs (Call.Add i us) st (ap₂ _&&_ (le-leb i top le) (T-true (all writableUpdate us) w))
 
-pub add-refused : (i : ℕ) (us : List Update) (st : State) → i ≤ top → T (all writableUpdate us) → (q : Refusal) →
-    addRefusal i us st ≡ some q →
-    step (Call.Add i us) st ≡ refused q
-unfolding add unless
-add-refused i us st le w q e = add-performs i us st le w ∙ rw e refl
+pub add-refused : (n i : ℕ) (us : List Update) (st : State) → i ≤ top → T (all writableUpdate us) → (q : Refusal) →
+    addRefusalWhen (usesAll n st) i us st ≡ some q →
+    stepWithin n (Call.Add i us) st ≡ refused q
+unfolding stepWithin stepWhen performWhen addWhen writable check unless
+add-refused n i us st le w q e = rw (le-leb i top le, T-true (all writableUpdate us) w, e) refl
 
 pub add-accepted : (i : ℕ) (us : List Update) (st : State) → i ≤ top → T (all writableUpdate us) → addRefusal i us st ≡ none →
     step (Call.Add i us) st ≡ ok (withPending (tryAll (startOf st) (st .log) (arrived i us st)) st)
@@ -230,14 +243,15 @@ pub asks-long : (a : AskedHeld) (us : List Update) → a ≡ heldUpdates us → 
 unfolding heldUpdates
 asks-long a us e = ap (λ (h : AskedHeld). length (h .first)) e
 
+-- there is room for one entry more
+pub room-left : (s : Representation) (bytes : List ℕ) → Sound s bytes → (n : ℕ) → usesAll n (stateOf s bytes) ≡ false →
+    length (s .finished) + length (s .queue) < n
+unfolding Sound
+room-left s bytes v n own = omega (arith, live-is s bytes (v .carries), not-le n (live (stateOf s bytes)) own)
+
 -- an add that passed all checks
 module _ (s : Representation) (bytes : List ℕ) (v : Sound s bytes) (i : ℕ) (us : List Update)
     (free : addRefusal i us (stateOf s bytes) ≡ none) where
-  -- there is room for one entry more
-  pub add-room : length (s .finished) + length (s .queue) < 64
-  unfolding Sound
-  add-room = omega (arith, live-is s bytes (v .carries), free-of i us (stateOf s bytes) free .room)
-
   -- its histories are those of the site, whose numbers are small
   pub passed-first : (e : Entry) → Enters (addedOperation i us) e → InFirst (s .count) e
   passed-first e x =

@@ -1,7 +1,7 @@
 -- What the checks of an operation or of a did line read of a state, and the order of those that both have.
 use Prim.Native.Nat.{ℕ, _+_, _<_}
 use mathlib.Core.Path.{_≡_}
-use mathlib.Core.Bool.{Bool}
+use mathlib.Core.Bool.{Bool, _||_}
 use mathlib.Core.List.{List}
 use mathlib.Core.Option.{Option, none}
 use lib.ListN.{length}
@@ -16,13 +16,13 @@ use Rattle.history.specs.declared.History.{History}
 use Rattle.history.specs.Entries.{cellsOf}
 use Rattle.site.specs.declared.seen.CheckInputs.{CheckInputs}
 
--- What was read is so in the state st, for the id i, and the histories hold its book.
-pub record Sees (x : CheckInputs) (hs : List History) (i : ℕ) (st : State) : Type 0 where
+-- What was read is so in the state st, for the id i, and the histories hold its book; `used` says that the site may use no more entries.
+pub record Sees (x : CheckInputs) (hs : List History) (i : ℕ) (used : Bool) (st : State) : Type 0 where
   pub restoring : x .restoring ≡ st .restoring
   pub count : x .count ≡ st .histories
   pub pending : x .pending ≡ idPending i st
   pub done : x .done ≡ idDone i st
-  pub full : x .full ≡ tableFull st
+  pub full : x .full ≡ (used || tableFull st)
   pub book : (h : ℕ) → h < x .count → cellsOf hs h ≡ cell (startOf st) h (st .log)
 
 -- So many bytes of the log buffer are neither in use nor reserved.

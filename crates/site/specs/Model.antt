@@ -10,6 +10,7 @@ use Rattle.forms.specs.Held.{Numbers, Replied, replied, outcomeOf}
 use Rattle.forms.specs.declared.Refusal.{Refusal}
 use Rattle.rules.specs.State.{State, Reply, refused, ok}
 use Rattle.rules.specs.Calls.{Call, step}
+use Rattle.rules.specs.Within.{stepWithin}
 use Rattle.history.specs.Words.{width, historiesIn, persistedIn, stabilisedIn, busyIn}
 use Rattle.table.specs.declared.Table.{Table}
 use Rattle.table.specs.Ends.{Ends, was, left}
@@ -122,7 +123,8 @@ pub record RefusedAs (s : Site) (old : Lent) (q : Refusal) (r : CallResult) (new
 
 -- "An accepted call alters no byte of a lent buffer past those in use, or handed out, after it": of the log's buffer; of the table's rows,
 -- those of the entries that are live; of the histories' numbers, those of the site's histories; of the lists' numbers, those that the reply
--- counts. In the order each number is in use, live or free: it has the same numbers as `numbers`, in another order.
+-- counts. In the order each number is in use, live or free: it has the same numbers as `numbers`, in another order. They are those of the
+-- entries that the site may use; where it shares the table, the rows of all others are as they were.
 pub record AcceptedAs (numbers : List ℕ) (old : Lent) (st : State) (a : Answer) (r : CallResult) (new : Lent) : Type 0 where
   pub answer : Says (replied (r .reply) (new .lists)) (Accepted a)
   pub valid : Valid (r .site) new
@@ -142,10 +144,14 @@ DoesWith numbers s old (ok st a) r new = AcceptedAs numbers old st a r new
 abbrev pub Does : Site → Lent → Reply → CallResult → Lent → Type 0
 Does s old x r new = DoesWith (old .order) s old x r new
 
--- .. opening and restart: whatever the order was before, the entries are numbered from 0 on
+-- .. opening and restart of a site alone: whatever the order was before, its 64 entries are numbered from 0 on
 abbrev pub Opens : Site → Lent → Reply → CallResult → Lent → Type 0
 Opens s old x r new = DoesWith (below 64) s old x r new
 
--- .. of this call
+-- .. of this call, as a site alone does it; those that take no entries have no 10
 abbrev pub Steps : Site → Lent → Call → CallResult → Lent → Type 0
 Steps s old c r new = Does s old (step c (view s old)) r new
+
+-- .. of a call that takes entries: the site may use those in the order, and meets 10 where they do not suffice. With 64 it is `Steps`.
+abbrev pub StepsWithin : Site → Lent → Call → CallResult → Lent → Type 0
+StepsWithin s old c r new = Does s old (stepWithin (length (old .order)) c (view s old)) r new

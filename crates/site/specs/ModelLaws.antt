@@ -2,9 +2,9 @@
 use Prim.Native.Nat.{ℕ, _+_}
 use native.Mathlib.Omega.{arith}
 use mathlib.Core.Path.{_≡_, refl, sym, ap, ap₂, subst, _∙_}
-use mathlib.Core.Bool.{true}
+use mathlib.Core.Bool.{true, false}
 use mathlib.Core.List.{List, []}
-use lib.ListN.{drop}
+use lib.ListN.{length, drop}
 use Rattle.forms.specs.Forms.{Answer, Refused, Accepted}
 use Rattle.forms.specs.Held.{Numbers, listed, numbersOf, Replied, replied, outcomeWith, outcomeOf}
 use Rattle.rules.specs.KeptLaws.{good-reads}
@@ -16,6 +16,8 @@ use Rattle.rules.specs.Log.{dids, stablesOf, readLog}
 use Rattle.rules.specs.State.{State, Reply, refused, ok, linesIn, settle}
 use Rattle.rules.specs.Checks.{check}
 use Rattle.rules.specs.Calls.{Call, unless, writable, perform, step}
+use Rattle.rules.specs.Within.{tenWithin, stepWithin}
+use Rattle.rules.specs.WithinLaws.{within-plain, step-own}
 use Rattle.rules.specs.Good.{Good}
 use Rattle.history.specs.declared.History.{History}
 use Rattle.history.specs.declared.Entry.{Entry}
@@ -27,7 +29,7 @@ use Rattle.site.specs.declared.Site.{Site}
 use Rattle.site.specs.declared.CallResult.{CallResult}
 use Rattle.site.specs.Representation.{Representation, linesOfJournal, linesRead, baseOfJournal, baseRead, stateOf, Carries}
 use Rattle.site.specs.Representation.{Represents, Sound}
-use Rattle.site.specs.Model.{Lent, lent, represented, Few, NumberOnly, Says, DoesWith, Does}
+use Rattle.site.specs.Model.{Lent, lent, represented, view, Few, NumberOnly, Says, DoesWith, Does, Steps, StepsWithin}
 
 -- ### Replies
 
@@ -150,6 +152,10 @@ pub record AcceptsCall (old : List ℕ) (x : Reply) (r : Taken) (new : List ℕ)
   pub state : stateOf (r .site) new ≡ next
   pub past : drop (r .site .used) new ≡ drop (r .site .used) old
 
+-- .. and so where the specification replies the same
+pub accepts-as : {old : List ℕ} {x y : Reply} {r : Taken} {new : List ℕ} → x ≡ y → AcceptsCall old x r new → AcceptsCall old y r new
+accepts-as {old} {x} {y} {r} {new} e a = subst (λ (z : Reply). AcceptsCall old z r new) e a
+
 -- .. so too with these numbers of its histories, when they are the same
 pub accepts-book : (old : List ℕ) (x : Reply) (w : Representation) (reply : Replied)
     (new : List ℕ) {hs : List History} {ps ss bs : List ℕ} →
@@ -258,6 +264,18 @@ accepts-call old reply st a r new e says h past =
       state = view-is (r .site) new st h;
       past = past;
     }
+
+-- A call that takes no entries, or for which there are enough, is that of a site alone.
+pub steps-within : (s : Site) (old : Lent) (c : Call) (r : CallResult) (new : Lent) →
+    tenWithin (length (old .order)) c (view s old) ≡ false → Steps s old c r new → StepsWithin s old c r new
+steps-within s old c r new e d =
+    subst (λ (x : Reply). Does s old x r new) (sym (within-plain (length (old .order)) c (view s old) e)) d
+
+-- With 64 entries each call is that of a site alone.
+pub steps-alone : (s : Site) (old : Lent) (c : Call) (r : CallResult) (new : Lent) → length (old .order) ≡ 64 →
+    StepsWithin s old c r new → Steps s old c r new
+steps-alone s old c r new e d =
+    subst (λ (x : Reply). Does s old x r new) (ap (λ (n : ℕ). stepWithin n c (view s old)) e ∙ step-own c (view s old)) d
 
 -- A call whose numbers can be written is performed.
 pub step-performs : (c : Call) (st : State) → writable c ≡ true → step c st ≡ perform c st

@@ -1,11 +1,12 @@
 -- Laws of the checks that an add and a redo share: what is read of a valid site is so in its stateOf, and a verdict is that of the
 -- specification.
-use Prim.Native.Nat.{ℕ, _+_}
+use Prim.Native.Nat.{ℕ, _+_, _≤_}
 use native.Mathlib.Omega.{arith}
 use mathlib.Core.Path.{_≡_, refl, sym, ap, _∙_}
 use mathlib.Core.Bool.{Bool, true, false, _||_}
 use mathlib.Core.List.{List, map}
 use mathlib.Core.Option.{Option, none, some}
+use borrow.Author.Tests.{lt-leb, leb-false}
 use lib.Dec.{leb, eqb}
 use lib.ListN.{length, length-map}
 use Rattle.forms.specs.Lists.{any}
@@ -15,6 +16,7 @@ use Rattle.forms.specs.declared.Refusal.the-variants.{OutOfTurn}
 use Rattle.rules.specs.Checks.{check, andThen}
 use Rattle.rules.specs.State.{Operation, State, liveDone, live}
 use Rattle.rules.specs.Calls.{idPending, idDone, tableFull}
+use Rattle.rules.specs.Within.{usesAll}
 use Rattle.history.specs.declared.Verdict.{Verdict}
 use Rattle.history.specs.declared.Verdict.the-variants.{Passes, Refused}
 use Rattle.history.specs.Asking.{verdictOf}
@@ -58,20 +60,28 @@ live-is s bytes c = omega (arith, go (s .restoring), done)
     done : length (s .finished) ≡ length (liveDone (stateOf s bytes))
     done = sym (length-map (s .finished) didOfEntry) ∙ ap length (c .finished)
 
--- what is read of a valid site is so in its stateOf
-pub site-sees : (s : Representation) (bytes : List ℕ) → Sound s bytes → (i : ℕ) (pending done full : Bool) →
+-- .. of which a site may use n, at most 64: where all of 64 are live, all of n are
+full-is : (n m : ℕ) → n ≤ 64 → leb n m ≡ (leb n m || leb 64 m)
+full-is n m most = go (leb n m) refl
+  where
+    go : (b : Bool) → leb n m ≡ b → b ≡ (b || leb 64 m)
+    go true e = refl
+    go false e = sym (lt-leb 64 m (omega (arith, leb-false n m e, most)))
+
+-- what is read of a valid site that may use n entries is so in its stateOf
+pub site-sees : (s : Representation) (bytes : List ℕ) → Sound s bytes → (n : ℕ) → n ≤ 64 → (i : ℕ) (pending done full : Bool) →
     pending ≡ any (hasId i) (s .queue) →
-    done ≡ any (hasId i) (s .finished) → full ≡ leb 64 (length (s .finished) + length (s .queue)) →
+    done ≡ any (hasId i) (s .finished) → full ≡ leb n (length (s .finished) + length (s .queue)) →
     Sees (record { restoring = s .restoring; count = s .count; pending = pending; done = done; full = full }) (s .histories) i
-    (stateOf s bytes)
+    (usesAll n (stateOf s bytes)) (stateOf s bytes)
 unfolding Sound tableFull
-site-sees s bytes v i pending done full p d f =
+site-sees s bytes v n most i pending done full p d f =
     record {
       restoring = refl;
       count = refl;
       pending = p ∙ id-pending s bytes i;
       done = d ∙ id-done s bytes (stateOf s bytes) (v .carries) i;
-      full = f ∙ ap (leb 64) (live-is s bytes (v .carries));
+      full = f ∙ ap (leb n) (live-is s bytes (v .carries)) ∙ full-is n (live (stateOf s bytes)) most;
       book = v .carries .book;
     }
 

@@ -1,5 +1,7 @@
 -- What is held of a line's updates, as a list, for every value that the code can have.
+use Prim.Native.Nat.{ℕ}
 use mathlib.Core.Path.{_≡_}
+use mathlib.Core.Bool.{Bool}
 use mathlib.Core.List.{List}
 pub use Rattle.forms.specs.Lists.{padded}
 use Rattle.forms.specs.Forms.{Update, Change, Did}
@@ -8,7 +10,8 @@ use Rattle.forms.specs.declared.AskedHeld.{AskedHeld}
 use Rattle.forms.specs.declared.DoneHeld.{DoneHeld}
 use Rattle.forms.specs.declared.DidLine.{DidLine}
 use Rattle.rules.specs.State.{State, Reply}
-use Rattle.rules.specs.Calls.{unless, redoRefusal, delivered}
+use Rattle.rules.specs.Calls.{unless, redoRefusal, redoRefusalWhen, delivered}
+use Rattle.rules.specs.Within.{usesAll}
 
 -- The updates that are held: as many as are counted, of which the first four are known.
 abbrev pub updatesHeld : AskedHeld → List Update
@@ -24,6 +27,13 @@ didHeld d = record { id = d .id; changes = changesHeld (d .held) }
 -- The reply to a redo of a did line: it is refused, or delivered.
 abbrev pub redoOf : Did → State → Reply
 redoOf did st = unless (redoRefusal did st) (delivered did st)
+
+-- .. with 10 where `full` says so, and so of a site that may use n entries
+abbrev pub redoFull : Bool → Did → State → Reply
+redoFull full did st = unless (redoRefusalWhen full did st) (delivered did st)
+
+abbrev pub redoWithin : ℕ → Did → State → Reply
+redoWithin n did st = redoFull (usesAll n st) did st
 
 -- The code's value y holds the value x of the forms, which can be written.
 pub record Stands {A B : Type 0} (hold : A → B) (W : A → Type 0) (x : A) (y : B) : Type 0 where

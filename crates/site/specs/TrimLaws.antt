@@ -29,7 +29,7 @@ use Rattle.rules.specs.Checks.{check, andThen, wrongCount, noSuchHistory, histo
 use Rattle.rules.specs.State.{State, Reply, refused}
 use Rattle.rules.specs.Calls.{Call, writableUpdate, unless, step, add, addRefusal, redoRefusal, delivered}
 use Rattle.site.specs.AddLaws.{add-performs}
-use Rattle.site.specs.Trim.{padded, updatesHeld, changesHeld, didHeld, redoOf, Stands}
+use Rattle.site.specs.Trim.{padded, updatesHeld, changesHeld, didHeld, redoOf, redoFull, Stands}
 use Rattle.rules.specs.Checks.{changesRefusalWith}
 
 -- ### What stands in the places
@@ -196,9 +196,10 @@ many-add : (i : ℕ) (us : List Update) (st : State) → 4 < length us → add i
 unfolding add addRefusal updatesRefusal
 many-add i us st h = second-refuses (st .restoring) _ _ _ (many-refused _ _ (st .histories) us h)
 
-many-redo : (did : Did) (st : State) → 4 < length (did .changes) → redoOf did st ≡ refused (cond (not (st .restoring)) OutOfTurn WrongCount)
-unfolding redoRefusal changesRefusalWith
-many-redo did st h = second-refuses (not (st .restoring)) _ _ (delivered did st) (many-refused _ _ (st .histories) (did .changes) h)
+many-redo : (full : Bool) (did : Did) (st : State) → 4 < length (did .changes) →
+    redoFull full did st ≡ refused (cond (not (st .restoring)) OutOfTurn WrongCount)
+unfolding changesRefusalWith
+many-redo full did st h = second-refuses (not (st .restoring)) _ _ (delivered did st) (many-refused _ _ (st .histories) (did .changes) h)
 
 -- what is held of updates that can be written can be written
 held-writable : (us : List Update) → T (all writableUpdate us) → T (all writableUpdate (updatesHeld (heldUpdates us)))
@@ -223,12 +224,15 @@ add-held i us st le w = go (held-same noUpdate us)
         ∙ sym (add-performs i us st le w ∙ many-add i us st (k .0))
 
 -- A redo of what is held of a did line is the redo of that line.
-pub redo-held : (did : Did) (st : State) →
-    redoOf (didHeld (heldDid did)) st ≡ redoOf did st
+pub redo-full : (full : Bool) (did : Did) (st : State) → redoFull full (didHeld (heldDid did)) st ≡ redoFull full did st
 unfolding heldDid heldChanges
-redo-held did st = go (held-same noChange (did .changes))
+redo-full full did st = go (held-same noChange (did .changes))
   where
     go : (didHeld (heldDid did) .changes ≡ did .changes) ⊎ ((4 < length (did .changes)) × (4 < length (didHeld (heldDid did) .changes))) →
-        redoOf (didHeld (heldDid did)) st ≡ redoOf did st
-    go (inl e) = ap (λ (l : List Change). redoOf (record { id = did .id; changes = l }) st) e
-    go (inr k) = many-redo (didHeld (heldDid did)) st (k .1) ∙ sym (many-redo did st (k .0))
+        redoFull full (didHeld (heldDid did)) st ≡ redoFull full did st
+    go (inl e) = ap (λ (l : List Change). redoFull full (record { id = did .id; changes = l }) st) e
+    go (inr k) = many-redo full (didHeld (heldDid did)) st (k .1) ∙ sym (many-redo full did st (k .0))
+
+pub redo-held : (did : Did) (st : State) → redoOf (didHeld (heldDid did)) st ≡ redoOf did st
+unfolding redoRefusal
+redo-held did st = redo-full false did st

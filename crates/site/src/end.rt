@@ -10,7 +10,6 @@ use forms::ReplyLine;
 use forms::ReplyNumbers;
 use history::book::BookWords;
 use table::Table;
-use table::order::Order;
 use table::search::ids;
 
 impl Site {
@@ -19,7 +18,7 @@ impl Site {
         self,
         log: &[u8],
         rows: &[u64],
-        order: &Order,
+        order: &[u8],
         book: &BookWords,
         lists: &mut ReplyNumbers,
     ) -> CallResult

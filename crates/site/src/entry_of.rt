@@ -4,11 +4,10 @@ ghost use Rattle.table.specs.Ends.{was};
 ghost use Rattle.table.specs.Tables.{Owns, entryOf, liveNumbers};
 use super::Site;
 use table::Lookup;
-use table::order::Order;
 
 impl Site {
     // The entry of a live operation: "a freed entry is used again", and until then it is the operation's own.
-    pub fn entry_of(self, order: &Order, rows: &[u64], id: u64) -> Lookup
+    pub fn entry_of(self, order: &[u8], rows: &[u64], id: u64) -> Lookup
         requires { ⌜ Owns (self .table) (now order) (now rows) ⌝ }
         ensures { λ r. ⌜ r ≡ entryOf (was rows) id (liveNumbers (self .table) (was order)) ⌝ }
     {

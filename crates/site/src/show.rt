@@ -16,7 +16,6 @@ use history::book::PERSISTED;
 use history::book::STABILISED;
 use history::book::WIDTH;
 use history::book::history_at;
-use table::order::Order;
 
 impl Site {
     // "Show: history, version, persistent, stable, place, profile."
@@ -24,7 +23,7 @@ impl Site {
         self,
         log: &[u8],
         rows: &[u64],
-        order: &Order,
+        order: &[u8],
         book: &BookWords,
         h: u64,
     ) -> CallResult

@@ -132,6 +132,21 @@ length-turned k n l h g =
       length-drop n l,
     )
 
+-- Lists in which each number stands as often are of the same length.
+pub same-length : (a b : List ℕ) → ((e : ℕ) → tally e a ≡ tally e b) → length a ≡ length b
+unfolding tally
+same-length [] b same = none b same
+  where
+    none : (b : List ℕ) → ((e : ℕ) → tally e [] ≡ tally e b) → 0 ≡ length b
+    none [] same = refl
+    none (x ∷ b) same = absurd (omega (arith, same x, tally-head x b))
+same-length (x ∷ a) b same =
+    let s = stands x b (omega (arith, same x, tally-head x a)) in
+    let k = s .place in
+    let rest : (e : ℕ) → tally e a ≡ tally e (omit k b) =
+    λ e. omega (arith, same e, tally-cons e x a, tally-omit e k b (s .low), ap (λ (y : ℕ). tally e (y ∷ [])) (s .is)) in
+    omega (arith, same-length a (omit k b) rest, length-omit k b (s .low))
+
 -- ### Lists in parts
 
 module _ {A : Type 0} where

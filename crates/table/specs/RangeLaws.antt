@@ -74,8 +74,8 @@ module _ (o ws : List ℕ) where
 pub usable-range : (o ws : List ℕ) (from to : ℕ) → Usable o ws to → from ≤ to → (e : Entry) → Mem e (rowsIn o ws from to) → UsableEntry e
 usable-range o ws from to u h =
     mem-each UsableEntry (rowsIn o ws from to) pastEntry
-    (λ k l. let n : from + k < to = omega (arith, range-long o ws from to h (omega (arith, u .long, u .few))) in
-    subst UsableEntry (sym (range-at o ws from to k n (omega (arith, u .long, u .few)))) (u .each (from + k) n))
+    (λ k l. let n : from + k < to = omega (arith, range-long o ws from to h (u .few)) in
+    subst UsableEntry (sym (range-at o ws from to k n (u .few))) (u .each (from + k) n))
 
 -- ### Tests over the entries passed so far
 

@@ -31,13 +31,13 @@ pub begun-usable : (e : Entry) → UsableEntry e → UsableEntry (begun e)
 begun-usable e u = record { few = u .few; long = u .long; each = u .each }
 
 -- A row started: the row at place i of an order that has no number twice.
-module _ (o old new : List ℕ) (i : ℕ) (long : length o ≡ 64) (once : (e : ℕ) → tally e o ≤ 1) (low : i < 64)
+module _ (o old new : List ℕ) (i : ℕ) (long : length o ≤ 64) (once : (e : ℕ) → tally e o ≤ 1) (low : i < length o)
     (put : PutRow (getD o i 0) (begun (rowAt old (getD o i 0))) old new) where
   abbrev number : ℕ
   number = getD o i 0
 
   -- it stands in each part of the order around i, and in no other
-  inside : (from to : ℕ) → from ≤ i → i < to → to ≤ 64 → getD (drop from (take to o)) (i - from) 0 ≡ number
+  inside : (from to : ℕ) → from ≤ i → i < to → to ≤ length o → getD (drop from (take to o)) (i - from) 0 ≡ number
   inside from to h l g =
       let z : from + (i - from) ≡ i = omega arith in
       getD-drop from (take to o) (i - from) 0 ∙ ap (λ (k : ℕ). getD (take to o) k 0) z ∙ getD-take to o i 0 l
@@ -45,13 +45,13 @@ module _ (o old new : List ℕ) (i : ℕ) (long : length o ≡ 64) (once : (e : 
   part-once : (from to e : ℕ) → tally e (drop from (take to o)) ≤ 1
   part-once from to e = omega (arith, once e, tally-parts e to o, tally-parts e from (take to o))
 
-  pub rows-begun : (from to : ℕ) → from ≤ i → i < to → to ≤ 64
+  pub rows-begun : (from to : ℕ) → from ≤ i → i < to → to ≤ length o
       → rowsIn o new from to ≡ set (rowsIn o old from to) (i - from) (begun (rowAt old number))
   rows-begun from to h l g =
       let e = inside from to h l g in
       rows-set (begun (rowAt old number)) old new (drop from (take to o)) (i - from)
       (subst (λ (k : ℕ). PutRow k (begun (rowAt old number)) old new) (sym e) put)
-      (omega (arith, length-drop from (take to o), length-take-le to o (omega (arith, long))))
+      (omega (arith, length-drop from (take to o), length-take-le to o g))
       (part-once from to (getD (drop from (take to o)) (i - from) 0))
 
   -- .. not in the part before
@@ -60,7 +60,7 @@ module _ (o old new : List ℕ) (i : ℕ) (long : length o ≡ 64) (once : (e : 
       let z : from + (i - from) ≡ i = omega arith in
       let e : getD (drop from o) (i - from) 0 ≡ number = getD-drop from o (i - from) 0 ∙ ap (λ (k : ℕ). getD o k 0) z in
       let w : 1 ≤ tally number (drop from o) =
-      subst (λ (k : ℕ). 1 ≤ tally k (drop from o)) e (tally-at (i - from) (drop from o) (omega (arith, length-drop from o, long))) in
+      subst (λ (k : ℕ). 1 ≤ tally k (drop from o)) e (tally-at (i - from) (drop from o) (omega (arith, length-drop from o, low))) in
       omega (arith, w, once number, tally-parts number from o)
 
   pub rows-before : (from : ℕ) → from ≤ i → rowsIn o new 0 from ≡ rowsIn o old 0 from
@@ -88,7 +88,7 @@ module _ (o old new : List ℕ) (i : ℕ) (long : length o ≡ 64) (once : (e : 
           subst UsableEntry (sym (row-other number (begun (rowAt old number)) old new put (getD o k 0) (eqb-false (getD o k 0) number q)))
           (u .each k h)
 
-  pub frame-begun : (first : List ℕ) (to : ℕ) → i < to → to ≤ 64 → Frame (take to o) first old → Frame (take to o) first new
+  pub frame-begun : (first : List ℕ) (to : ℕ) → i < to → to ≤ length o → Frame (take to o) first old → Frame (take to o) first new
   frame-begun first to l g f = record {
     long = put .long ∙ f .long;
     rest = λ e j h none.
@@ -101,13 +101,13 @@ module _ (o old new : List ℕ) (i : ℕ) (long : length o ≡ 64) (once : (e : 
       here : 1 ≤ tally number (take to o)
       here =
           subst (λ (k : ℕ). 1 ≤ tally k (take to o)) (getD-take to o i 0 l)
-          (tally-at i (take to o) (omega (arith, length-take-le to o (omega (arith, long)))))
+          (tally-at i (take to o) (omega (arith, length-take-le to o g)))
 
 -- After the entries from `from` to i have been tried: the words now, the marks of those in progress, and the ids made ready.
 pub record Passing (cells : ℕ → Cell) (o old new : List ℕ) (from to : ℕ) (m : Marks) (first : List ℕ) (start ready : ℕ) (lists : List ℕ)
     (i : ℕ) : Type 0 where
   pub usable : Usable o new to
-  pub within : (k : ℕ) → k < 64 → HasRow new (getD o k 0)
+  pub within : (k : ℕ) → k < length o → HasRow new (getD o k 0)
   pub once : (e : ℕ) → tally e o ≤ 1
   pub frame : Frame (take to o) old new
   pub finished : rowsIn o new 0 from ≡ rowsIn o old 0 from
@@ -139,11 +139,11 @@ module _ (cells : ℕ → Cell) (o old new : List ℕ) (from to : ℕ) (m : Mark
   at : getD (rowsIn o new from to) (i - from) pastEntry ≡ x
   at =
       let z : from + (i - from) ≡ i = omega arith in
-      range-at o new from to (i - from) (omega arith) (omega (arith, p .usable .long, p .usable .few))
+      range-at o new from to (i - from) (omega arith) (p .usable .few)
       ∙ ap (λ (k : ℕ). rowAt new (getD o k 0)) z ∙ sym read
 
   inside-range : i - from < length (rowsIn o new from to)
-  inside-range = omega (arith, range-long o new from to (omega arith) (omega (arith, p .usable .long, p .usable .few)))
+  inside-range = omega (arith, range-long o new from to (omega arith) (p .usable .few))
 
   next : i - from + 1 ≡ i + 1 - from
   next = omega arith
@@ -179,7 +179,7 @@ module _ (cells : ℕ → Cell) (o old new : List ℕ) (from to : ℕ) (m : Mark
       now : List Entry
       now = rowsIn o new from to
 
-      small : i < 64
+      small : i < length o
       small = omega (arith, p .usable .few)
 
       rows : rowsIn o words from to ≡ set now (i - from) (begun (getD now (i - from) pastEntry))
@@ -224,7 +224,7 @@ passing-all cells t o old new m first start ready lists i early e p = record {
   noted = p .noted;
   queue = tried-all cells l k m first start (listed ready lists) (i - t .finished) (p .tried) whole;
   ready = ready-all cells l k m first start (listed ready lists) (i - t .finished) (p .tried) whole (omega (arith, early, e))
-      (omega (arith, p .usable .few));
+      (omega (arith, p .usable .few, p .usable .long));
 }
   where
     l : List Entry
@@ -234,4 +234,4 @@ passing-all cells t o old new m first start ready lists i early e p = record {
     k = rowsIn o new (t .finished) (liveCount t)
 
     whole : i - t .finished ≡ length l
-    whole = omega (arith, range-long o old (t .finished) (liveCount t) (omega arith) (omega (arith, p .usable .long, p .usable .few)))
+    whole = omega (arith, range-long o old (t .finished) (liveCount t) (omega arith) (p .usable .few))

@@ -3,13 +3,14 @@ use Prim.Native.Nat.{ℕ, zero, suc, _+_, _-_, _≤_, _<_}
 use native.Mathlib.Numerals.{add-one}
 use native.Mathlib.Omega.{arith}
 use mathlib.Core.Path.{_≡_, refl, sym, ap, ap₂, subst, _∙_}
-use mathlib.Core.List.{List, [], _∷_, _++_, append-assoc}
-use lib.ListN.{length, getD, take, drop, set, length-append, take-append-drop, List·getD-append}
-use lib.Seq.{take-suc, take-suc-set, take-all, drop-at, length-take-le, getD-drop, getD-take, set-split}
+use mathlib.Core.List.{List, [], _∷_, _++_}
+use lib.ListN.{length, getD, take, drop, set, length-drop, take-append-drop}
+use lib.Seq.{take-suc, take-suc-set, take-all, take-at, length-take-le, getD-drop, set-split, drop-append-le, drop-drop, drop-set-lt}
 use Rattle.forms.specs.Lists.{below}
+use Rattle.forms.specs.Write.{placed}
 use Rattle.table.specs.Lists.{omit}
 use Rattle.table.specs.Order.{moved, turned}
-use Rattle.table.specs.OrderLaws.{getD-second, length-part}
+use Rattle.table.specs.OrderLaws.{length-part}
 
 -- ### One number moves
 
@@ -79,41 +80,55 @@ below-end r i n long h g e = sym (take-all i r (omega (arith, long))) ∙ e ∙ 
 
 -- ### The first k of n go behind the others
 
-module _ (k n : ℕ) (l : List ℕ) (h : k ≤ n) (g : n ≤ length l) where
-  abbrev front : List ℕ
-  front = drop k (take n l)
+-- r is l where i numbers from k on have come to the front: one more of them
+pub shift-next : (k i : ℕ) (l r : List ℕ) → i + k < length l → length r ≡ length l → take i r ≡ take i (drop k l) → drop i r ≡ drop i l
+    → take (i + 1) (set r i (getD r (i + k) 0)) ≡ take (i + 1) (drop k l)
+shift-next k i l r m long e f =
+    same-next r (drop k l) i (getD r (i + k) 0) (omega (arith, m, long)) (omega (arith, m, length-drop k l)) same e
+  where
+    same : getD r (i + k) 0 ≡ getD (drop k l) i 0
+    same =
+        sym (getD-drop i r k 0)
+        ∙ ap (λ (x : List ℕ). getD x k 0) f
+        ∙ getD-drop i l k 0
+        ∙ ap (λ (j : ℕ). getD l j 0) (let z : i + k ≡ k + i = omega arith in z)
+        ∙ sym (getD-drop k l i 0)
 
-  front-long : length front ≡ n - k
-  front-long = length-part l k n g
+pub rest-next : (i v : ℕ) (l r : List ℕ) → drop i r ≡ drop i l → drop (i + 1) (set r i v) ≡ drop (i + 1) l
+rest-next i v l r f = drop-set-lt (i + 1) r i v (omega arith) ∙ sym (drop-drop 1 i r) ∙ ap (drop 1) f ∙ drop-drop 1 i l
 
-  pub turned-front : (i : ℕ) → i < n - k → getD (turned k n l) i 0 ≡ getD l (i + k) 0
-  unfolding turned
-  turned-front i m =
-      List·getD-append front (take k l ++ drop n l) 0 i (omega (arith, m, front-long))
-      ∙ getD-drop k (take n l) i 0
-      ∙ getD-take n l (k + i) 0 (omega (arith, m))
-      ∙ ap (λ (j : ℕ). getD l j 0) (let z : k + i ≡ i + k = omega arith in z)
+-- the numbers that were put aside
+pub put-aside : (k : ℕ) (l old first : List ℕ) → k ≤ length l → first ≡ placed old 0 (take k l) → take k first ≡ take k l
+unfolding placed
+put-aside k l old first h e =
+    ap (take k) e ∙ take-at (take k l) (drop (0 + length (take k l)) old) k (length-take-le k l h)
 
-  pub turned-behind : (i : ℕ) → n - k ≤ i → i < n → getD (turned k n l) i 0 ≡ getD l (i - (n - k)) 0
-  unfolding turned
-  turned-behind i m s =
-      let j = i - (n - k) in
-      let z : i ≡ (n - k) + j = omega arith in
-      ap (λ (y : ℕ). getD (turned k n l) y 0) z
-      ∙ getD-second front (take k l ++ drop n l) (n - k) j 0 front-long
-      ∙ List·getD-append (take k l) (drop n l) 0 j (omega (arith, s, h, length-take-le k l (omega arith)))
-      ∙ getD-take k l j 0 (omega (arith, s, h))
+-- All have come to the front: those that were put aside go behind them.
+pub turned-end : (k n : ℕ) (l r first : List ℕ) → k ≤ n → n ≤ length l → (i : ℕ) → i ≡ n - k → take i r ≡ take i (drop k l)
+    → drop i r ≡ drop i l → take k first ≡ take k l → placed r (n - k) (take k first) ≡ turned k n l
+unfolding placed turned
+turned-end k n l r first h g i is e f aside =
+    ap₂ (λ (a b : List ℕ). a ++ b) front (ap₂ (λ (a b : List ℕ). a ++ b) aside behind)
+  where
+    long : length (take k first) ≡ k
+    long = ap (λ (x : List ℕ). length x) aside ∙ length-take-le k l (omega arith)
 
-  turned-rest : drop n (turned k n l) ≡ drop n l
-  unfolding turned
-  turned-rest =
-      ap (drop n) (sym (append-assoc front (take k l) (drop n l)))
-      ∙ drop-at (front ++ take k l) (drop n l) n
-      (omega (arith, h, length-append front (take k l), front-long, length-take-le k l (omega arith)))
+    -- those from k to n, and those from n on
+    parts : drop k l ≡ drop k (take n l) ++ drop n l
+    parts =
+        ap (drop k) (sym (take-append-drop n l))
+        ∙ drop-append-le k (take n l) (drop n l) (omega (arith, h, length-take-le n l g))
 
-  pub turned-end : (r : List ℕ) (i : ℕ) → n ≤ i → i ≤ n → take i r ≡ take i (turned k n l) → drop n r ≡ drop n l → r ≡ turned k n l
-  turned-end r i m s e f =
-      let z : i ≡ n = omega arith in
-      sym (take-append-drop n r)
-      ∙ ap₂ (λ (a b : List ℕ). a ++ b) (subst (λ (y : ℕ). take y r ≡ take y (turned k n l)) z e) (f ∙ sym turned-rest)
-      ∙ take-append-drop n (turned k n l)
+    front : take (n - k) r ≡ drop k (take n l)
+    front =
+        subst (λ (j : ℕ). take j r ≡ take j (drop k l)) is e
+        ∙ ap (take (n - k)) parts
+        ∙ take-at (drop k (take n l)) (drop n l) (n - k) (length-part l k n g)
+
+    behind : drop (n - k + length (take k first)) r ≡ drop n l
+    behind =
+        ap (λ (j : ℕ). drop j r) (let z : n - k + length (take k first) ≡ i + k = omega (arith, long, is) in z)
+        ∙ sym (drop-drop k i r)
+        ∙ ap (drop k) f
+        ∙ drop-drop k i l
+        ∙ ap (λ (j : ℕ). drop j l) (let z : i + k ≡ n = omega (arith, is, h) in z)

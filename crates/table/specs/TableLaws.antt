@@ -28,18 +28,18 @@ module _ (t : Table) (o ws : List ℕ) (own : Owns t o ws) where
   pub row-of : (e : ℕ) → 1 ≤ tally e o → HasRow ws e
   row-of e h =
       let s = stands e o h in
-      subst (HasRow ws) (s .is) (own .within (s .place) (omega (arith, s .low, own .usable .long)))
+      subst (HasRow ws) (s .is) (own .within (s .place) (s .low))
 
   -- .. and that of a live one can be used
   pub usable-row : (e : ℕ) → 1 ≤ tally e (liveNumbers t o) → UsableEntry (rowAt ws e)
   usable-row e h =
       let n = liveCount t in
       let s = stands e (take n o) h in
-      let low : s .place < n = omega (arith, s .low, length-take-le n o (omega (arith, own .usable .long, own .usable .few))) in
+      let low : s .place < n = omega (arith, s .low, length-take-le n o (own .usable .few)) in
       subst (λ (x : ℕ). UsableEntry (rowAt ws x)) (sym (getD-take n o (s .place) 0 low) ∙ s .is) (own .usable .each (s .place) low)
 
 -- The invariant, by how often a number stands where.
-pub owns-of : (t : Table) (o ws : List ℕ) → length o ≡ 64 → liveCount t ≤ 64 → ((e : ℕ) → 1 ≤ tally e o → HasRow ws e)
+pub owns-of : (t : Table) (o ws : List ℕ) → length o ≤ 64 → liveCount t ≤ length o → ((e : ℕ) → 1 ≤ tally e o → HasRow ws e)
     → ((e : ℕ) → 1 ≤ tally e (liveNumbers t o) → UsableEntry (rowAt ws e)) → ((e : ℕ) → tally e o ≤ 1) → Owns t o ws
 owns-of t o ws long few rows usable once =
     record {
@@ -47,15 +47,15 @@ owns-of t o ws long few rows usable once =
           record {
             long = long;
             few = few;
-            within = λ i h. rows (getD o i 0) (tally-at i o (omega (arith, long, few, h)));
+            within = λ i h. rows (getD o i 0) (tally-at i o (omega (arith, few, h)));
             each =
                 λ i h.
                 let n = liveCount t in
                 let e : getD (take n o) i 0 ≡ getD o i 0 = getD-take n o i 0 h in
-                let l : i < length (take n o) = omega (arith, h, length-take-le n o (omega (arith, long, few))) in
+                let l : i < length (take n o) = omega (arith, h, length-take-le n o few) in
                 usable (getD o i 0) (subst (λ (x : ℕ). 1 ≤ tally x (take n o)) e (tally-at i (take n o) l));
           };
-      within = λ i h. rows (getD o i 0) (tally-at i o (omega (arith, long, h)));
+      within = λ i h. rows (getD o i 0) (tally-at i o h);
       once = once;
     }
 
@@ -110,7 +110,7 @@ module _ (t : Table) (o : List ℕ) where
 
 module _ (t : Table) (o ws : List ℕ) (own : Owns t o ws) where
   pub live-low : liveCount t ≤ length o
-  live-low = omega (arith, own .usable .long, own .usable .few)
+  live-low = own .usable .few
 
   -- they are as long as the table says
   pub finished-length : length (finishedRows t o ws) ≡ t .finished
@@ -152,7 +152,7 @@ moves : (t : Table) (o ws : List ℕ) → Owns t o ws → (u : Table) (p f q r :
 moves t o ws own u p f q r finished queue whole done others long few same live is are =
     record {
       owns =
-          owns-of u p ws (long ∙ own .usable .long) (omega (arith, few, own .usable .few))
+          owns-of u p ws (omega (arith, long, own .usable .long)) (omega (arith, long, few, own .usable .few))
           (λ e h. row-of t o ws own e (omega (arith, h, same e)))
           (λ e h.
           usable-row t o ws own e (omega (arith, h, live e, ap (tally e) (live-parts u p f q r whole done others), tally-append e f q)))
@@ -298,7 +298,7 @@ one-usable x e old new put good k others = go (eqb x k) refl
         subst UsableEntry (sym (row-other x e old new put k (λ s. ne (sym s)))) (others ne)
 
 module _ (t : Table) (o ws : List ℕ) (own : Owns t o ws) (e : Entry) (new : List ℕ) (good : UsableEntry e) where
-  long : length o ≡ 64
+  long : length o ≤ 64
   long = own .usable .long
 
   abbrev done : List ℕ
@@ -312,7 +312,7 @@ module _ (t : Table) (o ws : List ℕ) (own : Owns t o ws) (e : Entry) (new : Li
   parts-once x = omega (arith, own .once x, tally-parts x (liveCount t) o, live-tally t o x)
 
   -- One operation more, in the first entry that is free.
-  pub pushed : liveCount t < 64 → PutRow (getD o (liveCount t) 0) e ws new
+  pub pushed : liveCount t < length o → PutRow (getD o (liveCount t) 0) e ws new
       → Becomes o ws (record { finished = t .finished; queue = t .queue + 1 }) o new (finishedRows t o ws) (queueRows t o ws ++ (e ∷ []))
   pushed h put =
       record {
@@ -342,7 +342,7 @@ module _ (t : Table) (o ws : List ℕ) (own : Owns t o ws) (e : Entry) (new : Li
       rest = drop (suc (liveCount t)) o
 
       free : freeNumbers t o ≡ x ∷ rest
-      free = drop-cons o (liveCount t) 0 (omega (arith, h, long))
+      free = drop-cons o (liveCount t) 0 h
 
       whole : o ≡ done ++ ((queue ++ (x ∷ [])) ++ rest)
       whole =
@@ -405,9 +405,12 @@ neighbours live old new es f apart = rows-same old new es (λ e l. row-same old 
 pub numbered : (o ws : List ℕ) → o ≡ below 64 → length ws ≡ 64 * rowWidth → Owns (record { finished = 0; queue = 0 }) o ws
 unfolding tally
 numbered o ws e long =
-    owns-of (record { finished = 0; queue = 0 }) o ws (ap (λ (l : List ℕ). length l) e ∙ below-long 64) (omega arith) rows
+    owns-of (record { finished = 0; queue = 0 }) o ws (omega (arith, count-all)) (omega arith) rows
     (λ k l. absurd (let z : 1 ≤ 0 = l in omega arith)) once
   where
+    count-all : length o ≡ 64
+    count-all = ap (λ (l : List ℕ). length l) e ∙ below-long 64
+
     count : (k : ℕ) → tally k o ≡ cond (ltb k 64) 1 0
     count k = ap (tally k) e ∙ tally-below k 64
 

@@ -77,17 +77,17 @@ entryOf ws id (e ∷ es) = cond (eqb (rowAt ws e .id) id) (At (record { 0 = e })
 
 -- ### What is kept
 
--- The first n entries of an order have rows in the words, and each can be used.
+-- An order has at most 64 numbers: those of the entries that a site may use. Its first n entries have rows in the words, and each can be used.
 pub record Usable (o ws : List ℕ) (n : ℕ) : Type 0 where
-  pub long : length o ≡ 64
-  pub few : n ≤ 64
+  pub long : length o ≤ 64
+  pub few : n ≤ length o
   pub within : (i : ℕ) → i < n → HasRow ws (getD o i 0)
   pub each : (i : ℕ) → i < n → UsableEntry (rowAt ws (getD o i 0))
 
 -- No entry has two places in the order, each has a row in the words, and the live ones can be used.
 pub record Owns (t : Table) (o ws : List ℕ) : Type 0 where
   pub usable : Usable o ws (liveCount t)
-  pub within : (i : ℕ) → i < 64 → HasRow ws (getD o i 0)
+  pub within : (i : ℕ) → i < length o → HasRow ws (getD o i 0)
   pub once : (e : ℕ) → tally e o ≤ 1
 
 -- Only words of these entries differ.

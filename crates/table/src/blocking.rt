@@ -9,7 +9,6 @@ ghost use Rattle.table.specs.Ends.{was};
 ghost use Rattle.table.specs.Tables.{rowsIn, Usable};
 ghost use Rattle.table.specs.Tries.{entryUpdates, heldOf, gather, MarksOf, More, freeBy};
 use super::Marks;
-use super::order::Order;
 use super::rows::row_at;
 use history::Entry;
 use history::Item;
@@ -70,7 +69,7 @@ pub fn is_free(m: Marks, x: Item) -> bool
 }
 
 // The marks of what is in progress.
-pub fn in_progress(order: &Order, rows: &[u64], from: usize, to: usize) -> Marks
+pub fn in_progress(order: &[u8], rows: &[u64], from: usize, to: usize) -> Marks
     requires { ⌜ Usable (now order) (now rows) to × (from ≤ to) ⌝ }
     ensures { λ r. ⌜ MarksOf r (gather heldOf (rowsIn (was order) (was rows) from to)) ⌝ }
 {

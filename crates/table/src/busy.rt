@@ -5,13 +5,12 @@ ghost use Rattle.forms.specs.Lists.{sum};
 ghost use Rattle.history.specs.Words.{busyIn, entryIn, CountsMore};
 ghost use Rattle.table.specs.Ends.{was, left};
 ghost use Rattle.table.specs.Tables.{rowsIn, Usable};
-use super::order::Order;
 use super::rows::row_at;
 use history::book::BookWords;
 use history::busy::lower;
 
 // The updates of the operations from place `from` to place `to` are no longer counted.
-pub fn lower_rows(order: &Order, rows: &[u64], book: &mut BookWords, from: usize, to: usize)
+pub fn lower_rows(order: &[u8], rows: &[u64], book: &mut BookWords, from: usize, to: usize)
     requires { ⌜ Usable (now order) (now rows) to × (from ≤ to) ⌝ }
     requires { ⌜ ((h : ℕ) → 1 ≤ sum (entryIn h) (rowsIn (now order) (now rows) from to) →
         sum (entryIn h) (rowsIn (now order) (now rows) from to) ≤ getD (busyIn (now book)) h 0) ⌝ }

@@ -2,13 +2,12 @@
 // both lent by the caller; an operation keeps its entry until it leaves, and only its number changes its place.
 ghost use mathlib.Core.Path.{_≡_};
 ghost use Prim.Native.Nat.{_+_, _-_, _≤_, _<_};
-ghost use lib.ListN.{getD};
+ghost use lib.ListN.{length, getD};
 ghost use Rattle.table.specs.Ends.{was, left};
 ghost use Rattle.table.specs.Order.{moved, turned};
 ghost use Rattle.table.specs.Rows.{HasRow, rowAt, PutRow, PutMark, PutNoted};
 ghost use Rattle.table.specs.Tables.{liveCount};
 use history::Entry;
-use order::Order;
 use order::move_back;
 use order::move_forward;
 use order::turn;
@@ -70,8 +69,8 @@ impl Table {
     }
 
     // The row of the entry at place i of those not done.
-    pub fn queued_at(self, order: &Order, rows: &[u64], i: usize) -> Entry
-        requires { ⌜ (self .finished + i < 64) × HasRow (now rows) (getD (now order) (self .finished + i) 0) ⌝ }
+    pub fn queued_at(self, order: &[u8], rows: &[u64], i: usize) -> Entry
+        requires { ⌜ (self .finished + i < length (now order)) × HasRow (now rows) (getD (now order) (self .finished + i) 0) ⌝ }
         ensures { λ r. ⌜ r ≡ rowAt (was rows) (getD (was order) (self .finished + i) 0) ⌝ }
     {
         let e = order[self.finished + i];
@@ -79,8 +78,8 @@ impl Table {
     }
 
     // One operation more behind those not done, in the first entry that is free. The caller sees to it that there is one.
-    pub fn push(self, order: &Order, rows: &mut [u64], e: Entry) -> Table
-        requires { ⌜ (liveCount self < 64) × HasRow (now rows) (getD (now order) (liveCount self) 0) ⌝ }
+    pub fn push(self, order: &[u8], rows: &mut [u64], e: Entry) -> Table
+        requires { ⌜ (liveCount self < length (now order)) × HasRow (now rows) (getD (now order) (liveCount self) 0) ⌝ }
         ensures { λ r. ⌜ (r ≡ record { finished = self .finished; queue = self .queue + 1 }) ×
             PutRow (getD (was order) (liveCount self) 0) e (was rows) (left rows) ⌝ }
     {
@@ -93,8 +92,8 @@ impl Table {
     }
 
     // The last of the done ones has the row e from now on.
-    pub fn rewrite_last(self, order: &Order, rows: &mut [u64], e: Entry)
-        requires { ⌜ (0 < self .finished) × (self .finished ≤ 64) × HasRow (now rows) (getD (now order) (self .finished - 1) 0) ⌝ }
+    pub fn rewrite_last(self, order: &[u8], rows: &mut [u64], e: Entry)
+        requires { ⌜ (0 < self .finished) × (self .finished ≤ length (now order)) × HasRow (now rows) (getD (now order) (self .finished - 1) 0) ⌝ }
         ensures { λ r. ⌜ PutRow (getD (was order) (self .finished - 1) 0) e (was rows) (left rows) ⌝ }
     {
         let number = order[self.finished - 1];
@@ -102,8 +101,8 @@ impl Table {
     }
 
     // The operation at place i of those not done leaves the table: its entry is free.
-    pub fn remove(self, order: &mut Order, i: usize) -> Table
-        requires { ⌜ (i < self .queue) × (liveCount self ≤ 64) ⌝ }
+    pub fn remove(self, order: &mut [u8], i: usize) -> Table
+        requires { ⌜ (i < self .queue) × (liveCount self ≤ length (now order)) ⌝ }
         ensures { λ r. ⌜ (r ≡ record { finished = self .finished; queue = self .queue - 1 }) ×
             (left order ≡ moved (self .finished + i) (liveCount self - 1) (was order)) ⌝ }
     {
@@ -117,8 +116,8 @@ impl Table {
 
     // The operation at place i of those not done is done, the stable mark being m: it keeps its entry, whose number is the last of the done
     // ones, and the mark is noted in its row.
-    pub fn finish(self, order: &mut Order, rows: &mut [u64], i: usize, m: u64) -> Table
-        requires { ⌜ (i < self .queue) × (liveCount self ≤ 64) × HasRow (now rows) (getD (now order) (self .finished + i) 0) ⌝ }
+    pub fn finish(self, order: &mut [u8], rows: &mut [u64], i: usize, m: u64) -> Table
+        requires { ⌜ (i < self .queue) × (liveCount self ≤ length (now order)) × HasRow (now rows) (getD (now order) (self .finished + i) 0) ⌝ }
         ensures { λ r. ⌜ (r ≡ record { finished = self .finished + 1; queue = self .queue - 1 }) ×
             (left order ≡ moved (self .finished + i) (self .finished) (was order)) ×
             PutMark (getD (was order) (self .finished + i) 0) m (was rows) (left rows) ⌝ }
@@ -134,8 +133,8 @@ impl Table {
 
     // One done operation more behind the done ones, in the first entry that is free, with the stable mark m when its line was written. None
     // is future, in progress or waiting, and the caller sees to it that an entry is free.
-    pub fn push_done(self, order: &Order, rows: &mut [u64], e: Entry, m: u64) -> Table
-        requires { ⌜ (self .finished < 64) × HasRow (now rows) (getD (now order) (self .finished) 0) ⌝ }
+    pub fn push_done(self, order: &[u8], rows: &mut [u64], e: Entry, m: u64) -> Table
+        requires { ⌜ (self .finished < length (now order)) × HasRow (now rows) (getD (now order) (self .finished) 0) ⌝ }
         ensures { λ r. ⌜ (r ≡ record { finished = self .finished + 1; queue = self .queue }) ×
             PutNoted (getD (was order) (self .finished) 0) e m (was rows) (left rows) ⌝ }
     {
@@ -150,8 +149,8 @@ impl Table {
     }
 
     // The first k done operations leave the table: their entries are free.
-    pub fn drop_first(self, order: &mut Order, k: usize) -> Table
-        requires { ⌜ (k ≤ self .finished) × (liveCount self ≤ 64) ⌝ }
+    pub fn drop_first(self, order: &mut [u8], k: usize) -> Table
+        requires { ⌜ (k ≤ self .finished) × (liveCount self ≤ length (now order)) × (length (now order) ≤ 64) ⌝ }
         ensures { λ r. ⌜ (r ≡ record { finished = self .finished - k; queue = self .queue }) ×
             (left order ≡ turned k (liveCount self) (was order)) ⌝ }
     {

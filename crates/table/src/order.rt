@@ -1,12 +1,15 @@
 // The order of a site's entries: a list of entry numbers in which a number changes its place and none is lost.
 ghost use mathlib.Core.Path.{_≡_};
 ghost use Prim.Native.Nat.{_≤_, _<_};
+ghost use lib.ListN.{length};
 ghost use Rattle.forms.specs.Lists.{below};
 ghost use Rattle.table.specs.Ends.{was, left};
 ghost use Rattle.table.specs.Order.{moved, turned};
+use forms::writer::write_word;
 
 // The numbers of a site's entries, of 8 bits each: first those of the done ones, in log order, then those that are not done, in order
-// of arrival (or waiting, in order of delivery), then those that are free.
+// of arrival (or waiting, in order of delivery), then those that are free. A site alone has 64 of them; one that shares its table is lent
+// those that it may use, at most 64.
 pub type Order = [u8; 64];
 
 // Numbers lent whole: there are as many as their type says.
@@ -25,11 +28,10 @@ pub fn number_all(order: &mut Order)
 }
 
 // The number at `from` goes to the earlier place `to`; those between move on by one.
-pub fn move_forward(order: &mut Order, from: usize, to: usize)
-    requires { ⌜ (to ≤ from) × (from < 64) ⌝ }
+pub fn move_forward(order: &mut [u8], from: usize, to: usize)
+    requires { ⌜ (to ≤ from) × (from < length (now order)) ⌝ }
     ensures { λ r. ⌜ left order ≡ moved from to (was order) ⌝ }
 {
-    known_length(order);
     let x = order[from];
     let mut i = from;
     while to < i {
@@ -40,11 +42,10 @@ pub fn move_forward(order: &mut Order, from: usize, to: usize)
 }
 
 // The number at `from` goes to the later place `to`; those between move up by one.
-pub fn move_back(order: &mut Order, from: usize, to: usize)
-    requires { ⌜ (from ≤ to) × (to < 64) ⌝ }
+pub fn move_back(order: &mut [u8], from: usize, to: usize)
+    requires { ⌜ (from ≤ to) × (to < length (now order)) ⌝ }
     ensures { λ r. ⌜ left order ≡ moved from to (was order) ⌝ }
 {
-    known_length(order);
     let x = order[from];
     let mut i = from;
     while i < to {
@@ -55,20 +56,17 @@ pub fn move_back(order: &mut Order, from: usize, to: usize)
 }
 
 // Of the first n numbers, the first k go behind the others.
-pub fn turn(order: &mut Order, k: usize, n: usize)
-    requires { ⌜ (k ≤ n) × (n ≤ 64) ⌝ }
+pub fn turn(order: &mut [u8], k: usize, n: usize)
+    requires { ⌜ (k ≤ n) × (n ≤ length (now order)) × (length (now order) ≤ 64) ⌝ }
     ensures { λ r. ⌜ left order ≡ turned k n (was order) ⌝ }
 {
-    known_length(order);
-    let before = *order;
+    let mut first = [0u8; 64];
+    write_word(&mut first, 0, &order[..k]);
     let rest = n - k;
     let mut i: usize = 0;
-    while i < n {
-        order[i] = if i < rest {
-            before[i + k]
-        } else {
-            before[i - rest]
-        };
+    while i < rest {
+        order[i] = order[i + k];
         i += 1;
     }
+    write_word(order, rest, &first[..k]);
 }

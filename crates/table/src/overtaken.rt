@@ -15,7 +15,6 @@ ghost use Rattle.table.specs.Tables.{queueRows, Owns};
 ghost use Rattle.table.specs.Tries.{entryUpdates};
 use super::Dropped;
 use super::Table;
-use super::order::Order;
 use super::rows::count_at;
 use super::rows::item_in;
 use super::rows::runs_at;
@@ -63,7 +62,7 @@ impl Dropped {
     // is free.
     fn leave(
         self,
-        order: &mut Order,
+        order: &mut [u8],
         rows: &[u64],
         book: &mut BookWords,
         lists: &mut ReplyNumbers,
@@ -88,7 +87,7 @@ impl Dropped {
     // The operation at place i of those not done is examined, and leaves the table if it was overtaken.
     fn examine(
         self,
-        order: &mut Order,
+        order: &mut [u8],
         rows: &[u64],
         book: &mut BookWords,
         lists: &mut ReplyNumbers,
@@ -116,7 +115,7 @@ impl Table {
     // count no longer, and their entries are free. The others keep their order.
     pub fn drop_overtaken(
         self,
-        order: &mut Order,
+        order: &mut [u8],
         rows: &[u64],
         book: &mut BookWords,
         lists: &mut ReplyNumbers,

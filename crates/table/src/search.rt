@@ -15,7 +15,6 @@ ghost use Rattle.table.specs.Tables.{rowsIn, hasId, isEntry, idOf, canRu
 use super::EntryNumber;
 use super::Found;
 use super::Lookup;
-use super::order::Order;
 use super::rows::count_at;
 use super::rows::id_at;
 use super::rows::item_in;
@@ -68,7 +67,7 @@ fn can_run_at(rows: &[u64], e: usize, book: &BookWords) -> bool
 }
 
 // Whether an entry has this id.
-pub fn has_id(order: &Order, rows: &[u64], from: usize, to: usize, id: u64) -> bool
+pub fn has_id(order: &[u8], rows: &[u64], from: usize, to: usize, id: u64) -> bool
     requires { ⌜ Usable (now order) (now rows) to × (from ≤ to) ⌝ }
     ensures { λ r. ⌜ r ≡ any (hasId id) (rowsIn (was order) (was rows) from to) ⌝ }
 {
@@ -83,7 +82,7 @@ pub fn has_id(order: &Order, rows: &[u64], from: usize, to: usize, id: u64) -> b
 }
 
 // The first entry with this id that is in progress (or future, as asked).
-pub fn find(order: &Order, rows: &[u64], from: usize, to: usize, id: u64, running: bool) -> Found
+pub fn find(order: &[u8], rows: &[u64], from: usize, to: usize, id: u64, running: bool) -> Found
     requires { ⌜ Usable (now order) (now rows) to × (from ≤ to) ⌝ }
     ensures { λ r. ⌜ r ≡ firstAt (isEntry id running) (rowsIn (was order) (was rows) from to) ⌝ }
 {
@@ -99,7 +98,7 @@ pub fn find(order: &Order, rows: &[u64], from: usize, to: usize, id: u64, runnin
 
 // The first entry that can run as a did line.
 pub fn first_ready_line(
-    order: &Order,
+    order: &[u8],
     rows: &[u64],
     from: usize,
     to: usize,
@@ -120,7 +119,7 @@ pub fn first_ready_line(
 
 // The ids of the entries, in their order, as a list from `at` on; how many they are.
 pub fn ids(
-    order: &Order,
+    order: &[u8],
     rows: &[u64],
     from: usize,
     to: usize,
@@ -140,7 +139,7 @@ pub fn ids(
 }
 
 // The entry of this id among the first n of the order.
-pub fn entry_of(order: &Order, rows: &[u64], n: usize, id: u64) -> Lookup
+pub fn entry_of(order: &[u8], rows: &[u64], n: usize, id: u64) -> Lookup
     requires { ⌜ Usable (now order) (now rows) n ⌝ }
     ensures { λ r. ⌜ r ≡ entryOf (was rows) id (take n (was order)) ⌝ }
 {

@@ -12,7 +12,6 @@ use super::Table;
 use super::blocking::in_progress;
 use super::blocking::is_free;
 use super::blocking::marked;
-use super::order::Order;
 use super::rows::row_at;
 use super::rows::start_row;
 use super::search::push_number;
@@ -65,7 +64,7 @@ impl Table {
     // many they are.
     pub fn try_all(
         self,
-        order: &Order,
+        order: &[u8],
         rows: &mut [u64],
         book: &BookWords,
         lists: &mut ReplyNumbers,

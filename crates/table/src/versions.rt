@@ -10,7 +10,6 @@ ghost use Rattle.table.specs.Arrays.{Tabulates, names, singled};
 ghost use Rattle.table.specs.Ends.{was, left};
 ghost use Rattle.table.specs.Rows.{HasRow, rowAt};
 ghost use Rattle.table.specs.Tables.{rowsIn, Usable, versionFrom};
-use super::order::Order;
 use super::rows::count_at;
 use super::rows::item_in;
 use super::search::push_number;
@@ -41,13 +40,7 @@ fn stamp(versions: [u64; 16], rows: &[u64], e: usize) -> [u64; 16]
 }
 
 // The histories' versions after the operations from place `from` to place `to`, from those before them.
-pub fn advance(
-    order: &Order,
-    rows: &[u64],
-    versions: [u64; 16],
-    from: usize,
-    to: usize,
-) -> [u64; 16]
+pub fn advance(order: &[u8], rows: &[u64], versions: [u64; 16], from: usize, to: usize) -> [u64; 16]
     requires { ⌜ Usable (now order) (now rows) to × (from ≤ to) ⌝ }
     ensures { λ r. ⌜ Tabulates 0 r (λ (h : ℕ). versionFrom h (getD versions h 0) (rowsIn (was order) (was rows) from to)) ⌝ }
 {

@@ -2,7 +2,8 @@
 use denote.Ref.{now}
 use Rattle.site.specs.Model.{lent}
 use Rattle.session.specs.Model.{siteReply}
-use Rattle.session.specs.TurnLaws.{formed}
+use Rattle.site.specs.ModelLaws.{steps-alone}
+use Rattle.session.specs.TurnLaws.{formed, redo-alone}
 use borrow.Author.Needs.{needs}
 use Rattle.session.proofs.call.Statement.{statement}
 use Rattle.session.proofs.call.Tie as tie
@@ -93,9 +94,10 @@ same-length c = search needs
 returns-3 : tie.Need-returns-3
 unfolding siteReply
 returns-3 c =
-    let e = c .before .before .before .before .before .before .before .before .before .before .before .before in
-    formed (e .args .site) (lent (now (e .args .log)) (now (e .args .rows)) (now (e .args .order)) (now (e .args .book)) (now (e .args .lists))) (e .args .c) _ _ _ (c .before .before .before .before .before .before .before .form .given .1)
-    (c .add .ensures)
+    let e = c .before .before .before .before .before .before .before .before .before .before .before .before .before in
+    formed (e .args .site) (lent (now (e .args .log)) (now (e .args .rows)) (now (e .args .order)) (now (e .args .book)) (now (e .args .lists))) (e .args .c) _ _ _ (c .before .before .before .before .before .before .before .before .form .given .1)
+    (steps-alone (e .args .site) (lent (now (e .args .log)) (now (e .args .rows)) (now (e .args .order)) (now (e .args .book)) (now (e .args .lists))) _ _ _ (search needs)
+    (c .add .ensures))
 
 same-length-2 : tie.Need-same-length-2
 same-length-2 c = search needs
@@ -133,8 +135,8 @@ same-length-5 c = search needs
 returns-7 : tie.Need-returns-7
 unfolding siteReply
 returns-7 c =
-    let e = c .before .before .before .before .before .before .before .before .before .before .before .before .before .before .before in
-    formed (e .args .site) (lent (now (e .args .log)) (now (e .args .rows)) (now (e .args .order)) (now (e .args .book)) (now (e .args .lists))) (e .args .c) _ _ _ (c .before .before .before .before .before .before .before .before .before .before .form5 .given .1)
+    let e = c .before .before .before .before .before .before .before .before .before .before .before .before .before .before .before .before in
+    formed (e .args .site) (lent (now (e .args .log)) (now (e .args .rows)) (now (e .args .order)) (now (e .args .book)) (now (e .args .lists))) (e .args .c) _ _ _ (c .before .before .before .before .before .before .before .before .before .before .before .form5 .given .1)
     (c .before .before .stable .ensures)
 
 same-length-6 : tie.Need-same-length-6
@@ -143,8 +145,8 @@ same-length-6 c = search needs
 returns-8 : tie.Need-returns-8
 unfolding siteReply
 returns-8 c =
-    let e = c .before .before .before .before .before .before .before .before .before .before .before .before in
-    formed (e .args .site) (lent (now (e .args .log)) (now (e .args .rows)) (now (e .args .order)) (now (e .args .book)) (now (e .args .lists))) (e .args .c) _ _ _ (c .before .before .before .before .before .before .before .form6 .given .1)
+    let e = c .before .before .before .before .before .before .before .before .before .before .before .before .before in
+    formed (e .args .site) (lent (now (e .args .log)) (now (e .args .rows)) (now (e .args .order)) (now (e .args .book)) (now (e .args .lists))) (e .args .c) _ _ _ (c .before .before .before .before .before .before .before .before .form6 .given .1)
     (c .show .ensures (now (e .args .lists)))
 
 same-length-7 : tie.Need-same-length-7
@@ -153,9 +155,10 @@ same-length-7 c = search needs
 returns-9 : tie.Need-returns-9
 unfolding siteReply
 returns-9 c =
-    let e = c .before .before .before .before .before .before .before .before .before .before .before in
-    formed (e .args .site) (lent (now (e .args .log)) (now (e .args .rows)) (now (e .args .order)) (now (e .args .book)) (now (e .args .lists))) (e .args .c) _ _ _ (c .before .before .before .before .before .before .form7 .given .1)
-    (c .cut .ensures (now (e .args .lists)))
+    let e = c .before .before .before .before .before .before .before .before .before .before .before .before in
+    formed (e .args .site) (lent (now (e .args .log)) (now (e .args .rows)) (now (e .args .order)) (now (e .args .book)) (now (e .args .lists))) (e .args .c) _ _ _ (c .before .before .before .before .before .before .before .form7 .given .1)
+    (steps-alone (e .args .site) (lent (now (e .args .log)) (now (e .args .rows)) (now (e .args .order)) (now (e .args .book)) (now (e .args .lists))) _ _ _ (search needs)
+    (c .cut .ensures (now (e .args .lists))))
 
 same-length-8 : tie.Need-same-length-8
 same-length-8 c = search needs
@@ -165,7 +168,8 @@ unfolding siteReply
 returns-10 c =
     let e = c .before .before .before .before .before .before .before .before .before .before .before .before in
     formed (e .args .site) (lent (now (e .args .log)) (now (e .args .rows)) (now (e .args .order)) (now (e .args .book)) (now (e .args .lists))) (e .args .c) _ _ _ (c .before .before .before .before .before .before .before .enum-told3 .given .1)
-    (c .before .before .redo-did .ensures (now (e .args .lists)))
+    (redo-alone (e .args .site) (lent (now (e .args .log)) (now (e .args .rows)) (now (e .args .order)) (now (e .args .book)) (now (e .args .lists))) _ _ _ (search needs)
+    (c .before .before .redo-did .ensures (now (e .args .lists))))
 
 same-length-9 : tie.Need-same-length-9
 same-length-9 c = search needs
@@ -173,8 +177,8 @@ same-length-9 c = search needs
 returns-11 : tie.Need-returns-11
 unfolding siteReply
 returns-11 c =
-    let e = c .before .before .before .before .before .before .before .before .before .before .before .before in
-    formed (e .args .site) (lent (now (e .args .log)) (now (e .args .rows)) (now (e .args .order)) (now (e .args .book)) (now (e .args .lists))) (e .args .c) _ _ _ (c .before .before .before .before .before .before .before .enum-told4 .given .1)
+    let e = c .before .before .before .before .before .before .before .before .before .before .before .before .before in
+    formed (e .args .site) (lent (now (e .args .log)) (now (e .args .rows)) (now (e .args .order)) (now (e .args .book)) (now (e .args .lists))) (e .args .c) _ _ _ (c .before .before .before .before .before .before .before .before .enum-told4 .given .1)
     (c .end .ensures)
 
 pub call-spec : {M : Type 1} → statement M

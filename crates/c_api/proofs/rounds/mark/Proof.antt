@@ -12,9 +12,9 @@ persistent-requires c κs = c .before .before .before .before .before .before .p
 
 stable-requires : tie.Need-stable-requires
 stable-requires c κs =
-    let e = c .before .before .before .before .before .before .before .before .before .before .before .before .before in
+    let e = c .before .before .before .before .before .before .before .before .before .before .before .before .before .before in
     let m = lent (now (e .args .log)) (now (e .args .rows)) (now (e .args .order)) (now (e .args .book)) (now (e .args .lists)) in
-    let p = c .before .before .before .before .before .before .persistent in
+    let p = c .before .before .before .before .before .before .before .persistent in
     let mid = lent (now (e .args .log)) (now (e .args .rows)) (p .last .1 .1 .1 .0) (p .last .1 .1 .1 .1 .0) (p .last .1 .1 .1 .1 .1 .0) in
     let valid = call-reaches (e .args .site) m (Call.Persistent (e .args .n)) (p .result) mid (e .pre) (p .ensures) .valid in
     valid
@@ -24,13 +24,17 @@ same-length c = search needs
 
 returns : tie.Need-returns
 returns c =
-    let e = c .before .before .before .before .before .before .before .before .before .before .before .before .before .before .before .before .before in
+    let e = c .before .before .before .before .before .before .before .before .before .before .before .before .before .before .before .before .before .before in
     let m = lent (now (e .args .log)) (now (e .args .rows)) (now (e .args .order)) (now (e .args .book)) (now (e .args .lists)) in
-    let p = c .before .before .before .before .before .before .before .before .before .before .persistent in
+    let p = c .before .before .before .before .before .before .before .before .before .before .before .persistent in
     let mid = lent (now (e .args .log)) (now (e .args .rows)) (p .last .1 .1 .1 .0) (p .last .1 .1 .1 .1 .0) (p .last .1 .1 .1 .1 .1 .0) in
     let s = c .before .before .before .stable in
     two-reach (e .args .site) m (Call.Persistent (e .args .n)) (p .result) mid (Call.Stable (e .args .n)) (s .result)
     (lent (s .last .1 .0) (now (e .args .rows)) (p .last .1 .1 .1 .0) (s .last .1 .1 .1 .1 .0) (s .last .1 .1 .1 .1 .1 .0)) (e .pre) (p .ensures) (s .ensures)
 
 pub mark-spec : {M : Type 1} → statement M
-mark-spec = tie.close (tie.spec persistent-requires stable-requires same-length returns)
+mark-spec = tie.close (tie.spec
+    persistent-requires
+    stable-requires
+    same-length
+    returns)

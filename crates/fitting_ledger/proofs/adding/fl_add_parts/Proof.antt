@@ -6,7 +6,7 @@ use Rattle.rules.specs.Calls.{Call}
 use Rattle.site.specs.Model.{lent}
 use Rattle.site.specs.Trim.{updatesHeld}
 use Rattle.fitting_ledger.specs.CounterLaws.{session-valid}
-use Rattle.fitting_ledger.specs.CallLaws.{performs, performs-not}
+use Rattle.fitting_ledger.specs.CallLaws.{performs-alone, performs-not}
 use Rattle.fitting_ledger.specs.AddingLaws.{performs-add, performs-unread}
 use borrow.Author.Needs.{needs}
 use Rattle.fitting_ledger.proofs.adding.fl_add_parts.Statement.{statement}
@@ -23,28 +23,28 @@ session-at-requires c κs = search needs
 
 add-requires : tie.Need-add-requires
 add-requires c κs =
-    let e = c .before .before .before .before .before .before .before .before .before .before .before in
+    let e = c .before .before .before .before .before .before .before .before .before .before .before .before in
     let a = e .args in
-    let s = c .before .before .before .before .before .session-at in
-    session-valid (s .result) (now (a .counters)) (lent (now (a .log)) (now (a .rows)) (now (a .order)) (now (a .book)) (now (a .numbers))) (s .ensures) (e .pre) .site (c .before .before .before .before .if2 .taken)
+    let s = c .before .before .before .before .before .before .session-at in
+    session-valid (s .result) (now (a .counters)) (lent (now (a .log)) (now (a .rows)) (now (a .order)) (now (a .book)) (now (a .numbers))) (s .ensures) (e .pre) .site (c .before .before .before .before .before .if2 .taken)
 
 put-call-requires : tie.Need-put-call-requires
 put-call-requires c κs = search needs
 
 returns : tie.Need-returns
 returns c =
-    let e = c .before .before .before .before .before .before .before .before .before .before .before .before .before .before .before in
+    let e = c .before .before .before .before .before .before .before .before .before .before .before .before .before .before .before .before in
     let a = e .args in
-    let s = c .before .before .before .before .before .before .before .before .before .session-at in
-    let h = c .before .before .before .before .before .before .before .before .before .before .before .held-in in
+    let s = c .before .before .before .before .before .before .before .before .before .before .session-at in
+    let h = c .before .before .before .before .before .before .before .before .before .before .before .before .held-in in
     let r = c .before .before .before .add in
     let p = c .put-call in
     let old = lent (now (a .log)) (now (a .rows)) (now (a .order)) (now (a .book)) (now (a .numbers)) in
     let new = lent (now (a .log)) (r .last .1 .1 .0) (now (a .order)) (r .last .1 .1 .1 .1 .0) (r .last .1 .1 .1 .1 .1 .0) in
     performs-add (now (a .counters)) old (a .id) (a .count) (now (a .updates)) (h .result) (p .result) (p .last .0) new (now (a .answer)) (p .last .1 .0)
-    (sym (c .before .before .before .before .before .before .before .before .before .before .before .before .if1 .taken) ∙ c .before .before .before .before .before .before .before .before .before .before .before .before .before .rules-known .ensures) (h .ensures)
-    (performs (s .result) (now (a .counters)) old (Call.Add (a .id) (updatesHeld (h .result))) (r .result) new (p .result) (p .last .0) (now (a .answer)) (p .last .1 .0)
-    (s .ensures) (c .before .before .before .before .before .before .before .before .if2 .taken) (e .pre) (r .ensures) (p .ensures))
+    (sym (c .before .before .before .before .before .before .before .before .before .before .before .before .before .if1 .taken) ∙ c .before .before .before .before .before .before .before .before .before .before .before .before .before .before .rules-known .ensures) (h .ensures)
+    (performs-alone (s .result) (now (a .counters)) old (Call.Add (a .id) (updatesHeld (h .result))) (r .result) new (p .result) (p .last .0) (now (a .answer)) (p .last .1 .0)
+    (c .before .before .before .before .before .before .add-arg2 .given .0) (s .ensures) (c .before .before .before .before .before .before .before .before .before .if2 .taken) (e .pre) (r .ensures) (p .ensures))
 
 returns-2 : tie.Need-returns-2
 unfolding numberOf

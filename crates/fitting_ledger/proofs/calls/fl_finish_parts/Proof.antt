@@ -48,4 +48,10 @@ returns-2 c =
 pub fl-finish-parts-spec : {M : Type 1} → statement M
 fl-finish-parts-spec =
     tie.close
-    (tie.spec session-at-requires finish-requires put-call-requires same-length returns returns-2)
+    (tie.spec
+    session-at-requires
+    finish-requires
+    put-call-requires
+    same-length
+    returns
+    returns-2)

@@ -45,4 +45,9 @@ returns-2 c =
 pub fl-persistent-parts-spec : {M : Type 1} → statement M
 fl-persistent-parts-spec =
     tie.close
-    (tie.spec session-at-requires persistent-requires put-call-requires returns returns-2)
+    (tie.spec
+    session-at-requires
+    persistent-requires
+    put-call-requires
+    returns
+    returns-2)

@@ -14,10 +14,10 @@ session-at-requires c κs = search needs
 
 stable-requires : tie.Need-stable-requires
 stable-requires c κs =
-    let e = c .before .before .before .before .before .before .before .before .before in
+    let e = c .before .before .before .before .before .before .before .before .before .before in
     let a = e .args in
-    let s = c .before .before .before .before .before .before .session-at in
-    session-valid (s .result) (now (a .counters)) (lent (now (a .log)) (now (a .rows)) (now (a .order)) (now (a .book)) (now (a .numbers))) (s .ensures) (e .pre) .site (c .before .before .before .before .before .if1 .taken)
+    let s = c .before .before .before .before .before .before .before .session-at in
+    session-valid (s .result) (now (a .counters)) (lent (now (a .log)) (now (a .rows)) (now (a .order)) (now (a .book)) (now (a .numbers))) (s .ensures) (e .pre) .site (c .before .before .before .before .before .before .if1 .taken)
 
 put-call-requires : tie.Need-put-call-requires
 put-call-requires c κs = search needs
@@ -27,15 +27,15 @@ same-length c = search needs
 
 returns : tie.Need-returns
 returns c =
-    let e = c .before .before .before .before .before .before .before .before .before .before .before .before .before .before .before in
+    let e = c .before .before .before .before .before .before .before .before .before .before .before .before .before .before .before .before in
     let a = e .args in
-    let s = c .before .before .before .before .before .before .before .before .before .before .before .before .session-at in
+    let s = c .before .before .before .before .before .before .before .before .before .before .before .before .before .session-at in
     let r = c .before .before .before .before .before .stable in
     let p = c .put-call in
     let old = lent (now (a .log)) (now (a .rows)) (now (a .order)) (now (a .book)) (now (a .numbers)) in
     let new = lent (r .last .1 .0) (now (a .rows)) (now (a .order)) (r .last .1 .1 .1 .1 .0) (r .last .1 .1 .1 .1 .1 .0) in
     performs (s .result) (now (a .counters)) old (Call.Stable (a .n)) (r .result) new (p .result) (p .last .0) (now (a .answer)) (p .last .1 .0)
-    (s .ensures) (c .before .before .before .before .before .before .before .before .before .before .before .if1 .taken) (e .pre) (r .ensures) (p .ensures)
+    (s .ensures) (c .before .before .before .before .before .before .before .before .before .before .before .before .if1 .taken) (e .pre) (r .ensures) (p .ensures)
 
 returns-2 : tie.Need-returns-2
 unfolding numberOf
@@ -47,4 +47,10 @@ returns-2 c =
 
 pub fl-stable-parts-spec : {M : Type 1} → statement M
 fl-stable-parts-spec =
-    tie.close (tie.spec session-at-requires stable-requires put-call-requires same-length returns returns-2)
+    tie.close (tie.spec
+    session-at-requires
+    stable-requires
+    put-call-requires
+    same-length
+    returns
+    returns-2)

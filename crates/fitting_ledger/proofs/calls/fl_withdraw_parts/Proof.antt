@@ -44,4 +44,9 @@ returns-2 c =
 
 pub fl-withdraw-parts-spec : {M : Type 1} → statement M
 fl-withdraw-parts-spec =
-    tie.close (tie.spec session-at-requires withdraw-requires put-call-requires returns returns-2)
+    tie.close (tie.spec
+    session-at-requires
+    withdraw-requires
+    put-call-requires
+    returns
+    returns-2)

@@ -6,7 +6,7 @@ use Rattle.forms.specs.Refusals.{numberOf}
 use Rattle.rules.specs.Calls.{Call}
 use Rattle.site.specs.Model.{lent}
 use Rattle.fitting_ledger.specs.CounterLaws.{session-valid}
-use Rattle.fitting_ledger.specs.CallLaws.{performs, performs-not}
+use Rattle.fitting_ledger.specs.CallLaws.{performs-alone, performs-not}
 use borrow.Author.Needs.{needs}
 use Rattle.fitting_ledger.proofs.plain_calls.fl_cut_parts.Statement.{statement}
 use Rattle.fitting_ledger.proofs.plain_calls.fl_cut_parts.Tie as tie
@@ -16,25 +16,25 @@ session-at-requires c κs = search needs
 
 cut-requires : tie.Need-cut-requires
 cut-requires c κs =
-    let e = c .before .before .before .before .before .before .before in
+    let e = c .before .before .before .before .before .before .before .before in
     let a = e .args in
-    let s = c .before .before .before .before .session-at in
-    session-valid (s .result) (now (a .counters)) (lent (now (a .log)) (now (a .rows)) (now (a .order)) (now (a .book)) []) (s .ensures) (e .pre) .site (c .before .before .before .if1 .taken)
+    let s = c .before .before .before .before .before .session-at in
+    session-valid (s .result) (now (a .counters)) (lent (now (a .log)) (now (a .rows)) (now (a .order)) (now (a .book)) []) (s .ensures) (e .pre) .site (c .before .before .before .before .if1 .taken)
 
 put-call-requires : tie.Need-put-call-requires
 put-call-requires c κs = search needs
 
 returns : tie.Need-returns
 returns c =
-    let e = c .before .before .before .before .before .before .before .before .before .before .before in
+    let e = c .before .before .before .before .before .before .before .before .before .before .before .before in
     let a = e .args in
-    let s = c .before .before .before .before .before .before .before .before .session-at in
+    let s = c .before .before .before .before .before .before .before .before .before .session-at in
     let r = c .before .before .before .cut in
     let p = c .put-call in
     let old = lent (now (a .log)) (now (a .rows)) (now (a .order)) (now (a .book)) [] in
     let new = lent (now (a .log)) (r .last .1 .1 .0) (now (a .order)) (r .last .1 .1 .1 .1 .0) [] in
-    performs (s .result) (now (a .counters)) old (Call.Cut (a .k) (length (now (a .log)))) (r .result) new (p .result) (p .last .0) (now (a .answer)) (p .last .1 .0)
-    (s .ensures) (c .before .before .before .before .before .before .before .if1 .taken) (e .pre) (r .ensures []) (p .ensures)
+    performs-alone (s .result) (now (a .counters)) old (Call.Cut (a .k) (length (now (a .log)))) (r .result) new (p .result) (p .last .0) (now (a .answer)) (p .last .1 .0)
+    (c .before .before .before .before .before .cut-arg2 .given .0) (s .ensures) (c .before .before .before .before .before .before .before .before .if1 .taken) (e .pre) (r .ensures []) (p .ensures)
 
 returns-2 : tie.Need-returns-2
 unfolding numberOf
@@ -46,4 +46,9 @@ returns-2 c =
 
 pub fl-cut-parts-spec : {M : Type 1} → statement M
 fl-cut-parts-spec =
-    tie.close (tie.spec session-at-requires cut-requires put-call-requires returns returns-2)
+    tie.close (tie.spec
+    session-at-requires
+    cut-requires
+    put-call-requires
+    returns
+    returns-2)

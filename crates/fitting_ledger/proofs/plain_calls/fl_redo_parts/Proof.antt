@@ -5,7 +5,7 @@ use Rattle.forms.specs.Refusals.{numberOf}
 use Rattle.rules.specs.Calls.{Call}
 use Rattle.site.specs.Model.{lent}
 use Rattle.fitting_ledger.specs.CounterLaws.{session-valid}
-use Rattle.fitting_ledger.specs.CallLaws.{performs, performs-not}
+use Rattle.fitting_ledger.specs.CallLaws.{performs-alone, performs-not}
 use borrow.Author.Needs.{needs}
 use Rattle.fitting_ledger.proofs.plain_calls.fl_redo_parts.Statement.{statement}
 use Rattle.fitting_ledger.proofs.plain_calls.fl_redo_parts.Tie as tie
@@ -35,8 +35,8 @@ returns c =
     let p = c .put-call in
     let old = lent (now (a .log)) (now (a .rows)) (now (a .order)) (now (a .book)) [] in
     let new = lent (r .last .1 .0) (r .last .1 .1 .0) (r .last .1 .1 .1 .0) (r .last .1 .1 .1 .1 .0) [] in
-    performs (s .result) (now (a .counters)) old (Call.Redo (now (a .line))) (r .result) new (p .result) (p .last .0) (now (a .answer)) (p .last .1 .0)
-    (s .ensures) (c .before .before .before .before .before .before .before .before .before .before .before .if1 .taken) (e .pre) (r .ensures []) (p .ensures)
+    performs-alone (s .result) (now (a .counters)) old (Call.Redo (now (a .line))) (r .result) new (p .result) (p .last .0) (now (a .answer)) (p .last .1 .0)
+    (c .before .before .before .before .before .before .before .redo-arg3 .given .0 .1) (s .ensures) (c .before .before .before .before .before .before .before .before .before .before .before .if1 .taken) (e .pre) (r .ensures []) (p .ensures)
 
 returns-2 : tie.Need-returns-2
 unfolding numberOf
@@ -49,4 +49,10 @@ returns-2 c =
 pub fl-redo-parts-spec : {M : Type 1} → statement M
 fl-redo-parts-spec =
     tie.close
-    (tie.spec session-at-requires redo-requires put-call-requires same-length returns returns-2)
+    (tie.spec
+    session-at-requires
+    redo-requires
+    put-call-requires
+    same-length
+    returns
+    returns-2)

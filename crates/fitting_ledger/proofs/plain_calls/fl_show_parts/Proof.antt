@@ -15,25 +15,25 @@ session-at-requires c κs = search needs
 
 show-requires : tie.Need-show-requires
 show-requires c κs =
-    let e = c .before .before .before .before .before .before in
+    let e = c .before .before .before .before .before .before .before in
     let a = e .args in
-    let s = c .before .before .before .session-at in
-    session-valid (s .result) (now (a .counters)) (lent (now (a .log)) (now (a .rows)) (now (a .order)) (now (a .book)) []) (s .ensures) (e .pre) .site (c .before .before .if1 .taken)
+    let s = c .before .before .before .before .session-at in
+    session-valid (s .result) (now (a .counters)) (lent (now (a .log)) (now (a .rows)) (now (a .order)) (now (a .book)) []) (s .ensures) (e .pre) .site (c .before .before .before .if1 .taken)
 
 put-call-requires : tie.Need-put-call-requires
 put-call-requires c κs = search needs
 
 returns : tie.Need-returns
 returns c =
-    let e = c .before .before .before .before .before .before .before .before .before .before in
+    let e = c .before .before .before .before .before .before .before .before .before .before .before in
     let a = e .args in
-    let s = c .before .before .before .before .before .before .before .session-at in
+    let s = c .before .before .before .before .before .before .before .before .session-at in
     let r = c .before .before .before .show in
     let p = c .put-call in
     let old = lent (now (a .log)) (now (a .rows)) (now (a .order)) (now (a .book)) [] in
     let new = lent (now (a .log)) (now (a .rows)) (now (a .order)) (now (a .book)) [] in
     performs (s .result) (now (a .counters)) old (Call.Show (a .history)) (r .result) new (p .result) (p .last .0) (now (a .answer)) (p .last .1 .0)
-    (s .ensures) (c .before .before .before .before .before .before .if1 .taken) (e .pre) (r .ensures []) (p .ensures)
+    (s .ensures) (c .before .before .before .before .before .before .before .if1 .taken) (e .pre) (r .ensures []) (p .ensures)
 
 returns-2 : tie.Need-returns-2
 unfolding numberOf
@@ -45,4 +45,9 @@ returns-2 c =
 
 pub fl-show-parts-spec : {M : Type 1} → statement M
 fl-show-parts-spec =
-    tie.close (tie.spec session-at-requires show-requires put-call-requires returns returns-2)
+    tie.close (tie.spec
+    session-at-requires
+    show-requires
+    put-call-requires
+    returns
+    returns-2)

@@ -16,17 +16,17 @@ use Rattle.site.proofs.Site.end.Statement.{statement}
 use Rattle.site.proofs.Site.end.Tie as tie
 
 add-ids : tie.Need-add-ids
-add-ids c = omega (arith, c .before .before .before .before .before .pre .owns .usable .few)
+add-ids c = omega (arith, c .before .before .before .before .before .before .pre .owns .usable .few, c .before .before .before .before .before .before .pre .owns .usable .long)
 
 ids-requires : tie.Need-ids-requires
-ids-requires c κs = let e = c .before .before .before .before .before .before in (e .pre .owns .usable, omega arith, omega arith)
+ids-requires c κs = let e = c .before .before .before .before .before .before .before in (e .pre .owns .usable, omega arith, omega arith)
 
 refusal-requires : tie.Need-refusal-requires
 refusal-requires c κs = search needs
 
 returns : tie.Need-returns
 returns c =
-    let e = c .before .before .before .before .before .before .before in
+    let e = c .before .before .before .before .before .before .before .before in
     let a = e .args in
     let m = lent (now (a .log)) (now (a .rows)) (now (a .order)) (now (a .book)) (now (a .lists)) in
     let left : Table = record { finished = a .self .table .finished; queue = 0 } in
@@ -39,7 +39,7 @@ returns c =
 
 returns-2 : tie.Need-returns-2
 returns-2 c =
-    let e = c .before .before .before .before in
+    let e = c .before .before .before .before .before in
     let a = e .args in
     let m = lent (now (a .log)) (now (a .rows)) (now (a .order)) (now (a .book)) (now (a .lists)) in
     refuses (a .self) m _ OutOfTurn _ (end-refused (represented (a .self) m) (now (a .log)) (c .before .if1 .left))

@@ -4,10 +4,10 @@ use Rattle.site.proofs.Site.entry_of.Statement.{statement}
 use Rattle.site.proofs.Site.entry_of.Tie as tie
 
 add-entry-of : tie.Need-add-entry-of
-add-entry-of c = omega (arith, c .before .before .before .pre .usable .few)
+add-entry-of c = omega (arith, c .before .before .before .before .pre .usable .few, c .before .before .before .before .pre .usable .long)
 
 entry-of-requires : tie.Need-entry-of-requires
-entry-of-requires c κs = (c .before .before .before .pre .usable)
+entry-of-requires c κs = (c .before .before .before .before .pre .usable)
 
 returns : tie.Need-returns
 returns c = c .entry-of .ensures

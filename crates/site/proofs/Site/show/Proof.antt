@@ -20,7 +20,7 @@ refusal-requires c κs = search needs
 returns : tie.Need-returns
 returns c =
     λ ns.
-    let e = c .before .before .before .before in
+    let e = c .before .before .before .before .before in
     let a = e .args in
     let m = lent (now (a .log)) (now (a .rows)) (now (a .order)) (now (a .book)) ns in
     let le : a .h ≤ top = omega (arith, e .fits .h) in
@@ -28,8 +28,8 @@ returns c =
     (c .refusal .ensures ns) refl
 
 -- A history that there is, is one of sixteen.
-few : (e : tie.Else1) → e .before .before .before .args .h < 16
-few e = omega (arith, e .if1 .left, count-most _ _ (e .before .before .before .pre .sound))
+few : (e : tie.Else1) → e .before .before .before .before .args .h < 16
+few e = omega (arith, e .if1 .left, count-most _ _ (e .before .before .before .before .pre .sound))
 
 history-at-requires : tie.Need-history-at-requires
 history-at-requires c κs = few c
@@ -62,7 +62,7 @@ returns-2 : tie.Need-returns-2
 returns-2 c =
     λ ns.
     let i = c .before .before .before .before .before in
-    let e = c .before .before .before .before .before .before .before .before in
+    let e = c .before .before .before .before .before .before .before .before .before in
     let a = e .args in
     let book = now (a .book) in
     let m = lent (now (a .log)) (now (a .rows)) (now (a .order)) book ns in

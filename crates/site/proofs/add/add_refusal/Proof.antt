@@ -32,7 +32,7 @@ back : (t : tie.After-enum-told) (us : List Update) → start t .args .asked ≡
 back t us h = asked-back _ us (start t .args .seen .count) h (passes-is _ (passed t us h))
 
 returns : tie.Need-returns
-returns c = λ us h st s. out-of-turn _ _ _ _ (add-refusal-is _ _ _ us st s) (c .if1 .taken)
+returns c = λ us h full st s. out-of-turn _ _ _ _ (add-refusal-is _ _ _ us full st s) (c .if1 .taken)
 
 asked-refusal-requires : tie.Need-asked-refusal-requires
 asked-refusal-requires c κs = asks-long _ _ (c .before .pre .1 .1)
@@ -66,22 +66,22 @@ conflict-requires c κs = search needs
 
 returns-2 : tie.Need-returns-2
 returns-2 c =
-    λ us h st s.
-    misformed _ _ _ _ (add-refusal-is _ _ _ us st s) (c .before .before .before .before .if1 .left) _ (sym (c .before .q .given .1)
+    λ us h full st s.
+    misformed _ _ _ _ (add-refusal-is _ _ _ us full st s) (c .before .before .before .before .if1 .left) _ (sym (c .before .q .given .1)
     ∙ c .before .before .before .asked-refusal .ensures us h)
 
 returns-3 : tie.Need-returns-3
 returns-3 c =
-    λ us h st s.
-    formed-then _ _ _ _ (add-refusal-is _ _ _ us st s) (c .before .before .before .before .before .if1 .left) (passed (c .before .before) us h) _
-    (nothing-orders-is _ _ _ us st s (ap nothingOrders (sym (back (c .before .before) us h)) ∙ sym (c .before .nothing-orders .ensures) ∙ c .if2 .taken))
+    λ us h full st s.
+    formed-then _ _ _ _ (add-refusal-is _ _ _ us full st s) (c .before .before .before .before .before .if1 .left) (passed (c .before .before) us h) _
+    (nothing-orders-is _ _ _ us full st s (ap nothingOrders (sym (back (c .before .before) us h)) ∙ sym (c .before .nothing-orders .ensures) ∙ c .if2 .taken))
 
 returns-4 : tie.Need-returns-4
 returns-4 c =
-    λ us h st s.
+    λ us h full st s.
     let t = c .before .before .before .before .before .before .before .before in
-    formed-then _ _ _ _ (add-refusal-is _ _ _ us st s) (t .before .before .before .if1 .left) (passed t us h) _
-    (conflict-is _ _ _ us st s (passes-is _ (passed t us h)) (ap nothingOrders (sym (back t us h)) ∙ sym
+    formed-then _ _ _ _ (add-refusal-is _ _ _ us full st s) (t .before .before .before .if1 .left) (passed t us h) _
+    (conflict-is _ _ _ us full st s (passes-is _ (passed t us h)) (ap nothingOrders (sym (back t us h)) ∙ sym
     (c .before .before .before .before .before .before .before .nothing-orders .ensures) ∙ c .before .before .before .before .before .before .if2 .left)
     _ (asked-enters _ _ us (back t us h) _ (c .before .before .before .before .before .entry-of-asked .ensures)) _ _ _
     (c .before .before .before .either .ensures ∙ ap (_||_ (start t .args .seen .done)) (c .before .before .before .before .already-done .ensures))

@@ -1,4 +1,5 @@
 -- After `seen` entries were examined, those that were overtaken have left and the others stand before the next: at the end, all.
+use Rattle.table.specs.OrderLaws.{same-length as order-length}
 use denote.Ref.{now}
 use borrow.Author.Needs.{needs}
 use Prim.Native.Nat.{_≤_, _<_, _-_}
@@ -21,7 +22,7 @@ known-length-requires c κs = tt
 
 loop-holds : tie.Need-loop-holds Inv-loop μ-loop
 loop-holds c =
-    let e = c .before .before .before .before in
+    let e = c .before .before .before .before .before in
     let long : length (now (e .args .lists)) ≡ 68 = search needs in (
       omega arith,
       omega arith,
@@ -34,7 +35,7 @@ sub-examine c = c .before .before .before .before .before .loop .inv .1
 
 examine-requires : tie.Need-examine-requires Inv-loop μ-loop
 examine-requires c κs =
-    let e = c .before .before .before .before .before .before .before .before .before .before in
+    let e = c .before .before .before .before .before .before .before .before .before .before .before in
     let l = c .before .before .before .before .before .loop in
     let low : l .seen - l .d .count < l .d .table .queue =
     omega (arith, l .inv .1, l .inv .2 .left, c .before .before .before .before .loop-test .taken) in (
@@ -47,26 +48,29 @@ examine-requires c κs =
 
 add-seen : tie.Need-add-seen Inv-loop μ-loop
 add-seen c =
-    let e = c .before .before .before .before .before .before .before .before .before .before .before in
-    omega (arith, e .pre .0 .usable .few, c .before .before .before .before .before .loop-test .taken)
+    let e = c .before .before .before .before .before .before .before .before .before .before .before .before .before .before in
+    omega (arith, e .pre .0 .usable .few, c .before .before .before .before .before .before .before .loop-test .taken)
 
 loop-less : tie.Need-loop-less Inv-loop μ-loop
-loop-less c = omega (arith, c .before .before .before .before .before .loop-test .taken)
+loop-less c = omega (arith, c .before .before .before .before .before .before .before .loop-test .taken)
 
 loop-again : tie.Need-loop-again Inv-loop μ-loop
 loop-again c =
-    let e = c .before .before .before .before .before .before .before .before .before .before .before in
-    let l = c .before .before .before .before .before .before .loop in
-    let taken = c .before .before .before .before .before .loop-test .taken in
+    let e = c .before .before .before .before .before .before .before .before .before .before .before .before .before .before in
+    let l = c .before .before .before .before .before .before .before .before .loop in
+    let taken = c .before .before .before .before .before .before .before .loop-test .taken in
     let next =
     dropping-next (e .args .self) (now (e .args .order)) (now (e .args .rows)) (now (e .args .book)) (now (e .args .lists)) (e .args .at)
     (l .d) (l .order) (l .book) (l .lists) (l .seen - l .d .count) (l .inv .2) (omega (arith, l .inv .1, l .inv .2 .left, taken)) (l .seen)
-    refl (l .inv .1) (c .examine .result) _ _ _ (e .pre .1 .0) (c .examine .ensures) in
+    refl (l .inv .1) (c .before .before .examine .result) _ _ _ (e .pre .1 .0) (c .before .before .examine .ensures) in
     (omega (arith, taken), next .0, next .1)
+
+same-length : tie.Need-same-length Inv-loop μ-loop
+same-length c = order-length _ _ (c .before .loop .inv .2 .becomes .same)
 
 returns : tie.Need-returns Inv-loop μ-loop
 returns c =
-    let e = c .before .before .before .before .before .before in
+    let e = c .before .before .before .before .before .before .before in
     let l = c .before .loop in
     dropping-all (e .args .self) (now (e .args .order)) (now (e .args .rows)) (now (e .args .book)) (now (e .args .lists)) (e .args .at)
     (l .d) _ _ _ (l .seen - l .d .count) (omega (arith, l .inv .0, l .inv .1, l .inv .2 .left, c .loop-test .left))
@@ -85,4 +89,5 @@ drop-overtaken-spec =
     add-seen
     loop-less
     loop-again
+    same-length
     returns)

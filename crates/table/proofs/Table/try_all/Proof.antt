@@ -16,7 +16,7 @@ use Rattle.table.proofs.Table.try_all.Tie as tie
 
 abbrev Inv-loop : tie.InvT-loop
 Inv-loop order rows₀ book lists₀ at from to m₀ ready₀ i₀ rows lists m ready i =
-    (from ≤ i) × (i ≤ to) × (to ≤ 64) × (at + (to - from) ≤ 68) × (ready ≤ i - from)
+    (from ≤ i) × (i ≤ to) × (to ≤ length order) × (at + (to - from) ≤ 68) × (ready ≤ i - from)
     × Passing (cellsOf (historiesIn book)) order rows₀ rows from to m lists₀ at ready lists i
 
 abbrev μ-loop : tie.MeasureT-loop
@@ -26,15 +26,15 @@ known-length-requires : tie.Need-known-length-requires Inv-loop μ-loop
 known-length-requires c κs = search needs
 
 add-to : tie.Need-add-to Inv-loop μ-loop
-add-to c = omega (arith, c .before .before .before .before .before .pre .0 .usable .few)
+add-to c = omega (arith, c .before .before .before .before .before .before .pre .0 .usable .few)
 
 in-progress-requires : tie.Need-in-progress-requires Inv-loop μ-loop
-in-progress-requires c κs = (c .before .before .before .before .before .before .pre .0 .usable, omega arith)
+in-progress-requires c κs = (c .before .before .before .before .before .before .before .pre .0 .usable, omega arith)
 
 loop-holds : tie.Need-loop-holds Inv-loop μ-loop
 loop-holds c =
-    let a = c .before .before .before .before .before .before .before .args in
-    let p = c .before .before .before .before .before .before .before .pre in
+    let a = c .before .before .before .before .before .before .before .before .args in
+    let p = c .before .before .before .before .before .before .before .before .pre in
     let long : length (now (a .lists)) ≡ 68 = search needs in (
       omega arith,
       omega arith,
@@ -45,12 +45,12 @@ loop-holds c =
           (c .in-progress .ensures) long,
     )
 
-element-copy-out-number : tie.Need-element-copy-out-number Inv-loop μ-loop
-element-copy-out-number c = omega arith
+shared-slice-read-number : tie.Need-shared-slice-read-number Inv-loop μ-loop
+shared-slice-read-number c = omega arith
 
 cast-number : tie.Need-cast-number Inv-loop μ-loop
 cast-number c =
-    let good = c .before .before .before .before .before .before .before .before .before .before .good in
+    let good = c .before .before .before .before .before .before .before .before .before .before .before .good in
     let p = c .before .before .loop .inv .5 in
     let w = p .usable .within (c .before .before .loop .i) (omega arith) in
     record { fits = omega (arith, w, p .frame .long, good) }
@@ -60,7 +60,7 @@ row-at-requires c κs = c .before .before .before .loop .inv .5 .usable .within 
 
 may-start-requires : tie.Need-may-start-requires Inv-loop μ-loop
 may-start-requires c κs =
-    let a = c .before .before .before .before .before .before .before .before .before .before .before .before .args in
+    let a = c .before .before .before .before .before .before .before .before .before .before .before .before .before .args in
     let l = c .before .before .before .before .loop in
     passing-usable (cellsOf (historiesIn (a .book .now))) (a .order .now) (now (a .rows)) (l .rows) (a .self .finished) _ (l .m)
     (now (a .lists)) (a .at)
@@ -68,7 +68,7 @@ may-start-requires c κs =
 
 marked-requires : tie.Need-marked-requires Inv-loop μ-loop
 marked-requires c κs =
-    let a = c .before .before .before .before .before .before .before .before .before .before .before .before .before .before .args in
+    let a = c .before .before .before .before .before .before .before .before .before .before .before .before .before .before .before .args in
     let l = c .before .before .before .before .before .before .loop in (
       passing-usable (cellsOf (historiesIn (a .book .now))) (a .order .now) (now (a .rows)) (l .rows) (a .self .finished) _ (l .m)
           (now (a .lists)) (a .at)
@@ -99,7 +99,7 @@ loop-less c = omega arith
 
 loop-again : tie.Need-loop-again Inv-loop μ-loop
 loop-again c =
-    let a = c .before .before .before .before .before .before .before .before .before .before .before .before .before .before .args in
+    let a = c .before .before .before .before .before .before .before .before .before .before .before .before .before .before .before .args in
     let l = c .before .before .before .before .before .before .loop in
     let cells = cellsOf (historiesIn (a .book .now)) in
     let o = a .order .now in
@@ -132,7 +132,7 @@ same-length c = c .before .loop .inv .5 .frame .long
 
 returns : tie.Need-returns Inv-loop μ-loop
 returns c =
-    let a = c .before .before .before .before .before .before .before .before .before .args in
+    let a = c .before .before .before .before .before .before .before .before .before .before .args in
     let l = c .before .loop in
     passing-all _ (a .self) (a .order .now) (now (a .rows)) (l .rows) (l .m) (now (a .lists)) (a .at) _ _ (l .i) (omega (arith, l .inv .3)) (omega arith)
     (l .inv .5)
@@ -147,7 +147,7 @@ try-all-spec =
     add-to
     in-progress-requires
     loop-holds
-    element-copy-out-number
+    shared-slice-read-number
     cast-number
     row-at-requires
     may-start-requires

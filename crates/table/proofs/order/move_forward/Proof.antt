@@ -4,35 +4,31 @@ use native.Mathlib.Omega.{arith}
 use mathlib.Core.Path.{_≡_, refl, sym, ap, _∙_}
 use lib.ListN.{length, getD, set, length-set}
 use denote.Ref.{now}
-use borrow.Author.Needs.{needs}
 use Rattle.table.specs.Lists.{omit}
 use Rattle.table.specs.ShiftLaws.{omit-on, moved-end}
 use Rattle.table.proofs.order.move_forward.Statement.{statement}
 use Rattle.table.proofs.order.move_forward.Tie as tie
 
 abbrev Inv-loop : tie.InvT-loop
-Inv-loop order₀ from to x i₀ order i = (to ≤ i) × (i ≤ from) × (length order ≡ 64) × (omit i order ≡ omit from order₀)
+Inv-loop order₀ from to x i₀ order i = (to ≤ i) × (i ≤ from) × (length order ≡ length order₀) × (omit i order ≡ omit from order₀)
 
 abbrev μ-loop : tie.MeasureT-loop
 μ-loop order₀ from to x i₀ order i = i
 
-known-length-requires : tie.Need-known-length-requires Inv-loop μ-loop
-known-length-requires c κs = search needs
-
-element-copy-out-x : tie.Need-element-copy-out-x Inv-loop μ-loop
-element-copy-out-x c = omega arith
+slice-read-x : tie.Need-slice-read-x Inv-loop μ-loop
+slice-read-x c = omega arith
 
 loop-holds : tie.Need-loop-holds Inv-loop μ-loop
-loop-holds c = (omega arith, omega arith, search needs, refl)
+loop-holds c = (omega arith, omega arith, refl, refl)
 
 sub-order : tie.Need-sub-order Inv-loop μ-loop
 sub-order c = omega arith
 
-element-copy-out-order : tie.Need-element-copy-out-order Inv-loop μ-loop
-element-copy-out-order c = omega arith
+slice-read-order : tie.Need-slice-read-order Inv-loop μ-loop
+slice-read-order c = omega arith
 
-element-write-order : tie.Need-element-write-order Inv-loop μ-loop
-element-write-order c = omega arith
+slice-write-order : tie.Need-slice-write-order Inv-loop μ-loop
+slice-write-order c = omega arith
 
 sub-i : tie.Need-sub-i Inv-loop μ-loop
 sub-i c = omega arith
@@ -54,12 +50,15 @@ loop-again c =
           ∙ l .inv .3,
     )
 
-element-write-order-2 : tie.Need-element-write-order-2 Inv-loop μ-loop
-element-write-order-2 c = omega arith
+slice-write-order-2 : tie.Need-slice-write-order-2 Inv-loop μ-loop
+slice-write-order-2 c = omega arith
+
+same-length : tie.Need-same-length Inv-loop μ-loop
+same-length c = length-set (c .before .loop .order) _ _ ∙ c .before .loop .inv .2
 
 returns : tie.Need-returns Inv-loop μ-loop
 returns c =
-    let a = c .before .before .before .before .before .before .args in
+    let a = c .before .before .before .args in
     let l = c .before .loop in
     let e : l .i ≡ a .to = omega arith in
     moved-end (a .from) (a .to) _ (now (a .order)) (l .order) (omega arith) (ap (λ (k : ℕ). omit k (l .order)) (sym e) ∙ l .inv .3) refl
@@ -70,14 +69,14 @@ move-forward-spec =
     (tie.spec
     Inv-loop
     μ-loop
-    known-length-requires
-    element-copy-out-x
+    slice-read-x
     loop-holds
     sub-order
-    element-copy-out-order
-    element-write-order
+    slice-read-order
+    slice-write-order
     sub-i
     loop-less
     loop-again
-    element-write-order-2
+    slice-write-order-2
+    same-length
     returns)
