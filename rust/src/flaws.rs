@@ -281,4 +281,28 @@ flaws! {
     CardBelowTop,
     /// The numbers past those of the site's histories become 0.
     CardClearsAll,
+    /// A cut does not raise what a site is promised.
+    PromiseNotRaised,
+    /// The last cut's number is promised, not the largest.
+    PromiseOfTheLastCut,
+    /// A slot that is not opened is promised nothing.
+    UnopenedNotPromised,
+    /// The module's table has 129 entries.
+    EntriesOneMore,
+    /// A cut that keeps too many lines is refused 10 before its log is read.
+    TenBeforeFifteen,
+    /// An added id is looked up in all sites of the module.
+    IdsOverAllSites,
+}
+
+impl Flaw {
+    /// The rules that only sites which share a table ask for.
+    pub const OF_SHARED_TABLES: &'static [Flaw] = &[
+        Flaw::PromiseNotRaised,
+        Flaw::PromiseOfTheLastCut,
+        Flaw::UnopenedNotPromised,
+        Flaw::EntriesOneMore,
+        Flaw::TenBeforeFifteen,
+        Flaw::IdsOverAllSites,
+    ];
 }

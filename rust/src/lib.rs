@@ -2,7 +2,7 @@
 //!
 //! From the bottom up: [`forms`] are the things that lines say, [`reader`] and [`writer`]
 //! turn bytes into them and back, [`rules`] decides, [`flaws`] can break a decision on purpose,
-//! [`site`], [`keeper`] and [`records`] carry the state, [`removal`] says what falls with lost
+//! [`site`], [`module`], [`keeper`] and [`records`] carry the state, [`removal`] says what falls with lost
 //! lines, [`session`] turns a text of commands into a text of replies. [`program`] is the face that a test or a benchmark sees; the proved
 //! library shows the same face in `library`.
 
@@ -13,6 +13,7 @@ pub mod forms;
 pub mod keeper;
 #[cfg(feature = "library")]
 pub mod library;
+pub mod module;
 pub mod program;
 pub mod reader;
 pub mod records;

@@ -49,7 +49,7 @@ impl Session {
 }
 
 /// Passes a command on to the site.
-fn perform(command: Command, site: &mut Site, log: &mut [u8]) -> Answer {
+pub(crate) fn perform(command: Command, site: &mut Site, log: &mut [u8]) -> Answer {
     Ok(match command {
         Command::Site(_) => return Err(Refusal::WrongTime),
         Command::Add(operation) => Reply::Added { ready: site.add(operation)? },

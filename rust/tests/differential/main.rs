@@ -103,10 +103,13 @@ fn mismatch_by(
 /// The rules that only a session from a log asks for.
 const OF_SESSIONS_FROM_LOGS: [Flaw; 2] = [Flaw::CutsInsideBase, Flaw::ReportsBelowBaseRefused];
 
-/// The comparison notices every broken rule, and shows it by few steps.
+/// The comparison notices every broken rule, and shows it by few steps. Those of sites that share a
+/// table have trials of their own, in `tests/module`.
 fn assert_notices_every_flaw(program: &dyn Program) {
     let goes_on = going_on::can(program);
-    let asked = |flaw: &&Flaw| goes_on || !OF_SESSIONS_FROM_LOGS.contains(flaw);
+    let asked = |flaw: &&Flaw| {
+        !Flaw::OF_SHARED_TABLES.contains(flaw) && (goes_on || !OF_SESSIONS_FROM_LOGS.contains(flaw))
+    };
     for &flaw in Flaw::ALL.iter().filter(asked) {
         let steps = mismatch_by(flaw, trials(), program).steps;
         assert!(steps <= 66, "{flaw:?} is shown by {steps} steps");
