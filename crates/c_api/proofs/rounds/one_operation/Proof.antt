@@ -26,7 +26,7 @@ finish-requires c κs =
     let m = lent (now (e .args .log)) (now (e .args .rows)) (now (e .args .order)) (now (e .args .book)) (now (e .args .lists)) in
     let mid = lent (now (e .args .log)) (add .last .1 .1 .0) (now (e .args .order)) (add .last .1 .1 .1 .1 .0) (add .last .1 .1 .1 .1 .1 .0) in
     let valid = call-reaches (e .args .site) m (Call.Add (e .args .id) (updatesHeld (asked .result))) (add .result) mid (e .pre)
-    (steps-alone (e .args .site) m (Call.Add (e .args .id) (updatesHeld (asked .result))) (add .result) mid (search needs) (add .ensures)) .valid in
+    (steps-alone (e .args .site) m (Call.Add (e .args .id) (updatesHeld (asked .result))) (add .result) mid (c .before .before .before .before .before .before .before .before .before .add-arg4 .given .0) (add .ensures)) .valid in
     valid
 
 same-length : tie.Need-same-length
@@ -43,7 +43,7 @@ returns c =
     two-reach (e .args .site) m _ (add .result) mid (Call.Finish (e .args .id)) (finish .result)
     (lent (finish .last .1 .0) (finish .last .1 .1 .0) (finish .last .1 .1 .1 .0) (finish .last .1 .1 .1 .1 .0) (finish .last .1 .1 .1 .1 .1 .0)) (e .pre)
     (adds-updates (e .args .site) m (e .args .id) (updatesHeld (asked .result)) _ (add .result) mid (asked .ensures)
-    (steps-alone (e .args .site) m (Call.Add (e .args .id) (updatesHeld (asked .result))) (add .result) mid (search needs) (add .ensures))) (finish .ensures)
+    (steps-alone (e .args .site) m (Call.Add (e .args .id) (updatesHeld (asked .result))) (add .result) mid (c .before .before .before .before .before .before .before .before .before .before .before .before .before .add-arg4 .given .0) (add .ensures))) (finish .ensures)
 
 pub one-operation-spec : {M : Type 1} → statement M
 one-operation-spec =
