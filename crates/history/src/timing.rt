@@ -3,7 +3,7 @@ ghost use mathlib.Core.Path.{_≡_};
 ghost use Rattle.rules.specs.Rules.{mayLater, timing, isNever};
 use super::History;
 use super::Item;
-use super::may_run;
+use super::update_rules::may_run;
 use forms::Rule;
 use forms::Timing;
 use forms::Version;

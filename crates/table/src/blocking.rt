@@ -12,7 +12,7 @@ use super::Marks;
 use super::rows::row_at;
 use history::Entry;
 use history::Item;
-use history::is_strong;
+use history::update_rules::is_strong;
 
 // Whether one of the two is so.
 pub fn either(a: bool, b: bool) -> bool

@@ -23,7 +23,7 @@ use forms::ReplyNumbers;
 use history::book::BookWords;
 use history::book::history_at;
 use history::book::known_length;
-use history::is_next;
+use history::turns::is_next;
 
 // The number x at `at`. The caller sees to it that there is room.
 pub fn push_number(lists: &mut ReplyNumbers, at: usize, x: u64)

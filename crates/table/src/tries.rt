@@ -20,7 +20,7 @@ use history::Entry;
 use history::book::BookWords;
 use history::book::history_at;
 use history::book::known_length;
-use history::may_run;
+use history::update_rules::may_run;
 
 // Whether each update of an operation may run and is not blocked.
 fn all_ready(book: &BookWords, m: Marks, e: Entry) -> bool

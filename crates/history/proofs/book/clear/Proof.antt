@@ -1,3 +1,4 @@
+-- The loop's invariant: the numbers before i are 0, and those from i on are as they came; at the end that is so of the site's histories and nothing past them.
 use denote.Ref.{now}
 use Prim.Native.Nat.{ℕ, _*_, _-_, _<_}
 use native.Mathlib.Omega.{arith}

@@ -1,3 +1,4 @@
+-- The loop's invariant: the first i numbers of the column are those of the first i histories.
 use denote.Ref.{now}
 use Prim.Native.Nat.{ℕ, _+_, _*_, _-_, _≤_, _<_}
 use native.Mathlib.Omega.{arith}

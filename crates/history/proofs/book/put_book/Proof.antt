@@ -1,3 +1,4 @@
+-- The loop's invariant: the numbers before i are those of the other array, and those from i on are as they came.
 use denote.Ref.{now}
 use Prim.Native.Nat.{ℕ, _*_, _-_, _<_}
 use native.Mathlib.Omega.{arith}

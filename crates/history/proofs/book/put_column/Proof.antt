@@ -1,3 +1,4 @@
+-- The loop's invariant: of the first i histories the number in question is the column's, and every other number is as it came.
 use denote.Ref.{now}
 use Prim.Native.Nat.{ℕ, _-_, _≤_}
 use native.Mathlib.Omega.{arith}
