@@ -1,3 +1,4 @@
+-- A bare reply of the refusal's form says the refusal, by the contract of the bare reply.
 use Rattle.forms.specs.Held.{outcomeWith}
 use borrow.Author.Needs.{needs}
 use Rattle.site.proofs.refusal.Statement.{statement}

@@ -1,3 +1,4 @@
+-- A session starts with a blank site that is not opened: the record is the definition's.
 use mathlib.Core.Path.{refl}
 use Rattle.session.specs.AnswerLaws.{starts}
 use borrow.Author.Needs.{needs}

@@ -1,3 +1,4 @@
+-- The line reads as one command or as none, by the reader's contract; what is obeyed is that command's turn.
 use denote.Ref.{now}
 use Rattle.session.specs.ReadLaws.{turns-by}
 use Rattle.site.specs.Model.{lent}

@@ -1,3 +1,4 @@
+-- The checks are asked for in the definition's order; once 2 to 5 have passed, what is held is just the updates, so the entry made of them can be asked.
 use mathlib.Core.Bool.{_||_}
 use mathlib.Core.Path.{_≡_, sym, ap, _∙_}
 use mathlib.Core.List.{List}

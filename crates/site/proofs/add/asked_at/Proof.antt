@@ -1,3 +1,4 @@
+-- Below the count it is the update held there, past it the blank one: the value of the list at i.
 use Rattle.forms.specs.Writable.{WritableUpdate}
 use Rattle.forms.specs.Held.{asUpdate, asAsked, noUpdate}
 use Rattle.site.specs.TrimLaws.{stands-below, stands-past}

@@ -1,3 +1,4 @@
+-- Each of the four places is made by one call, so what is held is the list of the updates below the count.
 use Rattle.site.specs.TrimLaws.{asked-held}
 use borrow.Author.Needs.{needs}
 use Rattle.site.proofs.add.trimmed_asked.Statement.{statement}

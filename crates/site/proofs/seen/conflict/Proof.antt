@@ -1,3 +1,4 @@
+-- The tests are asked in the order of the definition: at each return those before it did not hold.
 use mathlib.Core.Path.{refl}
 use Rattle.rules.specs.Checks.{check}
 use Rattle.history.specs.Asking.{verdictOf}
