@@ -30,7 +30,13 @@ pub fn others(round: u64) -> Vec<Box<dyn Comparison>> {
     let keepers = keepers(round).into_iter().map(boxed);
     let mut random = seeded(5, round);
     let records = (0..12).map(|_| boxed(recorded::any(&mut random)));
-    let logs = restarts.chain(upgrades).chain(trims).chain(removals).chain(finds).chain(cards).chain(sessions);
+    let logs = restarts
+        .chain(upgrades)
+        .chain(trims)
+        .chain(removals)
+        .chain(finds)
+        .chain(cards)
+        .chain(sessions);
     logs.chain(keepers).chain(records).collect()
 }
 

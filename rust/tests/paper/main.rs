@@ -1,6 +1,7 @@
 //! The examples and edge cases that the paper gives, one by one.
 
 mod base;
+mod card;
 mod changeover;
 mod find;
 mod keeper;
