@@ -335,7 +335,8 @@ fn full_log_of_four() -> Vec<u8> {
 
 /// 64 lines redone again and again from an empty log.
 fn redone(line: fn(usize) -> String, reverse: bool) -> String {
-    let mut lines: Vec<String> = (0..64).map(|number| format!("(redo {})\n", line(number))).collect();
+    let mut lines: Vec<String> =
+        (0..64).map(|number| format!("(redo {})\n", line(number))).collect();
     if reverse {
         lines.reverse();
     }
