@@ -3,12 +3,14 @@
 use crate::card::{self, Counts};
 use crate::forms::{Answer, Reply};
 use crate::keeper::{Keeper, Places};
+use crate::module::Module;
 use crate::records::{RecordCall, Records};
 use crate::refusal::Refusal;
 use crate::removal;
 use crate::rules::Rules;
 use crate::session::{self, Session};
 use crate::site::Site;
+use crate::slots::Slots;
 use crate::writer;
 
 /// The bytes in use after a call, or handed out by it; else the refusal's number.
@@ -96,6 +98,11 @@ pub trait Program {
     /// A call about the records in the first numbers. Gives how many records there are after
     /// it; of a report or a question, 1 if the operation counts as persistent, else 0.
     fn records(&self, numbers: &mut [u64], count: usize, call: RecordCall) -> Outcome;
+
+    /// A new compact module, or nothing where the program has none.
+    fn module(&self) -> Option<Box<dyn Slots>> {
+        None
+    }
 }
 
 /// The programs that are there to be compared, this one first.
@@ -232,6 +239,10 @@ impl Program for Second {
 
     fn records(&self, numbers: &mut [u64], count: usize, call: RecordCall) -> Outcome {
         outcome(Records::resume(numbers, count, self.rules).ok_or(NO_RECORDS)?.call(call))
+    }
+
+    fn module(&self) -> Option<Box<dyn Slots>> {
+        Some(Box::new(Module::new(self.rules)))
     }
 }
 

@@ -5,6 +5,7 @@ mod account;
 #[path = "../../examples/rust/src/service.rs"]
 mod service;
 
+use second::card::card;
 use second::refusal::Refusal;
 use second::rules::{Flaw, Rules};
 use second::session::Session;
@@ -21,6 +22,7 @@ struct Second {
 struct Chair<'log> {
     session: Session,
     log: &'log mut [u8],
+    rules: Rules,
 }
 
 impl Chair<'_> {
@@ -36,7 +38,7 @@ impl Second {
         log: &'log mut [u8],
     ) -> Result<Chair<'log>, u64> {
         let session = Session::of(site.map_err(Refusal::number)?, self.rules);
-        Ok(Chair { session, log })
+        Ok(Chair { session, log, rules: self.rules })
     }
 }
 
@@ -65,6 +67,12 @@ impl Calls for Chair<'_> {
 
     fn trim(&self, n: u64, fresh: &mut [u8]) -> Result<usize, u64> {
         self.site().trim(n, self.log, fresh).map_err(Refusal::number)
+    }
+
+    fn card(&mut self, window: u64) -> Result<Vec<u64>, u64> {
+        let (site, mut counts) = (self.site(), [0; 48]);
+        card(site, site, self.log, window, &mut counts, self.rules).map_err(Refusal::number)?;
+        Ok(counts[..3 * account::HISTORIES as usize].to_vec())
     }
 }
 

@@ -14,9 +14,9 @@ use Rattle.forms.specs.Held.{outcomeOf}
 use Rattle.forms.specs.declared.ReplyForm.{ReplyForm}
 use Rattle.rules.specs.State.{State, Reply, refused, ok}
 use Rattle.rules.specs.Calls.{restart, Cut, step}
-use Rattle.rules.specs.GrowLaws.{Continues}
+use Rattle.rule_laws.specs.GrowLaws.{Continues}
 use Rattle.rules.specs.Card.{Carded, notCarded, carded, card, cardAfresh}
-use Rattle.rules.specs.CardLaws.{InRange, carded-exactly, refused-exactly}
+use Rattle.rule_laws.specs.CardLaws.{InRange, carded-exactly, refused-exactly}
 use Rattle.recovery.specs.Cuts.{cutting}
 use Rattle.site.specs.declared.Site.{Site}
 use Rattle.site.specs.declared.CallResult.{CallResult}

@@ -5,7 +5,7 @@ use mathlib.Core.List.{List, [], _++_}
 use lib.ListN.{length, drop}
 use Rattle.forms.specs.Refusals.{numberOf}
 use Rattle.rules.specs.State.{State, Reply, refused, ok}
-use Rattle.rules.specs.GrowLaws.{Continues}
+use Rattle.rule_laws.specs.GrowLaws.{Continues}
 use Rattle.rules.specs.Card.{Carded, notCarded, carded, card, cardNumbers, lastLines}
 use Rattle.site.specs.declared.Site.{Site}
 use Rattle.site.specs.Model.{lent, view, Valid}

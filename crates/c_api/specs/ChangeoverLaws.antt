@@ -4,7 +4,7 @@ use mathlib.Core.Path.{_≡_, refl, sym, ap, _∙_}
 use mathlib.Core.List.{List}
 use native.Mathlib.Omega.{arith}
 use Rattle.rules.specs.OldLog.{Upgrade, notUpgraded, upgraded, upgrade}
-use Rattle.rules.specs.OldLogLaws.{upgrade-holds}
+use Rattle.rule_laws.specs.OldLogLaws.{upgrade-holds}
 use Rattle.older_log.specs.declared.Changeover.{Changeover}
 use Rattle.older_log.specs.declared.Changeover.the-variants.{Used}
 use Rattle.older_log.specs.Model.{replyOf, Upgrades}

@@ -7,6 +7,7 @@ use mathlib.Core.List.{List, _++_}
 use native.Mathlib.Omega.{arith}
 use lib.ListN.{length, drop, take-append-drop}
 use borrow.Author.Tests.{eq-eqb, ne-eqb}
+use Rattle.forms.specs.Limits.{historyLimit}
 use Rattle.forms.specs.declared.Refusal.{Refusal}
 use Rattle.rules.specs.Log.{didsText}
 use Rattle.rules.specs.Keeper as book
@@ -57,7 +58,8 @@ replies-none used old reply e = record { answer = rw e; bytes = rw e }
 -- ### A keeper after a call
 
 -- the bytes in use are the kept lines, and the others did not change
-kept-whole : (k : Keeper) (new old : List ℕ) (b : book.Keeper) → ValidKeeper k new → keeperView k new ≡ b → drop (k .used) new ≡ drop (k .used) old
+kept-whole : (k : Keeper) (new old : List ℕ) (b : book.Keeper) → ValidKeeper k new → keeperView k new ≡ b →
+    drop (k .used) new ≡ drop (k .used) old
     → (k .used ≡ length (keptBytes b)) × (new ≡ keptBytes b ++ drop (length (keptBytes b)) old)
 unfolding keptBytes
 kept-whole k new old b v e past =
@@ -102,25 +104,26 @@ module _ (used : ℕ) (old : List ℕ) (k : Keeper) (up : TakenUp used old k) wh
 pub hands-none : (used : ℕ) (buf places old : List ℕ) → resumable used buf ≡ false → HandsOver used buf places old 999 old
 hands-none used buf places old e = record { answer = rw e; bytes = rw e }
 
-pub hands-not-sixteen : (used : ℕ) (buf places old : List ℕ) → resumable used buf ≡ true → (length places ≡ 16 → ⊥) →
+pub hands-not-sixteen : (used : ℕ) (buf places old : List ℕ) → resumable used buf ≡ true → (length places ≡ historyLimit → ⊥) →
     HandsOver used buf places old 998 old
 hands-not-sixteen used buf places old e h =
-    record { answer = rw (e, ne-eqb (length places) 16 h); bytes = rw (e, ne-eqb (length places) 16 h) }
+    record { answer = rw (e, ne-eqb (length places) historyLimit h); bytes = rw (e, ne-eqb (length places) historyLimit h) }
 
 -- What is handed out is what is replied.
-pub hands-over : (used : ℕ) (buf places old : List ℕ) (k : Keeper) → TakenUp used buf k → length places ≡ 16 →
+pub hands-over : (used : ℕ) (buf places old : List ℕ) (k : Keeper) → TakenUp used buf k → length places ≡ historyLimit →
     (r : HandOut) (new : List ℕ) → HandsOut (keeperView k buf) places old r new
     → (n : ℕ) → n ≡ handOutNumber r → HandsOver used buf places old n new
 unfolding handOutNumber handedNumber
 hands-over used buf places old k up h r new d n e =
-    let x : HandsOut (keeperIn used buf) places old r new = subst (λ (y : Keeper). HandsOut (keeperView y buf) places old r new) (up .same) d in
+    let x : HandsOut (keeperIn used buf) places old r new = subst (λ (y : Keeper). HandsOut (keeperView y buf) places old r new)
+    (up .same) d in
     record {
       answer =
           e
           ∙ ap handOutNumber (x .answer)
           ∙ number (handOutRefusal places (length old) (keeperIn used buf)) (handedOut places (keeperIn used buf))
-          ∙ rw (up .test, eq-eqb (length places) 16 h) refl;
-      bytes = x .bytes ∙ rw (up .test, eq-eqb (length places) 16 h) refl;
+          ∙ rw (up .test, eq-eqb (length places) historyLimit h) refl;
+      bytes = x .bytes ∙ rw (up .test, eq-eqb (length places) historyLimit h) refl;
     }
   where
     number : (o : Option Refusal) (bytes : List ℕ) → handOutNumber (handAnswer o bytes) ≡ handedNumber o bytes

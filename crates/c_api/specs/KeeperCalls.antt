@@ -7,6 +7,7 @@ use mathlib.Core.List.{List, _++_}
 use lib.Dec.{eqb}
 use lib.ListN.{length, drop}
 use Rattle.forms.specs.Refusals.{numberOf}
+use Rattle.forms.specs.Limits.{historyLimit}
 use Rattle.forms.specs.declared.Refusal.{Refusal}
 use Rattle.rules.specs.Keeper as book
 use Rattle.rules.specs.Keeper.{KeeperReply, keptBytes, handedOut, handOutRefusal}
@@ -52,10 +53,10 @@ handedNumber none bytes = length bytes + 1000
 pub record HandsOver (used : ℕ) (buf places old : List ℕ) (n : ℕ) (new : List ℕ) : Type 0 where
   pub answer : n ≡
       cond (resumable used buf)
-      (cond (eqb (length places) 16)
+      (cond (eqb (length places) historyLimit)
       (handedNumber (handOutRefusal places (length old) (keeperIn used buf)) (handedOut places (keeperIn used buf))) 998)
       999
   pub bytes : new ≡
-      cond (resumable used buf && eqb (length places) 16)
+      cond (resumable used buf && eqb (length places) historyLimit)
       (handBytes (handOutRefusal places (length old) (keeperIn used buf)) (handedOut places (keeperIn used buf)) old)
       old

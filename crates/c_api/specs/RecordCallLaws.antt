@@ -9,9 +9,10 @@ use lib.Dec.{leb}
 use lib.ListN.{length, drop}
 use borrow.Author.Tests.{leb-true, le-leb}
 use Rattle.forms.specs.Lists.{find}
-use Rattle.rules.specs.CheckLaws.{lt-not-le}
+use Rattle.rule_laws.specs.CheckLaws.{lt-not-le}
 use Rattle.rules.specs.Records as book
-use Rattle.rules.specs.Records.{recordLimit, RecordReply, isFor, counts, onRecord, question}
+use Rattle.forms.specs.Limits.{recordLimit}
+use Rattle.rules.specs.Records.{RecordReply, isFor, counts, onRecord, question}
 use Rattle.records.specs.declared.RecordsResult.{RecordsResult}
 use Rattle.records.specs.declared.Answer.{Answer}
 use Rattle.records.specs.Model.{width, recordsView, ValidRecords, answerBy, answerIn, RecordsDo}

@@ -7,7 +7,8 @@ use lib.Dec.{leb}
 use lib.ListN.{length, drop}
 use Rattle.forms.specs.Refusals.{numberOf}
 use Rattle.rules.specs.Records as book
-use Rattle.rules.specs.Records.{recordLimit, RecordReply}
+use Rattle.forms.specs.Limits.{recordLimit}
+use Rattle.rules.specs.Records.{RecordReply}
 use Rattle.records.specs.declared.Answer.{Answer}
 use Rattle.records.specs.declared.Answer.the-variants.{Refused, Done, Persistent, NotPersistent}
 use Rattle.records.specs.Model.{width, recordsView}

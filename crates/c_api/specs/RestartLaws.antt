@@ -33,7 +33,8 @@ unlisted r = ap₂ (λ (xs ys : List ℕ). outcomeWith (r .form) xs ys) (take-ni
 
 -- What is written of it is the specification's reply.
 pub puts-reply : (s : Site) (old : Lent) (reply : Reply) (r : CallResult) (log rows order book out written : List ℕ) (w : Written) (n : ℕ) →
-    Opens s old reply r (lent log rows order book []) → Writes out 0 (withEnd (outcomeText (outcomeWith (r .reply .form) [] []))) w written →
+    Opens s old reply r (lent log rows order book []) →
+    Writes out 0 (withEnd (outcomeText (outcomeWith (r .reply .form) [] []))) w written →
     n ≡ codeOf w →
     PutsText (replyText reply) out n written
 unfolding ended

@@ -12,7 +12,7 @@ use Rattle.forms.specs.Held.{asAsked}
 use Rattle.forms.specs.declared.Asked.{Asked}
 use Rattle.rules.specs.State.{State, Reply, refused, ok, settle, logBytes}
 use Rattle.rules.specs.Calls.{Call, step}
-use Rattle.rules.specs.LogLaws.{histories-least}
+use Rattle.rule_laws.specs.LogLaws.{histories-least}
 use Rattle.rules.specs.Run.{run}
 use Rattle.recovery.specs.Recovery.{run-append}
 use Rattle.site.specs.declared.Site.{Site}
@@ -53,7 +53,7 @@ call-reaches s old c r new v d = go (step c (view s old)) refl d
     go (ok st a) e h = reached st (settled (ok st a) e) (h .valid) (h .state) (h .past)
 
 -- The buffer after calls, and then others.
-written-append : (cs ds : List Call) (st : State) (bytes : List ℕ) →
+pub written-append : (cs ds : List Call) (st : State) (bytes : List ℕ) →
     written (cs ++ ds) st bytes ≡ written ds (run cs st) (written cs st bytes)
 unfolding run written
 written-append [] ds st bytes = refl

@@ -11,7 +11,7 @@ use Rattle.forms.specs.declared.ReplyForm.{ReplyForm}
 use Rattle.forms.specs.declared.ReplyLine.{ReplyLine}
 use Rattle.rules.specs.State.{State, Reply, refused, ok}
 use Rattle.rules.specs.Trim.{Trimmed, notTrimmed, trimmed, trim}
-use Rattle.rules.specs.TrimShows.{trim-holds}
+use Rattle.rule_laws.specs.TrimShows.{trim-holds}
 use Rattle.site.specs.declared.Site.{Site}
 use Rattle.site.specs.declared.CallResult.{CallResult}
 use Rattle.site.specs.Model.{Lent, view, Valid, Opens}

@@ -23,7 +23,7 @@ fn take_up(log: &[u8], kept: usize) -> Taken
     ensures { λ r. ⌜ TakesUp (restart (was log) kept) (was log) r ⌝ }
 {
     let mut rows = [0u64; Site::LIVE * ROW];
-    let mut order = [0u8; 64];
+    let mut order = [0u8; Site::LIVE];
     let mut book = [0u64; Site::HISTORIES * WIDTH];
     let c = Site::restart(log, &mut rows, &mut order, &mut book, kept);
     let site = c.site;

@@ -17,7 +17,7 @@ pub extern "C" fn log_find_cut(log: &[u8], kept: usize, places: &[u64]) -> u64
     ensures { λ r. ⌜ r ≡ findAfter (was places) (restart (was log) kept) ⌝ }
 {
     let mut rows = [0u64; Site::LIVE * ROW];
-    let mut order = [0u8; 64];
+    let mut order = [0u8; Site::LIVE];
     let mut book = [0u64; Site::HISTORIES * WIDTH];
     let c = Site::restart(log, &mut rows, &mut order, &mut book, kept);
     let site = c.site;

@@ -1,5 +1,6 @@
 // A keeper's calls. The first `used` bytes of a buffer are the kept lines; a call returns a refusal's number, or 1,000 more than
 // a number of bytes.
+use forms::limits::HISTORIES;
 use history::Verdict;
 use keeper::HandOut;
 use keeper::Keeper;
@@ -8,6 +9,7 @@ use keeper::Resumed;
 ghost use mathlib.Core.Path.{_≡_};
 ghost use Prim.Native.Nat.{ℕ, _+_, _≤_};
 ghost use lib.ListN.{length};
+ghost use Rattle.forms.specs.Limits.{historyLimit};
 ghost use Rattle.rules.specs.Keeper.{keepLine, dropLines};
 ghost use Rattle.keeper.specs.declared.HandOut.the-variants.{Handed};
 ghost use Rattle.c_api.specs.KeeperCalls.{keeperIn, verdictNumber, handOutNumber, Replies, HandsOver};
@@ -56,13 +58,13 @@ pub extern "C" fn keeper_drop(buf: &mut [u8], used: usize, history: u64, place: 
 }
 
 // Sixteen numbers as an array.
-fn sixteen(s: &[u64]) -> [u64; 16]
-    requires { ⌜ length (now s) ≡ 16 ⌝ }
+fn sixteen(s: &[u64]) -> [u64; HISTORIES]
+    requires { ⌜ length (now s) ≡ historyLimit ⌝ }
     ensures { λ r. ⌜ r ≡ now (s .entry) ⌝ }
 {
-    let mut a = [0u64; 16];
+    let mut a = [0u64; HISTORIES];
     let mut i: usize = 0;
-    while i < 16 {
+    while i < HISTORIES {
         a[i] = s[i];
         i += 1;
     }
@@ -88,7 +90,7 @@ pub extern "C" fn keeper_hand_out(buf: &[u8], used: usize, places: &[u64], out: 
     let Resumed::Found(k) = Keeper::resume(buf, used) else {
         return NO_KEEPER;
     };
-    if places.len() != 16 {
+    if places.len() != HISTORIES {
         return NOT_SIXTEEN;
     }
     let r = k.hand_out(buf, sixteen(places), out);

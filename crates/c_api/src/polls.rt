@@ -60,9 +60,9 @@ pub extern "C" fn session_polls(
     ensures { λ r. ⌜ PlaysPolls (was input) (was log) r (left log) (was out) (left out) (was histories) (left histories) ⌝ }
 {
     let mut rows = [0u64; Site::LIVE * ROW];
-    let mut order = [0u8; 64];
+    let mut order = [0u8; Site::LIVE];
     let mut book = [0u64; Site::HISTORIES * WIDTH];
-    let mut lists = [0u64; 68];
+    let mut lists = [0u64; Site::UPDATES + Site::LIVE];
     let r = run_session(
         input,
         log,

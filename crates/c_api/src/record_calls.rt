@@ -5,7 +5,8 @@ use records::Records;
 use records::RecordsResult;
 ghost use mathlib.Core.Path.{_≡_};
 ghost use Prim.Native.Nat.{_≤_};
-ghost use Rattle.rules.specs.Records.{recordLimit, recordNew, report, question, forgetRecord};
+ghost use Rattle.forms.specs.Limits.{recordLimit};
+ghost use Rattle.rules.specs.Records.{recordNew, report, question, forgetRecord};
 ghost use Rattle.c_api.specs.RecordCalls.{recordsIn, areRecords, answerNumber, askedNumber, RepliesRecords};
 
 // More records than 64, or fewer numbers than those of 64.

@@ -24,7 +24,7 @@ pub extern "C" fn site_restart(log: &[u8], k: usize, out: &mut [u8]) -> usize
     ensures { λ r. ⌜ PutsText (replyText (restart (now (log .entry)) k)) (now (out .entry)) r (now (out .exit)) ⌝ }
 {
     let mut rows = [0u64; Site::LIVE * ROW];
-    let mut order = [0u8; 64];
+    let mut order = [0u8; Site::LIVE];
     let mut book = [0u64; Site::HISTORIES * WIDTH];
     let c = Site::restart(log, &mut rows, &mut order, &mut book, k);
     let reply = c.reply;

@@ -21,7 +21,7 @@ use table::rows::ROW;
 use table::rows::Rows;
 
 // One update: part 0 of a history's profile becomes 7.
-fn asked_inc(history: u64, version: u64) -> AskedHeld
+pub(crate) fn asked_inc(history: u64, version: u64) -> AskedHeld
     ensures { λ r. ⌜ updatesHeld r ≡ (incOf history version ∷ []) ⌝ }
 {
     let a = Asked {
@@ -32,7 +32,7 @@ fn asked_inc(history: u64, version: u64) -> AskedHeld
     };
     AskedHeld {
         count: 1,
-        first: [a; 4],
+        first: [a; Site::UPDATES],
     }
 }
 
@@ -105,14 +105,14 @@ pub extern "C" fn site_add_and_finish(log: &mut [u8], n: u64) -> usize
     ensures { λ r. ⌜ Rounds (openSite 4 (length (now (log .entry)))) n (now (log .entry)) r (now (log .exit)) ⌝ }
 {
     let mut rows = [0u64; Site::LIVE * ROW];
-    let mut order = [0u8; 64];
+    let mut order = [0u8; Site::LIVE];
     let mut book = [0u64; Site::HISTORIES * WIDTH];
     let c = Site::open(log, &rows, &mut order, &mut book, 4);
     let mut site = c.site;
     if site.count == 0 {
         return 0;
     }
-    let mut lists = [0u64; 68];
+    let mut lists = [0u64; Site::UPDATES + Site::LIVE];
     let mut id: u64 = 0;
     while id < n {
         site = round(site, log, &mut rows, &mut order, &mut book, &mut lists, id);

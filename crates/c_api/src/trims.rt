@@ -31,7 +31,7 @@ pub extern "C" fn log_trim(log: &[u8], kept: usize, n: u64, fresh: &mut [u8]) ->
     ensures { λ r. ⌜ Trims (trimAfter n (was fresh) (restart (was log) kept)) (was fresh) r (left fresh) ⌝ }
 {
     let mut rows = [0u64; Site::LIVE * ROW];
-    let mut order = [0u8; 64];
+    let mut order = [0u8; Site::LIVE];
     let mut book = [0u64; Site::HISTORIES * WIDTH];
     let c = Site::restart(log, &mut rows, &mut order, &mut book, kept);
     let site = c.site;

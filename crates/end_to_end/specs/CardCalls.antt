@@ -11,9 +11,9 @@ use Rattle.forms.specs.Forms.{Line}
 use Rattle.rules.specs.State.{State, settle, linesIn}
 use Rattle.rules.specs.Calls.{Call, step}
 use Rattle.rules.specs.Run.{run}
-use Rattle.rules.specs.Good.{Good}
-use Rattle.rules.specs.GoodLaws.{good-step}
-use Rattle.rules.specs.GrowLaws.{Continues, continues-step}
+use Rattle.rule_laws.specs.Good.{Good}
+use Rattle.rule_laws.specs.GoodLaws.{good-step}
+use Rattle.rule_laws.specs.GrowLaws.{Continues, continues-step}
 use Rattle.rules.specs.Card.{cardAfresh, cardNumbers, Carded, notCarded, carded, card, takesBack}
 use Rattle.recovery.specs.Recovery.{run-append}
 use Rattle.site.specs.Representation.{Sound}

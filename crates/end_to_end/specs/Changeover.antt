@@ -8,14 +8,15 @@ use Prim.Native.Nat.{ℕ, _^_, _<_}
 use lib.ListN.{length, take, drop}
 use Rattle.forms.specs.Lists.{below}
 use Rattle.forms.specs.Forms.{Base, Did, Line, didLine, Restarted}
+use Rattle.forms.specs.Limits.{liveLimit}
 use Rattle.rules.specs.Book.{blankBase, cell, cellWith}
 use Rattle.rules.specs.Log.{dids, closing, journal, logText}
 use Rattle.rules.specs.State.{State, Reply, ok, linesIn, logBytes, stableTo, live}
 use Rattle.rules.specs.Calls.{restart, restarted}
 use Rattle.rules.specs.OldLog.{readOldWith, readOld, Upgrade, notUpgraded, upgrade, upgraded}
-use Rattle.rules.specs.OldLogLaws.{Upgraded, upgrade-holds, RestartsAs, upgraded-restarts}
-use Rattle.rules.specs.OlderLogs.{olderParts, read-alike}
-use Rattle.rules.specs.WeaveLaws.{dids-map}
+use Rattle.rule_laws.specs.OldLogLaws.{Upgraded, upgrade-holds, RestartsAs, upgraded-restarts}
+use Rattle.rule_laws.specs.OlderLogs.{olderParts, read-alike}
+use Rattle.rule_laws.specs.WeaveLaws.{dids-map}
 use Rattle.recovery.specs.Cuts.{lines-restarted}
 use Rattle.older_log.specs.declared.Changeover.{Changeover}
 use Rattle.older_log.specs.declared.Changeover.the-variants.{Used, Refused}
@@ -122,7 +123,7 @@ changeover old k c buffer over used replied m is r new opens =
     accepted : restart (m .log) used ≡ ok site (Restarted (length (U .log)) used)
     accepted = ap (λ (b : List ℕ). restart b used) is ∙ S .accepted
 
-    A : AcceptedAs (below 64) m site (Restarted (length (U .log)) used) r new
+    A : AcceptedAs (below liveLimit) m site (Restarted (length (U .log)) used) r new
     A = subst (λ (reply : Reply). Opens blankSite m reply r new) accepted opens
 
     x-log : List Did

@@ -16,7 +16,7 @@ use Rattle.rules.specs.Log.{ended, linesOf, restOf, historiesFit}
 use Rattle.forms.specs.Limits.{logLimit}
 use Rattle.rules.specs.State.{State, ok, stableTo, versionAt}
 use Rattle.rules.specs.Calls.{opened, openSite, Call}
-use Rattle.rules.specs.Good.{didIds}
+use Rattle.rule_laws.specs.Good.{didIds}
 use Rattle.rules.specs.Run.{run}
 use Rattle.rules.specs.Session.{replies, sessionIn}
 use Rattle.recovery.specs.Claim.{counted, Fair, lostBy, came, Asked, Recovered}

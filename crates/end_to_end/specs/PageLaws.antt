@@ -19,15 +19,15 @@ use Rattle.forms.specs.declared.Refusal.the-variants.{Unreadable, WrongCount, N
 use Rattle.forms.specs.CommandLaws.{command-written}
 use Rattle.rules.specs.Book.{Cell, blankBase, baseOf, cell}
 use Rattle.rules.specs.Log.{ended, historiesFit}
-use Rattle.forms.specs.Limits.{logLimit}
+use Rattle.forms.specs.Limits.{logLimit, lineLimit}
 use Rattle.rules.specs.State.{State, Reply, refused, ok, settle, startOf, stableTo, versionAt}
 use Rattle.rules.specs.Calls.{openFull, openRefusal, openSite, opened, Call, show, writable, perform, step}
-use Rattle.rules.specs.CheckLaws.{check-none, none-check, unless-none, le-not-lt, unless-ok, unless-check, not-false}
-use Rattle.rules.specs.LogLaws.{histories-most}
-use Rattle.rules.specs.FitLaws.{length-ended}
+use Rattle.rule_laws.specs.CheckLaws.{check-none, none-check, unless-none, le-not-lt, unless-ok, unless-check, not-false}
+use Rattle.rule_laws.specs.LogLaws.{histories-most}
+use Rattle.rule_laws.specs.FitLaws.{length-ended}
 use Rattle.forms.specs.LengthLaws.{site-length}
-use Rattle.rules.specs.Good.{didIds}
-use Rattle.rules.specs.GoodLaws.{good-open, good-run}
+use Rattle.rule_laws.specs.Good.{didIds}
+use Rattle.rule_laws.specs.GoodLaws.{good-open, good-run}
 use Rattle.rules.specs.Run.{run}
 use Rattle.rules.specs.Session.{Session, Turn, turnOf, opening, calling, obey, onCommand, turn, replies, afterLines, restReply, sessionIn}
 use Rattle.rules.specs.Session.{session}
@@ -109,7 +109,7 @@ session-last room ls l input text =
 
 -- ### Printed forms are read
 
-pub one-short : (w : List ℕ) (n : ℕ) → length w ≤ 100 → n ≤ top → length (oneText w n) ≤ 1024
+pub one-short : (w : List ℕ) (n : ℕ) → length w ≤ 100 → n ≤ top → length (oneText w n) ≤ lineLimit
 unfolding oneText
 one-short w n h few = simp length-append (let d = digits-at-most n few in omega arith)
 

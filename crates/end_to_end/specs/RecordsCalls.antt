@@ -10,7 +10,7 @@ use Rattle.forms.specs.Lists.{any, keep, find}
 use Rattle.rules.specs.Records as book
 use Rattle.rules.specs.Records.{RecordCall, asking, sitesOf, isFor, counts, counted, onRecord, question, recordNew}
 use Rattle.rules.specs.Records.{recordReply, recordsAfter, recordsRun}
-use Rattle.rules.specs.RecordLaws.{Unforgotten, isReport, counts-exactly}
+use Rattle.rule_laws.specs.RecordLaws.{Unforgotten, isReport, counts-exactly}
 use Rattle.records.specs.declared.Records.{Records}
 use Rattle.records.specs.declared.RecordsResult.{RecordsResult}
 use Rattle.records.specs.Model.{recordsView, answerBy, answerIn, RecordsDo}

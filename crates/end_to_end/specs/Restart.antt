@@ -14,14 +14,14 @@ use Rattle.forms.specs.Forms.{Did, Restarted}
 use Rattle.forms.specs.declared.Refusal.the-variants.{Unreadable, AboveLimit, BadLog}
 use Rattle.rules.specs.Book.{cell}
 use Rattle.rules.specs.Log.{mark, journal, headText, linesText, logText, readLog}
-use Rattle.rules.specs.WeaveLaws.{dids-weave}
-use Rattle.rules.specs.KeptLaws.{good-reads}
+use Rattle.rule_laws.specs.WeaveLaws.{dids-weave}
+use Rattle.rule_laws.specs.KeptLaws.{good-reads}
 use Rattle.forms.specs.Limits.{logLimit}
 use Rattle.rules.specs.State.{State, ok, linesIn, startOf, doneIn, logBytes, stableTo, versionAt, liveDone}
 use Rattle.rules.specs.Calls.{restarted, restartAs, restart, cutAbove, baseCut, cut, Call, writable, perform, step}
-use Rattle.rules.specs.CheckLaws.{unless-none, none-check, le-not-lt, or-false}
-use Rattle.rules.specs.Good.{Good}
-use Rattle.rules.specs.GoodLaws.{good-restart, good-run}
+use Rattle.rule_laws.specs.CheckLaws.{unless-none, none-check, le-not-lt, or-false}
+use Rattle.rule_laws.specs.Good.{Good}
+use Rattle.rule_laws.specs.GoodLaws.{good-restart, good-run}
 use Rattle.rules.specs.Run.{run}
 use Rattle.recovery.specs.Claim.{Start, Shows}
 use Rattle.recovery.specs.Cuts.{lines-restarted}

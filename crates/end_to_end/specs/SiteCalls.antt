@@ -17,7 +17,7 @@ use Rattle.rules.specs.State.{State, Reply, refused, ok, startOf, linesIn}
 use Rattle.rules.specs.Calls.{openSite, restart, Call, Show, Cut, Changeover, End}
 use Rattle.rules.specs.Poll.{busy, poll}
 use Rattle.rules.specs.Run.{run}
-use Rattle.rules.specs.Good.{didIds}
+use Rattle.rule_laws.specs.Good.{didIds}
 use Rattle.recovery.specs.Claim.{counted, Fair, lostBy, came, Asked, Recovered}
 use Rattle.site.specs.declared.Site.{Site}
 use Rattle.site.specs.declared.CallResult.{CallResult}
@@ -53,7 +53,7 @@ ValidIn x = Valid (x .site) (x .lent)
 
 -- The site is alone: the order has 64 entries that it may use.
 abbrev pub Alone : Memory → Type 0
-Alone x = length (x .lent .order) ≡ 64
+Alone x = length (x .lent .order) ≡ liveLimit
 
 -- the bytes in use of the log buffer
 abbrev pub logIn : Memory → List ℕ

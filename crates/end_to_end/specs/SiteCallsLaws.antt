@@ -12,26 +12,26 @@ use lib.ListN.{length, take}
 use lib.Seq.{length-take-le, take-take}
 use Rattle.forms.specs.Decimal.{top}
 use Rattle.forms.specs.ListLaws.{T-true}
-use Rattle.forms.specs.Limits.{logLimit}
+use Rattle.forms.specs.Limits.{logLimit, liveLimit}
 use Rattle.forms.specs.Forms.{Base, Did, Line, Answer, Restarted}
 use Rattle.forms.specs.declared.Refusal.{Refusal}
 use Rattle.forms.specs.declared.Refusal.the-variants.{Unreadable, AboveLimit}
 use Rattle.forms.specs.Lists.{below}
 use Rattle.rules.specs.Book.{Cell, baseOf, cell}
 use Rattle.rules.specs.Trim.{Trimmed, notTrimmed, trimmed, trimUnless, trimText, trimRefusal, trim}
-use Rattle.rules.specs.TrimLaws.{bounds, copied, changes-over}
-use Rattle.rules.specs.TrimShows.{Trims, trim-holds, trimmed-restarts}
+use Rattle.rule_laws.specs.TrimLaws.{bounds, copied, changes-over}
+use Rattle.rule_laws.specs.TrimShows.{Trims, trim-holds, trimmed-restarts}
 use Rattle.trim.specs.declared.Copied.{Copied}
 use Rattle.trim.specs.declared.Copied.the-variants.{Used, Refused}
 use Rattle.trim.specs.Model.{Copies, CopiesLog}
 use Rattle.rules.specs.Checks.{check}
-use Rattle.rules.specs.CheckLaws.{unless-none, none-check, le-not-lt}
-use Rattle.rules.specs.CutLaws.{cut-plain}
+use Rattle.rule_laws.specs.CheckLaws.{unless-none, none-check, le-not-lt}
+use Rattle.rule_laws.specs.CutLaws.{cut-plain}
 use Rattle.rules.specs.Log.{dids, didsText, logText, readLog}
 use Rattle.rules.specs.State.{State, Reply, refused, ok, settle, linesIn, doneIn, logBytes}
 use Rattle.rules.specs.Calls.{unless, restartAs, restart, cutAbove, changeover, Call, Cut, Changeover, writable, perform, step}
-use Rattle.rules.specs.PollLaws.{busy-few}
-use Rattle.rules.specs.Good.{Good}
+use Rattle.rule_laws.specs.PollLaws.{busy-few}
+use Rattle.rule_laws.specs.Good.{Good}
 use Rattle.rules.specs.Run.{run}
 use Rattle.recovery.specs.Claim.{Start, justOpened, justRestarted, counted, Fair, lostBy, came, Asked, Shows, Recovered}
 use Rattle.recovery.specs.Cuts.{Cutting, cutting, lost-dids}
@@ -45,7 +45,8 @@ use Rattle.history.specs.WordLaws.{below-long}
 use Rattle.site.specs.EntryOf.{entry-is}
 use Rattle.site.specs.Model.{Lent, represented, AcceptedAs, Does, Opens}
 use Rattle.site.specs.RestartLaws.{cut-restarts, log-limit, used-limit}
-use Rattle.end_to_end.specs.SiteCalls.{EntryClaim, PollsAs, PollClaim, Memory, memory, stateIn, ValidIn, Alone, logIn, goesOnFrom, KeepsBase}
+use Rattle.end_to_end.specs.SiteCalls.{EntryClaim, PollsAs, PollClaim, Memory, memory, stateIn, ValidIn, Alone, logIn, goesOnFrom}
+use Rattle.end_to_end.specs.SiteCalls.{KeepsBase}
 use Rattle.end_to_end.specs.SiteCalls.{Transition, calls, restarts, changesOver, staysWith}
 use Rattle.end_to_end.specs.SiteCalls.{Execution, none, next}
 use Rattle.end_to_end.specs.SiteCalls.{StartsSite, opens, restarted, AnswersCall, ShowsIn, RecoveredIn, SiteCallsClaim}
@@ -76,7 +77,7 @@ good-in x v = v .sound .good
 -- ### One call
 
 -- An accepted call leaves as many entries as there are numbers.
-pub alone-after : (numbers : List ℕ) (old : Lent) (st : State) (a : Answer) (r : CallResult) (new : Lent) → length numbers ≡ 64 →
+pub alone-after : (numbers : List ℕ) (old : Lent) (st : State) (a : Answer) (r : CallResult) (new : Lent) → length numbers ≡ liveLimit →
     AcceptedAs numbers old st a r new → Alone (memory (r .site) new)
 alone-after numbers old st a r new e A = same-length (new .order) numbers (A .same) ∙ e
 
@@ -97,7 +98,7 @@ restart-runs : (x : Memory) → ValidIn x → Alone x → (reply : Reply) (buffe
 unfolding settle
 restart-runs x v one (refused q) buffer r new d = record { valid = v; alone = one; state = refl }
 restart-runs x v one (ok st a) buffer r new d =
-    record { valid = d .valid; alone = alone-after (below 64) buffer st a r new (below-long 64) d; state = d .state }
+    record { valid = d .valid; alone = alone-after (below liveLimit) buffer st a r new (below-long liveLimit) d; state = d .state }
 
 -- Without a base line a restart from any of the first bytes is a cut.
 plain-restarts : (x : Memory) → ValidIn x → (buffer : List ℕ) (k : ℕ) → k ≤ top → stateIn x .base ≡ option.none → k ≤ x .site .used →
@@ -157,7 +158,7 @@ copy-refused x v n fresh c copy T q e = go (trimRefusal n (length fresh) (stateI
         let z : _≡_ {A = ℕ} 0 1 = cc in absurd (omega arith)
 
 -- A changeover that the specification does not refuse is a call with a number of 64 bits.
-changeover-step : (n room : ℕ) (st : State) → Good st → trimRefusal n room st ≡ option.none →
+pub changeover-step : (n room : ℕ) (st : State) → Good st → trimRefusal n room st ≡ option.none →
     step (Changeover n room) st ≡ changeover n room st
 unfolding step writable perform
 changeover-step n room st G free =
@@ -185,7 +186,7 @@ unfolding settle
 changed-runs x v n fresh copy used t buffer is r new d =
     record {
       valid = A .valid;
-      alone = alone-after (below 64) buffer after _ r new (below-long 64) A;
+      alone = alone-after (below liveLimit) buffer after _ r new (below-long liveLimit) A;
       state = A .state ∙ sym (ap (λ (reply : Reply). settle reply (stateIn x)) (stepped ∙ over));
     }
   where
@@ -201,7 +202,7 @@ changed-runs x v n fresh copy used t buffer is r new d =
     over : changeover n (length fresh) (stateIn x) ≡ ok after (Restarted (doneIn (stateIn x)) (length (trimText n (stateIn x))))
     over = changes-over n (length fresh) (stateIn x) G (t .free)
 
-    A : AcceptedAs (below 64) buffer after (Restarted (doneIn (stateIn x)) (length (trimText n (stateIn x)))) r new
+    A : AcceptedAs (below liveLimit) buffer after (Restarted (doneIn (stateIn x)) (length (trimText n (stateIn x)))) r new
     A =
         subst (λ (reply : Reply). Opens blankSite buffer reply r new)
         (ap (λ (b : List ℕ). restart b used) is ∙ trimmed-restarts n fresh (stateIn x) G copy used t ∙ over) d
@@ -247,12 +248,15 @@ calls-run v one (next {cs = cs} first more) =
 -- A list starts with a valid site, in a state at which the claim's lists start.
 pub starts-at : {m : ℕ} {x : Memory} → StartsSite m x → ValidIn x × Alone x × Start m (stateIn x)
 starts-at (opens n old r new st a d e) =
-    let q : AcceptedAs (below 64) old st a r new = subst (λ (reply : Reply). Opens blankSite old reply r new) e d in
-    (q .valid, alone-after (below 64) old st a r new (below-long 64) q, subst (Start 0) (sym (q .state)) (justOpened n (length (old .log)) st a e))
-starts-at (restarted k old r new st a d e) =
-    let q : AcceptedAs (below 64) old st a r new = subst (λ (reply : Reply). Opens blankSite old reply r new) e d in (
+    let q : AcceptedAs (below liveLimit) old st a r new = subst (λ (reply : Reply). Opens blankSite old reply r new) e d in (
       q .valid,
-      alone-after (below 64) old st a r new (below-long 64) q,
+      alone-after (below liveLimit) old st a r new (below-long liveLimit) q,
+      subst (Start 0) (sym (q .state)) (justOpened n (length (old .log)) st a e),
+    )
+starts-at (restarted k old r new st a d e) =
+    let q : AcceptedAs (below liveLimit) old st a r new = subst (λ (reply : Reply). Opens blankSite old reply r new) e d in (
+      q .valid,
+      alone-after (below liveLimit) old st a r new (below-long liveLimit) q,
       subst (λ (s : State). Start (length (linesIn s)) s) (sym (q .state)) (justRestarted (old .log) k st a e),
     )
 

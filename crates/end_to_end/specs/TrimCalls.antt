@@ -10,19 +10,19 @@ use lib.Dec.{leb, le→leb}
 use lib.ListN.{length, length-take, take}
 use Rattle.forms.specs.ListLaws.{T-true}
 use Rattle.forms.specs.Lists.{below}
-use Rattle.forms.specs.Limits.{logLimit}
+use Rattle.forms.specs.Limits.{logLimit, liveLimit}
 use Rattle.forms.specs.Decimal.{top}
 use Rattle.forms.specs.Forms.{Answer, Restarted}
 use Rattle.forms.specs.declared.Refusal.the-variants.{Unreadable}
-use Rattle.rules.specs.CheckLaws.{unless-none, none-check}
+use Rattle.rule_laws.specs.CheckLaws.{unless-none, none-check}
 use Rattle.rules.specs.State.{State, Reply, ok, linesIn, startOf, doneIn, logBytes}
 use Rattle.rules.specs.Calls.{restart, restarted, show, Show, writable, perform, step}
 use Rattle.rules.specs.Log.{logText}
-use Rattle.rules.specs.LogLaws.{histories-most}
-use Rattle.rules.specs.Good.{Good}
+use Rattle.rule_laws.specs.LogLaws.{histories-most}
+use Rattle.rule_laws.specs.Good.{Good}
 use Rattle.rules.specs.Trim.{trimmedBase, trimmedLines, trimText}
-use Rattle.rules.specs.TrimLaws.{copied, changes-over}
-use Rattle.rules.specs.TrimShows.{ShowsAlike, shows-alike, Trims, trimmed-restarts, fullRestart, full-restarts}
+use Rattle.rule_laws.specs.TrimLaws.{copied, changes-over}
+use Rattle.rule_laws.specs.TrimShows.{ShowsAlike, shows-alike, Trims, trimmed-restarts, fullRestart, full-restarts}
 use Rattle.recovery.specs.Cuts.{lines-restarted}
 use Rattle.site.specs.declared.CallResult.{CallResult}
 use Rattle.site.specs.Representation.{Sound}
@@ -155,7 +155,7 @@ trim-calls x v n fresh c copy T used e buffer is r new opens other holds limit q
         ap (λ (b : List ℕ). restart b used) is ∙ trimmed-restarts n fresh (stateIn x) G copy used t
         ∙ changes-over n (length fresh) (stateIn x) G (t .free)
 
-    A : AcceptedAs (below 64) buffer after (Restarted (doneIn (stateIn x)) (length (trimText n (stateIn x)))) r new
+    A : AcceptedAs (below liveLimit) buffer after (Restarted (doneIn (stateIn x)) (length (trimText n (stateIn x)))) r new
     A = subst (λ (reply : Reply). Opens blankSite buffer reply r new) accepted opens
 
     -- the bytes in use are the log's, and stand at the front of the other buffer
@@ -168,7 +168,7 @@ trim-calls x v n fresh c copy T used e buffer is r new opens other holds limit q
     long : length (logBytes (stateIn x)) ≤ length (other .log)
     long = omega (arith, ap length front, length-take (length (logBytes (stateIn x))) (other .log))
 
-    B : AcceptedAs (below 64) other (fullRestart (length (other .log)) (stateIn x))
+    B : AcceptedAs (below liveLimit) other (fullRestart (length (other .log)) (stateIn x))
         (Restarted (doneIn (stateIn x)) (length (logBytes (stateIn x)))) q old
     B =
         subst (λ (reply : Reply). Opens blankSite other reply q old)

@@ -18,7 +18,8 @@ use Rattle.forms.specs.declared.writer.LineForm.{LineForm}
 use Rattle.forms.specs.declared.writer.LineForm.the-variants.{Site, Did, Stable, Reply}
 
 -- a did line of any numbers, with its end
-pub did-most : (d : DidLine) → HeldInRange (d .held) → length (digits (d .id)) ≤ 20 → length (heldText (d .held .count) (d .held .first)) ≤ 356
+pub did-most : (d : DidLine) → HeldInRange (d .held) → length (digits (d .id)) ≤ 20 →
+    length (heldText (d .held .count) (d .held .first)) ≤ 356
     → length (didText (didOf d)) + 1 ≤ replyLimit
 did-most d h few short = go (d .held .count) refl
   where

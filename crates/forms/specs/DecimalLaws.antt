@@ -177,13 +177,6 @@ number-read (b ∷ l) n rest h = go (isDigit b) refl
         record { same = ap (λ (x : List ℕ). x ++ l) (sym d) ∙ m .same; small = m .small; ends = m .ends }
     go false e = let z : bad ≡ got n rest = rw e at h in let y : _≡_ {A = ℕ} 0 1 = cc in absurd (omega arith)
 
--- Two numbers that are written alike are the same.
-pub digits-injective : (m n : ℕ) → m ≤ top → n ≤ top → digits m ≡ digits n → m ≡ n
-digits-injective m n hm hn e =
-    let p : number (digits m ++ []) ≡ got m [] = number-written m [] hm refl in
-    let q : number (digits n ++ []) ≡ got n [] = number-written n [] hn refl in
-    cc
-
 -- A number has at least one digit, and at most k + 1 below the power k + 1 of ten; so at most 20.
 pub digits-some : (n : ℕ) → 0 < length (digits n)
 digits-some n =

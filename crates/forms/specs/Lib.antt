@@ -33,6 +33,8 @@ pub mod LineReadLaws
 pub mod AnswerLaws
 pub mod Write
 pub mod WriteLaws
+pub mod Standing
+pub mod StandingLaws
 pub mod TextLaws
 pub mod BoundLaws
 pub mod BaseHeldLaws

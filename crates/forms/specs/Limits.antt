@@ -41,6 +41,15 @@ logLimit = 65536
 abbrev pub windowLimit : ℕ
 windowLimit = 1024
 
--- What the longest reply has, its end among them: it has two lists of 64 numbers. 01 does not say it; `outcome-length` shows it.
+-- 02 (e): "a 65th record 10"
+abbrev pub recordLimit : ℕ
+recordLimit = 64
+
+-- 02 (e): "up to eight sites"
+abbrev pub sitesLimit : ℕ
+sitesLimit = 8
+
+-- What the longest reply has, its end among them: it has two lists of 64 numbers. 01 does not say it; the contract of `bound_line` shows
+-- it.
 abbrev pub replyLimit : ℕ
 replyLimit = 2741

@@ -318,12 +318,6 @@ module _ {A : Type 0} where
   mem-drop-less (suc s) (suc t) le [] m = m
   mem-drop-less (suc s) (suc t) le (y ∷ l) m = mem-drop-less s t (le-of-suc-le-suc le) l m
 
-  -- Past the whole first list, what is left is of the second.
-  pub mem-drop : {x : A} (s : ℕ) (a b : List A) → length a ≤ s → Mem x (drop s (a ++ b)) → Mem x b
-  mem-drop s [] b le m = mem-of-drop s b m
-  mem-drop zero (y ∷ a) b le m = absurd (not-suc-le-zero le)
-  mem-drop (suc s) (y ∷ a) b le m = mem-drop s a b (le-of-suc-le-suc le) m
-
   -- Two lists that begin a third one: the shorter begins the longer.
   pub append-split : (k r p s : List A) → k ++ r ≡ p ++ s → length k ≤ length p → (t : List A) × (p ≡ k ++ t) × (r ≡ t ++ s)
   append-split [] r p s e le = (p, refl, e)
@@ -346,11 +340,6 @@ module _ {A : Type 0} where
   nodup-move a b d c h =
       let q = nodup-mid (a ++ b) d c (rw append-assoc h) in
       rw append-assoc (nodup-insert a d (b ++ c) (rw append-assoc at (q .1)) (λ m. q .0 (rw append-assoc m)))
-
-  pub nodup-drop : (s : ℕ) (l b : List A) → Nodup (l ++ b) → Nodup (drop s l ++ b)
-  nodup-drop zero l b h = h
-  nodup-drop (suc s) [] b h = h
-  nodup-drop (suc s) (x ∷ l) b h = nodup-drop s l b (h .1)
 
   pub nodup-sub : (x y z : List A) → Nodup (x ++ y) → Nodup z → ((e : A) → Mem e z → Mem e y) → Nodup (x ++ z)
   nodup-sub x y z h k into = nodup-append x z (nodup-left x y h) k (λ e m q. nodup-apart x h m (into e q))

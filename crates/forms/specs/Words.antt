@@ -30,10 +30,6 @@ pub true-or-false : (t : Bool) → (t ≡ true) ⊎ (t ≡ false)
 true-or-false true = inl refl
 true-or-false false = inr refl
 
-pub not-so : (t : Bool) → not t ≡ true → t ≡ false
-not-so true e = sym e
-not-so false e = refl
-
 pub so : (t : Bool) → not t ≡ false → t ≡ true
 so true e = refl
 so false e = sym e

@@ -6,6 +6,7 @@ mod lengths;
 pub mod limits;
 pub mod line;
 pub mod reader;
+pub mod standing;
 mod text;
 mod tokens;
 mod updates;

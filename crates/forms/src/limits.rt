@@ -21,11 +21,17 @@ pub const DID_BYTES: usize = 312;
 // 02 (h): "A base line may have 1,074 bytes with its end."
 pub const BASE_BYTES: usize = 1074;
 
+// 02 (h): the N of a base line is refused above 2^63.
+pub const BASE_TOP: u64 = 9223372036854775808;
+
 // "a log buffer at most 65,536"
 pub const LOG_BYTES: usize = 65536;
 
 // 02 (j): "W is chosen from 1 to 1,024".
 pub const WINDOW: u64 = 1024;
+
+// 02 (e): "a 65th record 10"
+pub const RECORDS: usize = 64;
 
 // What the longest reply has, its end among them: it has two lists of 64 numbers.
 pub const REPLY_BYTES: usize = 2741;

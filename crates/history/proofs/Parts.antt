@@ -8,7 +8,7 @@ use lib.Bits.{bitAnd, bitOr, and-block, and-mask, or-block, or-zero-r, or-shifte
 use lib.Pow.{pow-add, pow-pos, pow-mono, shl-lt, shl-exact, mod-mod-pow, ones-split}
 use Rattle.forms.specs.Limits.{partLimit}
 use Rattle.rules.specs.Rules.{replaced, replacedWith}
-use Rattle.rules.specs.PartLaws.{replaced-at}
+use Rattle.rule_laws.specs.PartLaws.{replaced-at}
 
 -- at a part of k bits below and j bits above
 swap : (n b k j K : ℕ) → 2 ^ k ≤ 2 ^ K → 0 < 2 ^ K → 0 < 2 ^ k → b * 2 ^ k < 2 ^ K

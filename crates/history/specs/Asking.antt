@@ -1,26 +1,29 @@
 -- Updates that are asked for, and did lines that come, before they are entries.
 use Prim.Native.Nat.{ℕ, _≤_, _<_}
 use mathlib.Core.Path.{_≡_}
-use mathlib.Core.Bool.{Bool, true, false, _&&_}
+use mathlib.Core.Bool.{Bool, true, false}
+use mathlib.Core.List.{List}
 use mathlib.Core.Option.{Option, none, some}
 use lib.Dec.{leb, eqb}
 use lib.ListN.{length, getD}
 use Rattle.forms.specs.Forms.{Update, Change, Did}
-use Rattle.forms.specs.Held.{asUpdate, asAsked, asChange, asDone, noUpdate, noChange}
+use Rattle.forms.specs.Held.{asUpdate, asAsked, asChange, asDone, noUpdate, noChange, updatesOf}
+use Rattle.forms.specs.Limits.{historyLimit, updateLimit}
 use Rattle.forms.specs.declared.Asked.{Asked}
 use Rattle.forms.specs.declared.Done.{Done}
 use Rattle.forms.specs.declared.AskedHeld.{AskedHeld}
 use Rattle.forms.specs.declared.DidLine.{DidLine}
 use Rattle.forms.specs.declared.Refusal.{Refusal}
-use Rattle.rules.specs.Rules.{ruleOf, strong, ordered, operandFits}
-use Rattle.rules.specs.Checks.{updateMisfits}
+use Rattle.rules.specs.Rules.{ruleOf, operandFits}
+use Rattle.rules.specs.Checks.{updateMisfits, changeMisfits}
 use Rattle.rules.specs.State.{Operation}
 use Rattle.history.specs.declared.Item.{Item}
 use Rattle.history.specs.declared.Entry.{Entry}
 use Rattle.history.specs.declared.AskedTest.{AskedTest}
-use Rattle.history.specs.declared.AskedTest.the-variants.{Absent, In, Misfits, Strong, Orders}
+use Rattle.history.specs.declared.AskedTest.the-variants.{Absent, In, Misfits}
 use Rattle.history.specs.declared.Verdict.{Verdict}
 use Rattle.history.specs.declared.Verdict.the-variants.{Passes, Refused}
+use Rattle.history.specs.declared.entries.DoneItem.{DoneItem}
 use Rattle.history.specs.Entries.{operationOf, didOfEntry, UsableEntry}
 
 -- The first check that refuses, or none.
@@ -28,16 +31,20 @@ unfoldable pub verdictOf : Option Refusal → Verdict
 verdictOf none = Passes
 verdictOf (some r) = Refused r
 
--- The tests of which the checks 3 to 6 are made.
+-- The tests of which the checks 3 to 5 are made.
 unfoldable pub askedTest : AskedTest → Update → Bool
 askedTest (Absent n) u = leb n (u .history)
 askedTest (In h) u = eqb h (u .history)
 askedTest Misfits u = updateMisfits u
-askedTest Strong u = strong (u .rule)
-askedTest Orders u = strong (u .rule) && ordered (u .rule)
 
 abbrev pub askedPasses : AskedTest → Asked → Bool
 askedPasses t a = askedTest t (asUpdate a)
+
+-- These updates are held: as many as are counted, and where that is at most four, just they stand in the first places. What stands behind
+-- them can be anything.
+pub record HoldsUpdates (h : AskedHeld) (us : List Update) : Type 0 where
+  pub count : h .count ≡ length us
+  pub first : h .count ≤ updateLimit → updatesOf h ≡ us
 
 -- what fills the places in which no update is held
 abbrev pub noAsked : Asked
@@ -69,17 +76,17 @@ changeItem x =
 
 -- what an update needs to become an item
 pub record UsableUpdate (u : Update) : Type 0 where
-  pub history : u .history < 16
+  pub history : u .history < historyLimit
   pub operand : operandFits (u .rule) (u .version) (u .operand) ≡ true
 
 pub record UsableHeld (h : AskedHeld) : Type 0 where
-  pub few : h .count ≤ 4
-  pub long : length (h .first) ≡ 4
+  pub few : h .count ≤ updateLimit
+  pub long : length (h .first) ≡ updateLimit
   pub each : (i : ℕ) → i < h .count → UsableUpdate (asUpdate (getD (h .first) i noAsked))
 
 pub record UsableDid (d : DidLine) : Type 0 where
-  pub few : d .held .count ≤ 4
-  pub long : length (d .held .first) ≡ 4
+  pub few : d .held .count ≤ updateLimit
+  pub long : length (d .held .first) ≡ updateLimit
   pub each : (i : ℕ) → i < d .held .count → UsableUpdate (changeUpdate (asChange (getD (d .held .first) i noDoneUpdate)))
 
 -- The entry stands for this operation.
@@ -92,3 +99,14 @@ pub record EntersDid (d : Did) (e : Entry) : Type 0 where
   pub usable : UsableEntry e
   pub idle : e .running ≡ false
   pub line : didOfEntry e ≡ d
+
+-- A change passes 3 and 5 in a site of n histories, and the item stands for it.
+pub record FitsItem (n : ℕ) (x : Change) (i : Item) : Type 0 where
+  pub history : x .history < n
+  pub operand : changeMisfits x ≡ false
+  pub item : i ≡ changeItem x
+
+-- .. where it is said to
+abbrev pub FitsAs : ℕ → Change → DoneItem → Type 0
+FitsAs n x (DoneItem.Fits i) = FitsItem n x i
+FitsAs n x DoneItem.Refused = Unit {0}

@@ -1,7 +1,7 @@
--- Laws of the checks 2 to 6 on what is held of a list of updates, and of the entries that held updates and did lines become.
+-- Laws of the checks 2 to 5 on what is held of a list of updates, and of the entries that held updates and did lines become.
 use Prim.Native.Nat.{ℕ, zero, suc, _+_, _≤_, _<_}
 use mathlib.Core.Path.{_≡_, refl, sym, ap, ap₂, subst, _∙_}
-use mathlib.Core.Bool.{Bool, true, false, _&&_, _||_, not, or-true}
+use mathlib.Core.Bool.{Bool, true, false, _||_, or-true}
 use mathlib.Core.List.{List, [], _∷_, _++_, map, map-append}
 use mathlib.Core.Option.{Option, none, some}
 use native.Mathlib.Omega.{arith}
@@ -14,6 +14,7 @@ use Rattle.forms.specs.Lists.{any}
 use Rattle.forms.specs.Forms.{Update, Change, Did}
 use Rattle.forms.specs.Held.{asUpdate, asAsked, asChange, asDone, noUpdate, noChange, firstFour, heldUpdates, heldChanges, heldDid}
 use Rattle.forms.specs.Held.{updatesOf, changesOf, didOf}
+use Rattle.forms.specs.Limits.{historyLimit, updateLimit}
 use Rattle.forms.specs.declared.Asked.{Asked}
 use Rattle.forms.specs.declared.Done.{Done}
 use Rattle.forms.specs.declared.AskedHeld.{AskedHeld}
@@ -23,15 +24,14 @@ use Rattle.forms.specs.declared.Refusal.{Refusal}
 use Rattle.forms.specs.declared.Refusal.the-variants.{WrongCount, NoSuchHistory, HistoryTwice, OperandRange}
 use Rattle.forms.specs.declared.DoneRule.{DoneRule}
 use Rattle.forms.specs.declared.DoneRule.the-variants.{DidInc, DidSet, DidNot}
-use Rattle.rules.specs.Rules.{ruleOf, loggedAs, strong, ordered, operandFits}
+use Rattle.rules.specs.Rules.{ruleOf, loggedAs, operandFits}
 use Rattle.rules.specs.Checks.{check, wrongCount, noSuchHistory, historyTwice, updateMisfits, formRefusal, updatesRefusal, changesRefusal}
 use Rattle.rules.specs.State.{Operation}
-use Rattle.rules.specs.Calls.{nothingOrders}
 use Rattle.history.specs.declared.Item.{Item}
-use Rattle.history.specs.declared.AskedTest.the-variants.{Absent, In, Misfits, Strong, Orders}
+use Rattle.history.specs.declared.AskedTest.the-variants.{Absent, In, Misfits}
 use Rattle.history.specs.declared.Verdict.the-variants.{Passes, Refused}
 use Rattle.history.specs.Asking.{verdictOf, askedTest, askedPasses, noAsked, noDoneUpdate, changeUpdate, updateItem, changeItem}
-use Rattle.history.specs.Asking.{UsableUpdate, UsableHeld, UsableDid, Enters, EntersDid}
+use Rattle.history.specs.Asking.{HoldsUpdates, UsableUpdate, UsableHeld, UsableDid, Enters, EntersDid}
 use Rattle.history.specs.Entries.{itemUpdate, itemChange, operationOf, didOfEntry, UsableItem}
 use Rattle.history.specs.EntryLaws.{usable-four, items-four}
 use Rattle.history.specs.Tests.{or-false-parts, any-get, length-part, part-in, part-out, four-at, any-snoc}
@@ -44,7 +44,7 @@ eqb-sym : (a b : ℕ) (t : Bool) → eqb a b ≡ t → eqb b a ≡ t
 eqb-sym a b true e = eq-eqb b a (sym (eqb-true a b e))
 eqb-sym a b false e = ne-eqb b a (λ q. eqb-false a b e (sym q))
 
-twice-snoc : (l : List ℕ) (x : ℕ) → historyTwice l ≡ false → any (eqb x) l ≡ false → historyTwice (l ++ (x ∷ [])) ≡ false
+pub twice-snoc : (l : List ℕ) (x : ℕ) → historyTwice l ≡ false → any (eqb x) l ≡ false → historyTwice (l ++ (x ∷ [])) ≡ false
 unfolding historyTwice
 twice-snoc [] x e f = refl
 twice-snoc (h ∷ hs) x e f =
@@ -89,27 +89,36 @@ module _ (first : List Asked) (i : ℕ) where
       ∙ twice-mid (historiesTo i first) (getD first i noAsked .history) (map (λ (a : Asked). a .history) (drop (suc i) (take n first)))
       (in-is b e true f)
 
--- ### Nothing orders
-
-pub orders-by : (held : AskedHeld) →
-    nothingOrders (updatesOf held) ≡
-    (any (askedPasses Strong) (take (held .count) (held .first)) && not (any (askedPasses Orders) (take (held .count) (held .first))))
-unfolding nothingOrders updatesOf askedTest
-orders-by held =
-    let l = take (held .count) (held .first) in
-    ap₂ (λ (a b : Bool). a && not b) (any-map asUpdate (λ (u : Update). strong (u .rule)) l)
-    (any-map asUpdate (λ (u : Update). strong (u .rule) && ordered (u .rule)) l)
-
 -- ### 2 to 5
 
-module _ (n : ℕ) (held : AskedHeld) (us : List Update) (e : held ≡ heldUpdates us) where
-  count-is : held .count ≡ length us
-  unfolding heldUpdates
-  count-is = ap (λ (h : AskedHeld). h .count) e
+-- what is held of a list is that list
+pub holds-held : (us : List Update) → HoldsUpdates (heldUpdates us) us
+unfolding heldUpdates updatesOf
+holds-held us =
+    record {
+      count = refl;
+      first = λ few. ap (map asUpdate) (four-held asAsked noUpdate us few) ∙ map-map asAsked asUpdate us
+          ∙ map-same (λ (u : Update). asUpdate (asAsked u)) us (λ u. refl);
+    }
 
-  first-is : held .count ≤ 4 → take (held .count) (held .first) ≡ map asAsked us
-  unfolding heldUpdates
-  first-is few = ap (λ (h : AskedHeld). take (h .count) (h .first)) e ∙ four-held asAsked noUpdate us (omega (arith, count-is))
+-- at most four that are counted are held
+pub holds-own : (held : AskedHeld) → held .count ≤ updateLimit → length (held .first) ≡ updateLimit → HoldsUpdates held (updatesOf held)
+unfolding updatesOf
+holds-own held few long =
+    record {
+      count = sym (length-map (take (held .count) (held .first)) asUpdate ∙ length-part (held .count) (held .first) long few);
+      first = λ k. refl;
+    }
+
+module _ (n : ℕ) (held : AskedHeld) (us : List Update) (e : HoldsUpdates held us) where
+  count-is : held .count ≡ length us
+  count-is = e .count
+
+  first-is : held .count ≤ updateLimit → take (held .count) (held .first) ≡ map asAsked us
+  unfolding updatesOf
+  first-is few =
+      sym (ap (map asAsked) (sym (e .first few)) ∙ map-map asUpdate asAsked (take (held .count) (held .first))
+      ∙ map-same (λ (a : Asked). asAsked (asUpdate a)) (take (held .count) (held .first)) (λ a. refl))
 
   -- the verdict, by what the four checks found
   verdict : (w a t m : Bool) → wrongCount us ≡ w → noSuchHistory n (map (λ (u : Update). u .history) us) ≡ a
@@ -127,16 +136,16 @@ module _ (n : ℕ) (held : AskedHeld) (us : List Update) (e : held ≡ heldUpdat
       let w : wrongCount us ≡ true = rw (eq-eqb (length us) 0 (omega (arith, count-is))) in
       sym (verdict true _ _ _ w refl refl refl)
 
-  pub refused-many : 4 < held .count → Refused WrongCount ≡ verdictOf (updatesRefusal n us)
+  pub refused-many : updateLimit < held .count → Refused WrongCount ≡ verdictOf (updatesRefusal n us)
   unfolding verdictOf check wrongCount
   refused-many h =
-      let w : wrongCount us ≡ true = rw (lt-ltb 4 (length us) (omega (arith, count-is))) (or-true (eqb (length us) 0)) in
+      let w : wrongCount us ≡ true = rw (lt-ltb updateLimit (length us) (omega (arith, count-is))) (or-true (eqb (length us) 0)) in
       sym (verdict true _ _ _ w refl refl refl)
 
-  module _ (some : 1 ≤ held .count) (few : held .count ≤ 4) where
+  module _ (some : 1 ≤ held .count) (few : held .count ≤ updateLimit) where
     count-fits : wrongCount us ≡ false
     unfolding wrongCount
-    count-fits = rw (ne-eqb (length us) 0 (λ q. omega (arith, count-is)), le-ltb 4 (length us) (omega (arith, count-is)))
+    count-fits = rw (ne-eqb (length us) 0 (λ q. omega (arith, count-is)), le-ltb updateLimit (length us) (omega (arith, count-is)))
 
     module _ (a : Bool) (p : a ≡ any (askedPasses (Absent n)) (take (held .count) (held .first))) where
       absent-is : noSuchHistory n (map (λ (u : Update). u .history) us) ≡ a
@@ -202,7 +211,7 @@ form-map f history misfits n xs =
     let p = sym (length-map xs f) in
     let q = sym (map-map f history xs) in
     λ i.
-    check (eqb (p i) 0 || ltb 4 (p i)) WrongCount
+    check (eqb (p i) 0 || ltb updateLimit (p i)) WrongCount
     (check (noSuchHistory n (q i)) NoSuchHistory
     (check (historyTwice (q i)) HistoryTwice
     (check (sym (any-map f misfits xs) i) OperandRange none)))
@@ -228,6 +237,15 @@ held-changes held xs e p q r s =
         ≡ asAsked (changeUpdate (asChange (getD (firstFour asDone noChange xs) i noDoneUpdate)))
     at i = ap (λ (h : DoneHeld). asAsked (changeUpdate (asChange (getD (h .first) i noDoneUpdate)))) e
 
+-- ### The part of an array that counts, through a function
+
+module _ {A B : Type 0} (f : A → B) (n : ℕ) (l : List A) (i : ℕ) (d : A) where
+  pub mapped-in : i < n → f (getD l i d) ≡ getD (map f (take n l)) i (f d)
+  mapped-in h = ap f (part-in n l i d h) ∙ sym (List·getD-map f (take n l) i d)
+
+  pub mapped-out : n ≤ i → f d ≡ getD (map f (take n l)) i (f d)
+  mapped-out h = ap f (part-out n l i d h) ∙ sym (List·getD-map f (take n l) i d)
+
 -- ### What passing 2 to 5 gives
 
 check-none : (b : Bool) (r : Refusal) (x : Option Refusal) → check b r x ≡ none → (b ≡ false) × (x ≡ none)
@@ -237,9 +255,9 @@ check-none false r x e = (refl, e)
 
 pub record Passed {A : Type 0} (f : A → Update) (n : ℕ) (xs : List A) : Type 0 where
   pub some : 1 ≤ length xs
-  pub few : length xs ≤ 4
+  pub few : length xs ≤ updateLimit
   pub once : historyTwice (map (λ (x : A). f x .history) xs) ≡ false
-  pub each : n ≤ 16 → (d : A) (i : ℕ) → i < length xs → UsableUpdate (f (getD xs i d))
+  pub each : n ≤ historyLimit → (d : A) (i : ℕ) → i < length xs → UsableUpdate (f (getD xs i d))
 
 module _ {A : Type 0} (f : A → Update) (n : ℕ) (xs : List A) where
   passed : formRefusal (λ (x : A). f x .history) (λ (x : A). updateMisfits (f x)) n xs ≡ none → Passed f n xs
@@ -249,11 +267,11 @@ module _ {A : Type 0} (f : A → Update) (n : ℕ) (xs : List A) where
       let b = check-none _ NoSuchHistory _ (a .1) in
       let c = check-none _ HistoryTwice _ (b .1) in
       let m = check-none _ OperandRange _ (c .1) in
-      let w = or-false-parts (eqb (length xs) 0) (ltb 4 (length xs)) (a .0) in
+      let w = or-false-parts (eqb (length xs) 0) (ltb updateLimit (length xs)) (a .0) in
       let z : length xs ≡ 0 → ⊥ = eqb-false (length xs) 0 (w .0) in
       record {
         some = least (length xs) z;
-        few = ltb-false 4 (length xs) (w .1);
+        few = ltb-false updateLimit (length xs) (w .1);
         once = c .0;
         each = λ most d i h.
             record {
@@ -269,7 +287,8 @@ module _ {A : Type 0} (f : A → Update) (n : ℕ) (xs : List A) where
       least zero z = absurd (z refl)
       least (suc k) z = omega arith
 
-      below : n ≤ 16 → (d : A) (i : ℕ) → i < length xs → leb n (f (getD xs i d) .history) ≡ false → f (getD xs i d) .history < 16
+      below : n ≤ historyLimit → (d : A) (i : ℕ) → i < length xs → leb n (f (getD xs i d) .history) ≡ false →
+          f (getD xs i d) .history < historyLimit
       below most d i h q = let k = leb-false n (f (getD xs i d) .history) q in omega (arith, k)
 
 pub updates-passed : (n : ℕ) (us : List Update) → updatesRefusal n us ≡ none → Passed (λ (u : Update). u) n us
@@ -281,19 +300,22 @@ unfolding changesRefusalWith updateMisfits changeMisfitsWith
 changes-passed n xs e = passed changeUpdate n xs e
 
 -- updates and did lines that passed can be entered
-pub usable-held : (n : ℕ) (us : List Update) → n ≤ 16 → updatesRefusal n us ≡ none → UsableHeld (heldUpdates us)
-unfolding heldUpdates
-usable-held n us most e =
-    let p = updates-passed n us e in
+pub usable-held : (n : ℕ) (held : AskedHeld) (us : List Update) → n ≤ historyLimit → HoldsUpdates held us →
+    length (held .first) ≡ updateLimit → updatesRefusal n us ≡ none → UsableHeld held
+unfolding updatesOf
+usable-held n held us most e long f =
+    let p = updates-passed n us f in
+    let few : held .count ≤ updateLimit = omega (arith, p .few, e .count) in
     record {
-      few = p .few;
-      long = refl;
+      few = few;
+      long = long;
       each =
-          λ i h. subst (λ (a : Asked). UsableUpdate (asUpdate a)) (sym (four-at asAsked noUpdate us i noAsked (omega (arith, h, p .few))))
-          (p .each most noUpdate i h);
+          λ i h. subst UsableUpdate
+          (sym (mapped-in asUpdate (held .count) (held .first) i noAsked h ∙ ap (λ (l : List Update). getD l i noUpdate) (e .first few)))
+          (p .each most noUpdate i (omega (arith, h, e .count)));
     }
 
-pub usable-did : (n : ℕ) (d : Did) → n ≤ 16 → changesRefusal n (d .changes) ≡ none → UsableDid (heldDid d)
+pub usable-did : (n : ℕ) (d : Did) → n ≤ historyLimit → changesRefusal n (d .changes) ≡ none → UsableDid (heldDid d)
 unfolding heldDid heldChanges
 usable-did n d most e =
     let p = changes-passed n (d .changes) e in
@@ -304,36 +326,16 @@ usable-did n d most e =
           (sym (four-at asDone noChange (d .changes) i noDoneUpdate (omega (arith, h, p .few)))) (p .each most noChange i h);
     }
 
-pub held-long : (held : AskedHeld) (us : List Update) → held ≡ heldUpdates us → length (held .first) ≡ 4
-unfolding heldUpdates
-held-long held us e = ap (λ (h : AskedHeld). length (h .first)) e
-
-pub updates-held : (us : List Update) → length us ≤ 4 → updatesOf (heldUpdates us) ≡ us
-unfolding updatesOf heldUpdates
-updates-held us h =
-    ap (map asUpdate) (four-held asAsked noUpdate us h) ∙ map-map asAsked asUpdate us
-    ∙ map-same (λ (u : Update). asUpdate (asAsked u)) us (λ u. refl)
-
 -- the only update that is held
-pub only-update : (held : AskedHeld) (us : List Update) → held ≡ heldUpdates us → held .count ≡ 1 →
+pub only-update : (held : AskedHeld) (us : List Update) → HoldsUpdates held us → length (held .first) ≡ updateLimit → held .count ≡ 1 →
     asUpdate (getD (held .first) 0 noAsked) ∷ [] ≡ us
 unfolding updatesOf
-only-update held us e one =
-    let long = held-long held us e in
-    let few : length us ≤ 4 = omega (arith, one, count-is 0 held us e) in
+only-update held us e long one =
     sym (ap (map asUpdate) (take-suc (held .first) 0 noAsked (omega arith)))
     ∙ sym (ap (λ (k : ℕ). map asUpdate (take k (held .first))) one)
-    ∙ ap updatesOf e
-    ∙ updates-held us few
+    ∙ e .first (omega (arith, one))
 
 -- ### Held updates and did lines as entries
-
-module _ {A B : Type 0} (f : A → B) (n : ℕ) (l : List A) (i : ℕ) (d : A) where
-  pub mapped-in : i < n → f (getD l i d) ≡ getD (map f (take n l)) i (f d)
-  mapped-in h = ap f (part-in n l i d h) ∙ sym (List·getD-map f (take n l) i d)
-
-  pub mapped-out : n ≤ i → f d ≡ getD (map f (take n l)) i (f d)
-  mapped-out h = ap f (part-out n l i d h) ∙ sym (List·getD-map f (take n l) i d)
 
 pub enters : (id : ℕ) (held : AskedHeld) → UsableHeld held → (items : List Item) → items ≡ firstFour updateItem noUpdate (updatesOf held) →
     Enters (record { id = id; updates = updatesOf held; running = false })
@@ -360,7 +362,7 @@ enters id held u items q =
         let x = subst UsableUpdate (mapped-in asUpdate (held .count) (held .first) i noAsked h) (u .each i h) in
         record { history = x .history; operand = x .operand }
 
-logged-rule : (r : DoneRule) → loggedAs (ruleOf r) ≡ r
+pub logged-rule : (r : DoneRule) → loggedAs (ruleOf r) ≡ r
 logged-rule DidInc = refl
 logged-rule DidSet = refl
 logged-rule DidNot = refl

@@ -12,6 +12,7 @@ use lib.Seq.{take-suc, getD-set-same, getD-set-other}
 use Rattle.forms.specs.Lists.{sum}
 use Rattle.forms.specs.ListLaws.{T-true, sum-append}
 use Rattle.forms.specs.Forms.{Update, Change}
+use Rattle.forms.specs.Limits.{historyLimit, updateLimit}
 use Rattle.rules.specs.Poll.{tell, asksIn, changesIn}
 use Rattle.history.specs.declared.Item.{Item}
 use Rattle.history.specs.declared.Entry.{Entry}
@@ -33,7 +34,7 @@ items-next h xs i lt = rw (add-one i, take-suc xs i noItem lt) (items-snoc h (ta
 pub record Counted (xs : List Item) (i : ℕ) (low high : List ℕ) : Type 0 where
   pub long : length low ≡ bookLength
   pub wide : length high ≡ bookLength
-  pub numbers : (h : ℕ) → h < 16 → getD high (width * h + 5) 0 ≡ getD low (width * h + 5) 0 + itemsIn h (take i xs)
+  pub numbers : (h : ℕ) → h < historyLimit → getD high (width * h + 5) 0 ≡ getD low (width * h + 5) 0 + itemsIn h (take i xs)
   pub rest : (g h : ℕ) → g < width → (g ≡ 5 → ⊥) → getD high (width * h + g) 0 ≡ getD low (width * h + g) 0
   pub past : (n : ℕ) → ((j : ℕ) → j < i → getD xs j noItem .history < n) → PastKept n low high
 
@@ -43,7 +44,7 @@ counted-none xs ws long =
     record { long = long; wide = long; numbers = λ h l. omega arith; rest = λ g h l ne. refl; past = λ n into. refl }
 
 -- a number of one history stored
-module _ (ws : List ℕ) (k v : ℕ) (low : k < 16) (long : length ws ≡ bookLength) where
+module _ (ws : List ℕ) (k v : ℕ) (low : k < historyLimit) (long : length ws ≡ bookLength) where
   pub stored-here : (h : ℕ) → k ≡ h → getD (set ws (width * k + 5) v) (width * h + 5) 0 ≡ v
   stored-here h e =
       ap (λ (n : ℕ). getD (set ws (width * k + 5) v) (width * n + 5) 0) (sym e)
@@ -56,7 +57,7 @@ module _ (ws : List ℕ) (k v : ℕ) (low : k < 16) (long : length ws ≡ bookLe
       (λ (e : width * h + g ≡ width * k + 5). ne (omega (arith, e, l)) (omega (arith, e, l)))
 
 module _ (xs : List Item) (i : ℕ) (low high : List ℕ) (s : Counted xs i low high) (lt : i < length xs)
-    (few : getD xs i noItem .history < 16) where
+    (few : getD xs i noItem .history < historyLimit) where
   abbrev k : ℕ
   k = getD xs i noItem .history
 
@@ -72,7 +73,7 @@ module _ (xs : List Item) (i : ℕ) (low high : List ℕ) (s : Counted xs i low 
             (s .past n (λ j l. into j (omega (arith, l))));
       }
     where
-      go : (h : ℕ) → h < 16 → (b : Bool) → eqb k h ≡ b →
+      go : (h : ℕ) → h < historyLimit → (b : Bool) → eqb k h ≡ b →
           getD (set high (width * k + 5) (getD high (width * k + 5) 0 + 1)) (width * h + 5) 0
           ≡ getD low (width * h + 5) 0 + itemsIn h (take (i + 1) xs)
       go h l true e =
@@ -109,7 +110,7 @@ module _ (xs : List Item) (i : ℕ) (low high : List ℕ) (s : Counted xs i low 
             ∙ sym (past-set n low low (width * k + 5) _ (omega (arith, into i (omega arith))) refl);
       }
     where
-      go : (h : ℕ) → h < 16 → (b : Bool) → eqb k h ≡ b →
+      go : (h : ℕ) → h < historyLimit → (b : Bool) → eqb k h ≡ b →
           getD high (width * h + 5) 0
           ≡ getD (set low (width * k + 5) (getD low (width * k + 5) 0 - 1)) (width * h + 5) 0 + itemsIn h (take (i + 1) xs)
       go h l true e =
@@ -227,7 +228,7 @@ lines-changed h [] = refl
 lines-changed h (e ∷ es) = ap₂ _+_ (items-changed h e) (lines-changed h es)
 
 -- An entry has at most four updates.
-pub entry-few : (h : ℕ) (e : Entry) → UsableEntry e → entryIn h e ≤ 4
+pub entry-few : (h : ℕ) (e : Entry) → UsableEntry e → entryIn h e ≤ updateLimit
 unfolding itemsIn
 entry-few h e u = omega (arith, few (itemsOf e), length-take (e .count) (e .items), u .few)
   where

@@ -1,7 +1,7 @@
 -- Laws of tests and effects on cells: from arrays to the log, and from one book to another.
 use Prim.Native.Nat.{ℕ, _+_, _≤_, _<_}
 use mathlib.Core.Path.{_≡_, refl, sym, ap, ap₂, _∙_}
-use mathlib.Core.Bool.{Bool, true, false, cond, _&&_, not}
+use mathlib.Core.Bool.{Bool, true, false, cond, _&&_, _||_, not, or-false, or-assoc}
 use mathlib.Core.List.{List, [], _∷_, _++_, map, map-append}
 use native.Mathlib.Omega.{arith}
 use native.Mathlib.Numerals.{add-one}
@@ -12,50 +12,31 @@ use lib.Seq.{take-suc, getD-set-same, getD-set-other}
 use Rattle.forms.specs.Decimal.{top}
 use Rattle.forms.specs.Lists.{any}
 use Rattle.forms.specs.Forms.{Base, Update, Change, Did}
+use Rattle.forms.specs.Limits.{historyLimit, updateLimit}
 use Rattle.forms.specs.declared.Rule.{Rule}
 use Rattle.forms.specs.declared.Rule.the-variants.{Inc, Set, Not, Unk}
 use Rattle.forms.specs.declared.DoneRule.{DoneRule}
 use Rattle.forms.specs.declared.DoneRule.the-variants.{DidInc, DidSet, DidNot}
 use Rattle.rules.specs.Rules.{strong, ordered, loggedAs, profileAfter}
-use Rattle.rules.specs.Book.{Cell, cell, entered, enter, enterAll, runsAt, canRun}
-use Rattle.rules.specs.State.{Operation, State, startOf}
-use Rattle.rules.specs.Calls.{mayRunNow, stale, alreadyDone, readOvertaken, changeOf, lineOf, valuesAfter}
+use Rattle.rules.specs.Book.{Cell, cell, entered, enter, enterAll, runsAt}
+use Rattle.rules.specs.State.{Operation}
+use Rattle.rules.specs.Calls.{changeOf, lineOf, valuesAfter}
 use Rattle.history.specs.declared.History.{History}
 use Rattle.history.specs.declared.Item.{Item}
 use Rattle.history.specs.declared.Entry.{Entry}
-use Rattle.history.specs.declared.ItemTest.the-variants.{Waits, Stale, Ran, Overtaken, Highest}
-use Rattle.history.specs.Entries.{noHistory, cellOf, cellsOf, noItem, itemUpdate, itemChange, itemsOf, operationOf, didOfEntry}
-use Rattle.history.specs.Entries.{canRunIn, mayRunIn}
+use Rattle.history.specs.declared.Findings.{Findings}
+use Rattle.history.specs.declared.ItemTest.the-variants.{Waits, Stale}
+use Rattle.history.specs.Entries.{noHistory, cellOf, cellsOf, noItem, itemUpdate, itemChange, itemsOf, didOfEntry, canRunIn}
 use Rattle.history.specs.Cells.{itemTest, testIn, staleIn, alreadyDoneIn, readOvertakenIn, atHighestIn, changeIn, lineIn, valuesIn}
-use Rattle.history.specs.Cells.{LowPlace}
+use Rattle.history.specs.Cells.{ranAt, overtakenAt, highestAt, findingsIn, foundWith, LowPlace}
 use Rattle.history.specs.Tests.{none-fails, all-map, any-map}
-use Rattle.rules.specs.Book.{canRunWith, enterAllWith, enterWith, enteredWith}
+use Rattle.rules.specs.Book.{enterAllWith, enterWith, enteredWith}
 
 -- ### The book of a log
 
 -- the cells that a log gives behind its base
 abbrev pub logCells : (σ : Base) → List Did → ℕ → Cell
 logCells σ log h = cell σ h log
-
-pub can-run-log : (σ : Base) (log : List Did) (d : Did) → canRunIn (logCells σ log) d ≡ canRun σ log d
-unfolding canRunIn canRunWith
-can-run-log σ log d = refl
-
-pub may-run-log : (σ : Base) (log : List Did) (u : Update) → mayRunIn (logCells σ log) u ≡ mayRunNow σ log u
-unfolding mayRunIn mayRunNow
-may-run-log σ log u = refl
-
-pub stale-log : (st : State) (x : Change) → staleIn (logCells (startOf st) (st .log)) x ≡ stale st x
-unfolding staleIn stale
-stale-log st x = refl
-
-pub already-done-log : (st : State) (u : Update) → alreadyDoneIn (logCells (startOf st) (st .log)) u ≡ alreadyDone st u
-unfolding alreadyDoneIn alreadyDone
-already-done-log st u = refl
-
-pub read-overtaken-log : (st : State) (u : Update) → readOvertakenIn (logCells (startOf st) (st .log)) u ≡ readOvertaken st u
-unfolding readOvertakenIn readOvertaken
-read-overtaken-log st u = refl
 
 pub line-log : (σ : Base) (log : List Did) (x : Operation) → lineIn (logCells σ log) x ≡ lineOf σ log x
 unfolding lineIn lineOf changeIn changeOf
@@ -108,28 +89,28 @@ place-rises h (x ∷ xs) c = let p = place-rises h xs (enter h x c) in let q = e
 -- ### An item against its history, by its rule
 
 module _ (c : Cell) (x : Item) where
-  pub ran-ordered : (strong (x .rule) && ordered (x .rule)) ≡ true → leb (x .version .0) (c .version) ≡ itemTest Ran c x
-  unfolding itemTest
+  pub ran-ordered : (strong (x .rule) && ordered (x .rule)) ≡ true → leb (x .version .0) (c .version) ≡ ranAt c x
+  unfolding ranAt
   ran-ordered e = rw e
 
-  pub ran-unordered : (strong (x .rule) && ordered (x .rule)) ≡ false → false ≡ itemTest Ran c x
-  unfolding itemTest
+  pub ran-unordered : (strong (x .rule) && ordered (x .rule)) ≡ false → false ≡ ranAt c x
+  unfolding ranAt
   ran-unordered e = rw e
 
-  pub overtaken-strong : strong (x .rule) ≡ true → false ≡ itemTest Overtaken c x
-  unfolding itemTest
+  pub overtaken-strong : strong (x .rule) ≡ true → false ≡ overtakenAt c x
+  unfolding overtakenAt
   overtaken-strong e = rw e
 
-  pub overtaken-weak : strong (x .rule) ≡ false → ltb (x .version .0) (c .version) ≡ itemTest Overtaken c x
-  unfolding itemTest
+  pub overtaken-weak : strong (x .rule) ≡ false → ltb (x .version .0) (c .version) ≡ overtakenAt c x
+  unfolding overtakenAt
   overtaken-weak e = rw e
 
-  pub highest-ordered : ordered (x .rule) ≡ true → false ≡ itemTest Highest c x
-  unfolding itemTest
+  pub highest-ordered : ordered (x .rule) ≡ true → false ≡ highestAt c x
+  unfolding highestAt
   highest-ordered e = rw e
 
-  pub highest-unordered : ordered (x .rule) ≡ false → leb top (c .version) ≡ itemTest Highest c x
-  unfolding itemTest
+  pub highest-unordered : ordered (x .rule) ≡ false → leb top (c .version) ≡ highestAt c x
+  unfolding highestAt
   highest-unordered e = rw e
 
 -- ### The items of an entry as changes and as updates
@@ -145,17 +126,35 @@ module _ (cells : ℕ → Cell) (e : Entry) where
   unfolding staleIn didOfEntry itemTest
   stale-changes = sym (any-map itemChange (staleIn cells) (itemsOf e))
 
-  pub ran-updates : any (testIn Ran cells) (itemsOf e) ≡ any (alreadyDoneIn cells) (operationOf e .updates)
-  unfolding alreadyDoneIn operationOf itemTest
-  ran-updates = sym (any-map itemUpdate (alreadyDoneIn cells) (itemsOf e))
+-- ### What was found, update after update
 
-  pub overtaken-updates : any (testIn Overtaken cells) (itemsOf e) ≡ any (readOvertakenIn cells) (operationOf e .updates)
-  unfolding readOvertakenIn operationOf itemTest
-  overtaken-updates = sym (any-map itemUpdate (readOvertakenIn cells) (itemsOf e))
+any-end : {A : Type 0} (p : A → Bool) (l : List A) (a : A) → any p (l ++ (a ∷ [])) ≡ (any p l || p a)
+any-end p [] a = or-false (p a)
+any-end p (x ∷ l) a = ap (_||_ (p x)) (any-end p l a) ∙ sym (or-assoc (p x) (any p l) (p a))
 
-  pub highest-updates : any (testIn Highest cells) (itemsOf e) ≡ any (atHighestIn cells) (operationOf e .updates)
-  unfolding atHighestIn operationOf itemTest
-  highest-updates = sym (any-map itemUpdate (atHighestIn cells) (itemsOf e))
+-- the updates of the first items
+abbrev pub updatesTo : ℕ → List Item → List Update
+updatesTo i items = map itemUpdate (take i items)
+
+-- one item more, whose history has the cell c
+pub findings-next : (cells : ℕ → Cell) (items : List Item) (i : ℕ) (c : Cell) (f : Findings) → i < length items →
+    c ≡ cells (getD items i noItem .history) → f ≡ findingsIn cells (updatesTo i items) →
+    foundWith f c (getD items i noItem) ≡ findingsIn cells (updatesTo (i + 1) items)
+unfolding findingsIn foundWith ranAt overtakenAt highestAt alreadyDoneIn readOvertakenIn atHighestIn
+findings-next cells items i c f h is e =
+    let x = getD items i noItem in
+    ap₂ (λ (g : Findings) (d : Cell). foundWith g d x) e is
+    ∙ (λ j. record {
+      strong = sym (any-end (λ (u : Update). strong (u .rule)) (updatesTo i items) (itemUpdate x)) j;
+      orders = sym (any-end (λ (u : Update). strong (u .rule) && ordered (u .rule)) (updatesTo i items) (itemUpdate x)) j;
+      ran = sym (any-end (alreadyDoneIn cells) (updatesTo i items) (itemUpdate x)) j;
+      overtaken = sym (any-end (readOvertakenIn cells) (updatesTo i items) (itemUpdate x)) j;
+      highest = sym (any-end (atHighestIn cells) (updatesTo i items) (itemUpdate x)) j;
+    })
+    ∙ ap (findingsIn cells) (sym more)
+  where
+    more : updatesTo (i + 1) items ≡ updatesTo i items ++ (itemUpdate (getD items i noItem) ∷ [])
+    more = rw (add-one, take-suc items i noItem h, map-append)
 
 -- ### Performing item after item
 
@@ -166,16 +165,17 @@ changesTo i items = map itemChange (take i items)
 module _ (hs₀ hs : List History) (items : List Item) (i : ℕ) where
   -- what the book makes of the first i changes
   abbrev pub Entered : Type 0
-  Entered = (h : ℕ) → h < 16 → cellsOf hs h ≡ enterAll h (changesTo i items) (cellsOf hs₀ h)
+  Entered = (h : ℕ) → h < historyLimit → cellsOf hs h ≡ enterAll h (changesTo i items) (cellsOf hs₀ h)
 
 module _ (hs₀ hs : List History) (items : List Item) (i : ℕ) (inv : Entered hs₀ hs items i) where
-  pub low-place : (h : ℕ) → h < 16 → LowPlace (cellsOf hs₀ h) → i ≤ 4 → cellsOf hs h .place < 18446744073709551615
+  pub low-place : (h : ℕ) → h < historyLimit → LowPlace (cellsOf hs₀ h) → i ≤ updateLimit → cellsOf hs h .place < 18446744073709551615
   low-place h lt low le =
       let p : cellsOf hs h .place ≤ cellsOf hs₀ h .place + length (changesTo i items) =
       rw (inv h lt) (place-rises h (changesTo i items) (cellsOf hs₀ h)) in
       omega (arith, low, length-map (take i items) itemChange, length-take i items)
 
-  module _ (y : History) (inside : i < length items) (long : length hs ≡ 16) (below : getD items i noItem .history < 16) where
+  module _ (y : History) (inside : i < length items) (long : length hs ≡ historyLimit)
+      (below : getD items i noItem .history < historyLimit) where
     abbrev pub itemNow : Item
     itemNow = getD items i noItem
 

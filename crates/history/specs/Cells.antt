@@ -1,12 +1,12 @@
 -- What the specification asks of the book of a log, asked of the cells of an array of histories.
 use Prim.Native.Nat.{ℕ, _+_, _≤_, _<_}
 use mathlib.Core.Path.{_≡_}
-use mathlib.Core.Bool.{Bool, false, _&&_, not}
+use mathlib.Core.Bool.{Bool, false, _&&_, _||_, not}
 use mathlib.Core.List.{List, map}
 use lib.Dec.{leb, ltb}
 use lib.ListN.{length, getD}
 use Rattle.forms.specs.Decimal.{top}
-use Rattle.forms.specs.Limits.{baseTop, logLimit}
+use Rattle.forms.specs.Limits.{baseTop, logLimit, historyLimit}
 use Rattle.forms.specs.Lists.{any}
 use Rattle.forms.specs.Forms.{Update, Change, Did}
 use Rattle.rules.specs.Rules.{timing, isNever, strong, ordered, ruleOf, loggedAs, versionAfter}
@@ -15,8 +15,9 @@ use Rattle.rules.specs.State.{Operation}
 use Rattle.history.specs.declared.History.{History}
 use Rattle.history.specs.declared.Item.{Item}
 use Rattle.history.specs.declared.Entry.{Entry}
+use Rattle.history.specs.declared.Findings.{Findings}
 use Rattle.history.specs.declared.ItemTest.{ItemTest}
-use Rattle.history.specs.declared.ItemTest.the-variants.{Waits, Stale, Ran, Overtaken, Highest}
+use Rattle.history.specs.declared.ItemTest.the-variants.{Waits, Stale}
 use Rattle.history.specs.Entries.{cellsOf, noItem, itemChange, operationOf, didOfEntry, UsableEntry}
 
 -- ### Tests of refusals
@@ -37,16 +38,45 @@ readOvertakenIn cells u = not (strong (u .rule)) && ltb (u .version) (cells (u .
 unfoldable pub atHighestIn : (ℕ → Cell) → Update → Bool
 atHighestIn cells u = not (ordered (u .rule)) && leb top (cells (u .history) .version)
 
--- The same, and "cannot run now", of one item against the cell of its history.
+-- "Cannot run now", and 8 of a redo, of one item against the cell of its history.
 unfoldable pub itemTest : ItemTest → Cell → Item → Bool
 itemTest Waits c x = not (runsAt c (itemChange x))
 itemTest Stale c x = leb (x .place .0) (c .place)
-itemTest Ran c x = strong (x .rule) && ordered (x .rule) && leb (x .version .0) (c .version)
-itemTest Overtaken c x = not (strong (x .rule)) && ltb (x .version .0) (c .version)
-itemTest Highest c x = not (ordered (x .rule)) && leb top (c .version)
 
 abbrev pub testIn : ItemTest → (ℕ → Cell) → Item → Bool
 testIn t cells x = itemTest t (cells (x .history)) x
+
+-- 8, 9 and 17 of an add, of one item against the cell of its history
+unfoldable pub ranAt : Cell → Item → Bool
+ranAt c x = strong (x .rule) && ordered (x .rule) && leb (x .version .0) (c .version)
+
+unfoldable pub overtakenAt : Cell → Item → Bool
+overtakenAt c x = not (strong (x .rule)) && ltb (x .version .0) (c .version)
+
+unfoldable pub highestAt : Cell → Item → Bool
+highestAt c x = not (ordered (x .rule)) && leb top (c .version)
+
+-- What the checks 6, 8, 9 and 17 ask of the updates of an operation.
+unfoldable pub findingsIn : (ℕ → Cell) → List Update → Findings
+findingsIn cells us =
+    record {
+      strong = any (λ (u : Update). strong (u .rule)) us;
+      orders = any (λ (u : Update). strong (u .rule) && ordered (u .rule)) us;
+      ran = any (alreadyDoneIn cells) us;
+      overtaken = any (readOvertakenIn cells) us;
+      highest = any (atHighestIn cells) us;
+    }
+
+-- .. with one item more
+unfoldable pub foundWith : Findings → Cell → Item → Findings
+foundWith f c x =
+    record {
+      strong = f .strong || strong (x .rule);
+      orders = f .orders || (strong (x .rule) && ordered (x .rule));
+      ran = f .ran || ranAt c x;
+      overtaken = f .overtaken || overtakenAt c x;
+      highest = f .highest || highestAt c x;
+    }
 
 -- ### Overtaken
 
@@ -110,5 +140,5 @@ pub record LowPlaces (hs : List History) (e : Entry) : Type 0 where
 
 -- The histories after the changes of a line are what the book makes of them.
 pub record Applies (hs : List History) (e : Entry) (after : List History) : Type 0 where
-  pub long : length after ≡ 16
-  pub cells : (h : ℕ) → h < 16 → cellsOf after h ≡ enterAll h (didOfEntry e .changes) (cellsOf hs h)
+  pub long : length after ≡ historyLimit
+  pub cells : (h : ℕ) → h < historyLimit → cellsOf after h ≡ enterAll h (didOfEntry e .changes) (cellsOf hs h)

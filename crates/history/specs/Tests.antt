@@ -13,6 +13,7 @@ use lib.ListN.{length, getD, take, drop, length-take, List·getD-map, List·getD
 use lib.Seq.{split-at, take-suc, take-take, getD-take, length-take-le}
 use Rattle.forms.specs.Lists.{all, any}
 use Rattle.forms.specs.Held.{firstFour}
+use Rattle.forms.specs.Limits.{updateLimit}
 
 pub eqb-iff : (a b x y : ℕ) → (a ≡ b → x ≡ y) → (x ≡ y → a ≡ b) → eqb a b ≡ eqb x y
 eqb-iff a b x y f g = go (eqb a b) refl
@@ -109,7 +110,7 @@ module _ {A : Type 0} where
 -- ### Lists of at most four elements, held in an array of four
 
 module _ {A B : Type 0} (f : A → B) (d : A) where
-  pub four-held : (l : List A) → length l ≤ 4 → take (length l) (firstFour f d l) ≡ map f l
+  pub four-held : (l : List A) → length l ≤ updateLimit → take (length l) (firstFour f d l) ≡ map f l
   four-held [] h = refl
   four-held (a ∷ []) h = refl
   four-held (a ∷ b ∷ []) h = refl
@@ -118,7 +119,7 @@ module _ {A B : Type 0} (f : A → B) (d : A) where
   four-held (a ∷ b ∷ c ∷ e ∷ x ∷ l) h = absurd (omega arith)
 
 -- the part of an array of four that counts, by its length
-pub length-part : {A : Type 0} (n : ℕ) (l : List A) → length l ≡ 4 → n ≤ 4 → length (take n l) ≡ n
+pub length-part : {A : Type 0} (n : ℕ) (l : List A) → length l ≡ updateLimit → n ≤ updateLimit → length (take n l) ≡ n
 length-part n l e h = length-take-le n l (omega arith)
 
 -- an element of the part that counts, and what stands behind it
@@ -141,7 +142,8 @@ four-map {A} {B} {C} f g d l = four-eq (one 0) (one 1) (one 2) (one 3)
     one : (i : ℕ) → g (f (getD l i d)) ≡ g (getD (map f l) i (f d))
     one i = ap g (sym (List·getD-map f l i d))
 
-pub four-at : {A B : Type 0} (f : A → B) (d : A) (l : List A) (i : ℕ) (e : B) → i < 4 → getD (firstFour f d l) i e ≡ f (getD l i d)
+pub four-at : {A B : Type 0} (f : A → B) (d : A) (l : List A) (i : ℕ) (e : B) → i < updateLimit →
+    getD (firstFour f d l) i e ≡ f (getD l i d)
 four-at f d l zero e h = refl
 four-at f d l (suc zero) e h = refl
 four-at f d l (suc (suc zero)) e h = refl

@@ -10,6 +10,7 @@ use lib.Dec.{eqb, ltb}
 use lib.ListN.{length, getD, set, length-append, length-map, length-set, List·getD-append}
 use lib.Seq.{ext-getD, getD-at, getD-set-same, getD-set-other, drop-set-lt}
 use Rattle.forms.specs.Lists.{below}
+use Rattle.forms.specs.Limits.{historyLimit}
 use Rattle.history.specs.declared.History.{History}
 use Rattle.history.specs.Entries.{noHistory}
 use Rattle.history.specs.Words.{within, UnchangedOutside, width, bookLength, historyFrom, historiesIn, columnFrom, PastKept}
@@ -117,13 +118,13 @@ filled-next place f n ws rises room so k h = go (ltb k n) refl
 
 -- ### The histories that stand in words
 
-pub histories-long : (ws : List ℕ) → length (historiesIn ws) ≡ 16
+pub histories-long : (ws : List ℕ) → length (historiesIn ws) ≡ historyLimit
 unfolding historiesIn
-histories-long ws = made-long (historyFrom ws) 16
+histories-long ws = made-long (historyFrom ws) historyLimit
 
-pub history-in : (ws : List ℕ) (i : ℕ) → i < 16 → getD (historiesIn ws) i noHistory ≡ historyFrom ws i
+pub history-in : (ws : List ℕ) (i : ℕ) → i < historyLimit → getD (historiesIn ws) i noHistory ≡ historyFrom ws i
 unfolding historiesIn
-history-in ws i h = made-at (historyFrom ws) 16 i noHistory h
+history-in ws i h = made-at (historyFrom ws) historyLimit i noHistory h
 
 -- a history, read field by field
 pub history-read : (ws : List ℕ) (i : ℕ)
@@ -146,35 +147,36 @@ history-same old new i s =
     rw (profile, s 1 (omega arith), s 2 (omega arith))
 
 -- .. of each history
-pub histories-same : (old new : List ℕ) → ((i f : ℕ) → i < 16 → f < 3 → getD new (width * i + f) 0 ≡ getD old (width * i + f) 0) →
+pub histories-same : (old new : List ℕ) → ((i f : ℕ) → i < historyLimit → f < 3 → getD new (width * i + f) 0 ≡ getD old (width * i + f) 0) →
     historiesIn new ≡ historiesIn old
 unfolding historiesIn
 histories-same old new s =
-    made-is (historyFrom new) 16 noHistory (map (historyFrom old) (below 16)) (made-long (historyFrom old) 16)
-    (λ i h. history-same old new i (λ f l. s i f h l) ∙ sym (made-at (historyFrom old) 16 i noHistory h))
+    made-is (historyFrom new) historyLimit noHistory (map (historyFrom old) (below historyLimit)) (made-long (historyFrom old) historyLimit)
+    (λ i h. history-same old new i (λ f l. s i f h l) ∙ sym (made-at (historyFrom old) historyLimit i noHistory h))
 
 -- ### Columns
 
-pub column-long : (f : ℕ) (ws : List ℕ) → length (columnFrom f ws) ≡ 16
+pub column-long : (f : ℕ) (ws : List ℕ) → length (columnFrom f ws) ≡ historyLimit
 unfolding columnFrom
-column-long f ws = made-long (λ (i : ℕ). getD ws (width * i + f) 0) 16
+column-long f ws = made-long (λ (i : ℕ). getD ws (width * i + f) 0) historyLimit
 
-pub column-in : (f : ℕ) (ws : List ℕ) (i : ℕ) → i < 16 → getD (columnFrom f ws) i 0 ≡ getD ws (width * i + f) 0
+pub column-in : (f : ℕ) (ws : List ℕ) (i : ℕ) → i < historyLimit → getD (columnFrom f ws) i 0 ≡ getD ws (width * i + f) 0
 unfolding columnFrom
-column-in f ws i h = made-at (λ (i : ℕ). getD ws (width * i + f) 0) 16 i 0 h
+column-in f ws i h = made-at (λ (i : ℕ). getD ws (width * i + f) 0) historyLimit i 0 h
 
 -- A column is one that has these numbers.
-pub column-is : (f : ℕ) (ws l : List ℕ) → length l ≡ 16 → ((i : ℕ) → i < 16 → getD ws (width * i + f) 0 ≡ getD l i 0) → columnFrom f ws ≡ l
+pub column-is : (f : ℕ) (ws l : List ℕ) → length l ≡ historyLimit → ((i : ℕ) → i < historyLimit → getD ws (width * i + f) 0 ≡ getD l i 0) →
+    columnFrom f ws ≡ l
 unfolding columnFrom
-column-is f ws l long same = made-is (λ (i : ℕ). getD ws (width * i + f) 0) 16 0 l long same
+column-is f ws l long same = made-is (λ (i : ℕ). getD ws (width * i + f) 0) historyLimit 0 l long same
 
 -- words that agree there have the same column
-pub column-same : (f : ℕ) (old new : List ℕ) → ((i : ℕ) → i < 16 → getD new (width * i + f) 0 ≡ getD old (width * i + f) 0) →
+pub column-same : (f : ℕ) (old new : List ℕ) → ((i : ℕ) → i < historyLimit → getD new (width * i + f) 0 ≡ getD old (width * i + f) 0) →
     columnFrom f new ≡ columnFrom f old
 column-same f old new s = column-is f new (columnFrom f old) (column-long f old) (λ i h. s i h ∙ sym (column-in f old i h))
 
 -- the versions of the histories are a column
-pub column-versions : (ws : List ℕ) (i : ℕ) → i < 16 → getD (columnFrom 1 ws) i 0 ≡ getD (historiesIn ws) i noHistory .version .0
+pub column-versions : (ws : List ℕ) (i : ℕ) → i < historyLimit → getD (columnFrom 1 ws) i 0 ≡ getD (historiesIn ws) i noHistory .version .0
 unfolding historyFrom
 column-versions ws i h = column-in 1 ws i h ∙ sym (ap (λ (x : History). x .version .0) (history-in ws i h))
 
@@ -191,7 +193,7 @@ pub past-set : (n : ℕ) (old ws : List ℕ) (k v : ℕ) → k < width * n → P
 past-set n old ws k v h e = drop-set-lt (width * n) ws k v h ∙ e
 
 -- The three stores of a history.
-module _ (ws : List ℕ) (i : ℕ) (h : History) (low : i < 16) (long : length ws ≡ bookLength) where
+module _ (ws : List ℕ) (i : ℕ) (h : History) (low : i < historyLimit) (long : length ws ≡ bookLength) where
   abbrev first : List ℕ
   first = set ws (width * i) (h .profile)
 
@@ -240,7 +242,7 @@ module _ (ws : List ℕ) (i : ℕ) (h : History) (low : i < 16) (long : length w
   history-put =
       record {
         histories =
-            made-set (historyFrom third) (historyFrom ws) 16 i h noHistory low written
+            made-set (historyFrom third) (historyFrom ws) historyLimit i h noHistory low written
             (λ j lt ne. history-same ws third j (λ f l. elsewhere j f (omega arith) (inl ne)));
         marks =
             record {
@@ -266,7 +268,7 @@ pub stored-none : (f : ℕ) (row ws : List ℕ) → length ws ≡ bookLength →
 stored-none f row ws long =
     record { long = long; done = λ h l. absurd (let z : h < 0 = l in omega arith); rest = λ g h l ne. refl; past = λ n l. refl }
 
-pub stored-next : (f m : ℕ) (row old ws : List ℕ) → f < width → m < 16 → Stored f m row old ws →
+pub stored-next : (f m : ℕ) (row old ws : List ℕ) → f < width → m < historyLimit → Stored f m row old ws →
     Stored f (m + 1) row old (set ws (width * m + f) (getD row m 0))
 stored-next f m row old ws few low s =
     record {
@@ -282,7 +284,7 @@ stored-next f m row old ws few low s =
       past = λ n l. past-set n old ws (width * m + f) (getD row m 0) (omega (arith, l, few)) (s .past n (omega (arith, l)));
     }
 
-pub stored-all : (f n : ℕ) (row old ws : List ℕ) → f < width → n ≤ 16 → Stored f n row old ws → PutColumn f n row old ws
+pub stored-all : (f n : ℕ) (row old ws : List ℕ) → f < width → n ≤ historyLimit → Stored f n row old ws → PutColumn f n row old ws
 stored-all f n row old ws few le s =
     record {
       numbers = λ h l. column-in f ws h (omega (arith, l)) ∙ s .done h l;
@@ -300,7 +302,7 @@ pub record FirstStored (n : ℕ) (f : ℕ → ℕ) (i : ℕ) (old ws : List ℕ)
 pub first-none : (n : ℕ) (f : ℕ → ℕ) (ws : List ℕ) → length ws ≡ bookLength → FirstStored n f 0 ws ws
 first-none n f ws long = record { long = long; done = λ k h. absurd (let z : k < 0 = h in omega arith); past = refl }
 
-pub first-next : (n : ℕ) (f : ℕ → ℕ) (i : ℕ) (old ws : List ℕ) → i < width * n → n ≤ 16 → FirstStored n f i old ws →
+pub first-next : (n : ℕ) (f : ℕ → ℕ) (i : ℕ) (old ws : List ℕ) → i < width * n → n ≤ historyLimit → FirstStored n f i old ws →
     FirstStored n f (i + 1) old (set ws i (f i))
 first-next n f i old ws l le s =
     record {
@@ -320,12 +322,12 @@ pub first-history : (n : ℕ) (f : ℕ → ℕ) (old new from : List ℕ) → Pu
 first-history n f old new from p same i l =
     history-same from new i (λ g m. p .words (width * i + g) (omega (arith, l, m)) ∙ same (width * i + g))
 
-pub first-column : (n : ℕ) (f : ℕ → ℕ) (old new : List ℕ) → PutFirst n f old new → (g i : ℕ) → g < width → i < n → n ≤ 16 →
+pub first-column : (n : ℕ) (f : ℕ → ℕ) (old new : List ℕ) → PutFirst n f old new → (g i : ℕ) → g < width → i < n → n ≤ historyLimit →
     getD (columnFrom g new) i 0 ≡ f (width * i + g)
 first-column n f old new p g i l h le = column-in g new i (omega arith) ∙ p .words (width * i + g) (omega (arith, h, l))
 
 -- a cleared history
-pub cleared-history : (n : ℕ) (old new : List ℕ) → PutFirst n (λ (k : ℕ). 0) old new → (i : ℕ) → i < n → n ≤ 16 →
+pub cleared-history : (n : ℕ) (old new : List ℕ) → PutFirst n (λ (k : ℕ). 0) old new → (i : ℕ) → i < n → n ≤ historyLimit →
     getD (historiesIn new) i noHistory ≡ noHistory
 unfolding historyFrom
 cleared-history n old new p i l le =

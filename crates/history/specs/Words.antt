@@ -6,6 +6,7 @@ use mathlib.Core.List.{List, [], _∷_, map}
 use lib.Dec.{ltb, eqb}
 use lib.ListN.{getD, set, drop}
 use Rattle.forms.specs.Lists.{below, sum}
+use Rattle.forms.specs.Limits.{historyLimit}
 use Rattle.history.specs.declared.History.{History}
 use Rattle.history.specs.declared.Item.{Item}
 use Rattle.history.specs.declared.Entry.{Entry}
@@ -43,11 +44,11 @@ historyFrom ws i =
 
 -- The histories that stand in words.
 unfoldable pub historiesIn : List ℕ → List History
-historiesIn ws = map (historyFrom ws) (below 16)
+historiesIn ws = map (historyFrom ws) (below historyLimit)
 
 -- Number f of each history.
 unfoldable pub columnFrom : ℕ → List ℕ → List ℕ
-columnFrom f ws = map (λ (i : ℕ). getD ws (width * i + f) 0) (below 16)
+columnFrom f ws = map (λ (i : ℕ). getD ws (width * i + f) 0) (below historyLimit)
 
 -- each history's persistent and stable version
 abbrev pub persistedIn : List ℕ → List ℕ
@@ -121,7 +122,7 @@ AllInFirst n es = (h : ℕ) → 1 ≤ sum (entryIn h) es → h < n
 
 -- Each history has its number of updates of the entries more in `high` than in `low`; nothing else differs.
 pub record CountsMore (es : List Entry) (low high : List ℕ) : Type 0 where
-  pub numbers : (h : ℕ) → h < 16 → getD (busyIn high) h 0 ≡ getD (busyIn low) h 0 + sum (entryIn h) es
+  pub numbers : (h : ℕ) → h < historyLimit → getD (busyIn high) h 0 ≡ getD (busyIn low) h 0 + sum (entryIn h) es
   pub others : (g : ℕ) → g < width → (g ≡ 5 → ⊥) → columnFrom g high ≡ columnFrom g low
   pub histories : historiesIn high ≡ historiesIn low
   pub past : (n : ℕ) → AllInFirst n es → PastKept n low high

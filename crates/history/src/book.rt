@@ -2,18 +2,20 @@
 ghost use mathlib.Core.Path.{_≡_};
 ghost use Prim.Native.Nat.{_≤_, _<_};
 ghost use lib.ListN.{getD};
+ghost use Rattle.forms.specs.Limits.{historyLimit};
 ghost use Rattle.history.specs.Entries.{noHistory};
 ghost use Rattle.history.specs.Words.{width, historiesIn, columnFrom, PutHistory, PutColumn, Cleared, Copied};
 use super::History;
 use forms::Place;
 use forms::Version;
+use forms::limits::HISTORIES;
 
 // How many numbers a history has: profile, version, place, persistent version, stable version, and how many of its updates are future, in
 // progress or volatile.
 pub const WIDTH: usize = 6;
 
 // The histories of a site, one behind the other: those of history i begin at WIDTH * i.
-pub type BookWords = [u64; 16 * WIDTH];
+pub type BookWords = [u64; HISTORIES * WIDTH];
 
 // Where a history's numbers stand behind its profile.
 pub const VERSION: usize = 1;
@@ -31,7 +33,7 @@ pub fn known_length(_words: &[u64]) {}
 
 // History i.
 pub fn history_at(words: &BookWords, i: usize) -> History
-    requires { ⌜ i < 16 ⌝ }
+    requires { ⌜ i < historyLimit ⌝ }
     ensures { λ r. ⌜ r ≡ getD (historiesIn (now (words .entry))) i noHistory ⌝ }
 {
     let at = WIDTH * i;
@@ -44,7 +46,7 @@ pub fn history_at(words: &BookWords, i: usize) -> History
 
 // History i becomes h.
 pub fn put_history(words: &mut BookWords, i: usize, h: History)
-    requires { ⌜ i < 16 ⌝ }
+    requires { ⌜ i < historyLimit ⌝ }
     ensures { λ r. ⌜ PutHistory i h (now (words .entry)) (now (words .exit)) ⌝ }
 {
     known_length(words);
@@ -55,13 +57,13 @@ pub fn put_history(words: &mut BookWords, i: usize, h: History)
 }
 
 // Number f of each history.
-pub fn column_at(words: &BookWords, f: usize) -> [u64; 16]
+pub fn column_at(words: &BookWords, f: usize) -> [u64; HISTORIES]
     requires { ⌜ f < width ⌝ }
     ensures { λ r. ⌜ r ≡ columnFrom f (now (words .entry)) ⌝ }
 {
-    let mut column = [0u64; 16];
+    let mut column = [0u64; HISTORIES];
     let mut i: usize = 0;
-    while i < 16 {
+    while i < HISTORIES {
         column[i] = words[WIDTH * i + f];
         i += 1;
     }
@@ -69,8 +71,8 @@ pub fn column_at(words: &BookWords, f: usize) -> [u64; 16]
 }
 
 // Number f of each of the first n histories becomes that of the column.
-pub fn put_column(words: &mut BookWords, f: usize, column: [u64; 16], n: usize)
-    requires { ⌜ (f < width) × (n ≤ 16) ⌝ }
+pub fn put_column(words: &mut BookWords, f: usize, column: [u64; HISTORIES], n: usize)
+    requires { ⌜ (f < width) × (n ≤ historyLimit) ⌝ }
     ensures { λ r. ⌜ PutColumn f n column (now (words .entry)) (now (words .exit)) ⌝ }
 {
     known_length(words);
@@ -83,7 +85,7 @@ pub fn put_column(words: &mut BookWords, f: usize, column: [u64; 16], n: usize)
 
 // The numbers of the first n histories become 0.
 pub fn clear(words: &mut BookWords, n: usize)
-    requires { ⌜ n ≤ 16 ⌝ }
+    requires { ⌜ n ≤ historyLimit ⌝ }
     ensures { λ r. ⌜ Cleared n (now (words .entry)) (now (words .exit)) ⌝ }
 {
     known_length(words);
@@ -97,7 +99,7 @@ pub fn clear(words: &mut BookWords, n: usize)
 
 // The numbers of the first n histories become those of another book.
 pub fn put_book(words: &mut BookWords, from: &BookWords, n: usize)
-    requires { ⌜ n ≤ 16 ⌝ }
+    requires { ⌜ n ≤ historyLimit ⌝ }
     ensures { λ r. ⌜ Copied n (now (from .entry)) (now (words .entry)) (now (words .exit)) ⌝ }
 {
     known_length(words);

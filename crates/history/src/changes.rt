@@ -7,6 +7,7 @@ ghost use Rattle.forms.specs.Lists.{all};
 ghost use Rattle.rules.specs.Book.{entered};
 ghost use Rattle.forms.specs.Decimal.{top};
 ghost use Rattle.forms.specs.declared.Rule.the-variants.{Unk};
+ghost use Rattle.forms.specs.Limits.{liveLimit, updateLimit};
 ghost use Rattle.rules.specs.Rules.{loggedAs};
 ghost use Rattle.history.specs.Entries.{cellOf, cellsOf, itemsOf, noItem, operationOf};
 ghost use Rattle.history.specs.Entries.{UsableItem, UsableEntry, mayRunIn};
@@ -93,7 +94,7 @@ fn stamp_item(h: History, x: Item) -> Item
 // Item i of an entry, done in its history.
 fn stamp_at(book: &BookWords, e: Entry, i: usize) -> Item
     requires { ⌜ UsableEntry e × LowPlaces (historiesIn (now book)) e
-        × (all (mayRunIn (cellsOf (historiesIn (now book)))) (operationOf e .updates) ≡ true) × (i < 4) ⌝ }
+        × (all (mayRunIn (cellsOf (historiesIn (now book)))) (operationOf e .updates) ≡ true) × (i < updateLimit) ⌝ }
     ensures { λ r. ⌜ r ≡ stamped (cellsOf (historiesIn (now (book .entry))) (getD (itemsOf e) i noItem .history))
         (getD (itemsOf e) i noItem) ⌝ }
 {
@@ -123,7 +124,7 @@ pub fn stamp(book: &BookWords, e: Entry) -> Entry
 
 // The profile of the history of item i, or of history 0 where the entry has fewer.
 fn profile_at(book: &BookWords, e: Entry, i: usize) -> u64
-    requires { ⌜ UsableEntry e × (i < 4) ⌝ }
+    requires { ⌜ UsableEntry e × (i < updateLimit) ⌝ }
     ensures { λ r. ⌜ r ≡ cellsOf (historiesIn (now (book .entry))) (getD (itemsOf e) i noItem .history) .profile ⌝ }
 {
     let x = item_at(e, i);
@@ -134,7 +135,7 @@ fn profile_at(book: &BookWords, e: Entry, i: usize) -> u64
 
 // The profiles of an entry's histories, in the entry's order, as a list from `at` on; how many they are.
 pub fn values_after(book: &BookWords, e: Entry, lists: &mut ReplyNumbers, at: usize) -> usize
-    requires { ⌜ UsableEntry e × (at ≤ 64) ⌝ }
+    requires { ⌜ UsableEntry e × (at ≤ liveLimit) ⌝ }
     ensures { λ r. ⌜ Lists (now (lists .entry)) at (valuesIn (cellsOf (historiesIn (now (book .entry)))) (operationOf e .updates)) r
         (now (lists .exit)) ⌝ }
 {

@@ -1,4 +1,4 @@
-// The checks 2 to 6 of the updates of an operation, as asked or as a did line reports them.
+// The checks 2 to 5 of the updates of an operation, as asked or as a did line reports them.
 ghost use mathlib.Core.Path.{_≡_};
 ghost use mathlib.Core.List.{List, [], _∷_, map};
 ghost use Prim.Native.Nat.{_≤_};
@@ -6,16 +6,14 @@ ghost use lib.ListN.{length, take};
 ghost use Rattle.forms.specs.Lists.{any};
 ghost use Rattle.forms.specs.Forms.{Update, Change};
 ghost use Rattle.forms.specs.Held.{asUpdate, asAsked, asChange, updatesOf};
-ghost use Rattle.forms.specs.Held.{heldUpdates, heldChanges};
+ghost use Rattle.forms.specs.Held.{heldChanges};
+ghost use Rattle.forms.specs.Limits.{updateLimit};
 ghost use Rattle.rules.specs.Checks.{historyTwice, updatesRefusal, changesRefusal};
-ghost use Rattle.rules.specs.Calls.{nothingOrders};
 ghost use Rattle.rules.specs.Rules.{ruleOf};
-ghost use Rattle.history.specs.Asking.{askedTest, askedPasses, verdictOf, changeUpdate};
+ghost use Rattle.history.specs.Asking.{askedTest, askedPasses, verdictOf, changeUpdate, HoldsUpdates};
 use super::AskedTest;
 use super::Verdict;
-use super::update_rules::is_strong;
 use super::update_rules::operand_fits;
-use super::update_rules::orders;
 use forms::Asked;
 use forms::AskedHeld;
 use forms::Done;
@@ -23,6 +21,7 @@ use forms::DoneHeld;
 use forms::DoneRule;
 use forms::Refusal;
 use forms::Rule;
+use forms::limits::UPDATES;
 
 // An update that is asked for, against a test.
 fn asked_test(t: AskedTest, a: Asked) -> bool
@@ -33,14 +32,12 @@ fn asked_test(t: AskedTest, a: Asked) -> bool
         AskedTest::Absent(n) => n <= a.history,
         AskedTest::In(h) => h == a.history,
         AskedTest::Misfits => !operand_fits(rule, a.version.0, a.operand),
-        AskedTest::Strong => is_strong(rule),
-        AskedTest::Orders => orders(rule),
     }
 }
 
 // Whether one of the first k updates passes a test.
 fn some_asked(t: AskedTest, held: AskedHeld, k: usize) -> bool
-    requires { ⌜ (k ≤ 4) × (length (held .first) ≡ 4) ⌝ }
+    requires { ⌜ (k ≤ updateLimit) × (length (held .first) ≡ updateLimit) ⌝ }
     ensures { λ r. ⌜ r ≡ any (askedPasses t) (take k (held .first)) ⌝ }
 {
     let first = held.first;
@@ -57,7 +54,7 @@ fn some_asked(t: AskedTest, held: AskedHeld, k: usize) -> bool
 
 // Whether two updates are in one history.
 fn is_twice(held: AskedHeld) -> bool
-    requires { ⌜ (held .count ≤ 4) × (length (held .first) ≡ 4) ⌝ }
+    requires { ⌜ (held .count ≤ updateLimit) × (length (held .first) ≡ updateLimit) ⌝ }
     ensures { λ r. ⌜ r ≡ historyTwice (map (λ (a : Asked). a .history) (take (held .count) (held .first))) ⌝ }
 {
     let n = held.count;
@@ -86,23 +83,12 @@ fn one_refusal(n: u64, a: Asked) -> Verdict
     Verdict::Passes
 }
 
-// The checks 2 to 5 of the updates of an operation, in a site of n histories.
-pub fn asked_refusal(n: u64, held: AskedHeld) -> Verdict
-    requires { ⌜ length (held .first) ≡ 4 ⌝ }
-    ensures { λ r. ⌜ ((us : List Update) → held ≡ heldUpdates us → r ≡ verdictOf (updatesRefusal n us)) ⌝ }
+// The checks 3 to 5 of the updates of an operation of at most four, in a site of n histories.
+fn several_refusal(n: u64, held: AskedHeld) -> Verdict
+    requires { ⌜ (1 ≤ held .count) × (held .count ≤ updateLimit) × (length (held .first) ≡ updateLimit) ⌝ }
+    ensures { λ r. ⌜ r ≡ verdictOf (updatesRefusal n (updatesOf held)) ⌝ }
 {
     let count = held.count;
-    if count < 1 {
-        return Verdict::Refused(Refusal::WrongCount);
-    }
-    if 4 < count {
-        return Verdict::Refused(Refusal::WrongCount);
-    }
-    if count == 1 {
-        let first = held.first;
-        let a = first[0];
-        return one_refusal(n, a);
-    }
     if some_asked(AskedTest::Absent(n), held, count) {
         return Verdict::Refused(Refusal::NoSuchHistory);
     }
@@ -115,17 +101,24 @@ pub fn asked_refusal(n: u64, held: AskedHeld) -> Verdict
     Verdict::Passes
 }
 
-// Whether an operation has a strong update and none that is strong and ordered.
-pub fn nothing_orders(held: AskedHeld) -> bool
-    requires { ⌜ (held .count ≤ 4) × (length (held .first) ≡ 4) ⌝ }
-    ensures { λ r. ⌜ r ≡ nothingOrders (updatesOf held) ⌝ }
+// The checks 2 to 5 of the updates of an operation, in a site of n histories. What is held past the count is not looked at.
+pub fn asked_refusal(n: u64, held: AskedHeld) -> Verdict
+    requires { ⌜ length (held .first) ≡ updateLimit ⌝ }
+    ensures { λ r. ⌜ ((us : List Update) → HoldsUpdates held us → r ≡ verdictOf (updatesRefusal n us)) ⌝ }
 {
     let count = held.count;
-    if some_asked(AskedTest::Strong, held, count) {
-        !some_asked(AskedTest::Orders, held, count)
-    } else {
-        false
+    if count < 1 {
+        return Verdict::Refused(Refusal::WrongCount);
     }
+    if UPDATES < count {
+        return Verdict::Refused(Refusal::WrongCount);
+    }
+    if count == 1 {
+        let first = held.first;
+        let a = first[0];
+        return one_refusal(n, a);
+    }
+    several_refusal(n, held)
 }
 
 // The rule of an update that was done, as one that is asked for.

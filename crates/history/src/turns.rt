@@ -1,18 +1,19 @@
-// An operation's updates against its histories: whether it is its turn, whether it has run, is overtaken or can't run any more.
+// An operation's updates against its histories: whether it is its turn, and whether one has run, is overtaken or can't run any more.
 ghost use mathlib.Core.Path.{_≡_};
 ghost use Rattle.forms.specs.Lists.{any};
 ghost use Rattle.rules.specs.Book.{runsAt};
 ghost use Rattle.history.specs.Entries.{cellOf, cellsOf, itemChange, itemsOf, operationOf, didOfEntry};
 ghost use Rattle.history.specs.Entries.{UsableEntry, canRunIn};
-ghost use Rattle.history.specs.declared.ItemTest.the-variants.{Ran, Overtaken, Highest};
-ghost use Rattle.history.specs.Cells.{itemTest, testIn, staleIn, alreadyDoneIn, readOvertakenIn, atHighestIn};
+ghost use Rattle.history.specs.Cells.{itemTest, testIn, staleIn, ranAt, overtakenAt, highestAt, foundWith, findingsIn};
 ghost use Rattle.history.specs.Words.{historiesIn};
 use super::Entry;
+use super::Findings;
 use super::History;
 use super::Item;
 use super::ItemTest;
 use super::book::BookWords;
 use super::book::history_at;
+use super::either;
 use super::update_rules::is_ordered;
 use super::update_rules::is_strong;
 use super::update_rules::logged_as;
@@ -39,7 +40,7 @@ pub fn is_next(h: History, x: Item) -> bool
 
 // Whether a strong ordered item's version is not above the history's.
 fn has_run(h: History, x: Item) -> bool
-    ensures { λ r. ⌜ r ≡ itemTest Ran (cellOf h) x ⌝ }
+    ensures { λ r. ⌜ r ≡ ranAt (cellOf h) x ⌝ }
 {
     let rule = x.rule;
     if orders(rule) {
@@ -51,7 +52,7 @@ fn has_run(h: History, x: Item) -> bool
 
 // Whether a reading item's version is below the history's.
 fn is_overtaken(h: History, x: Item) -> bool
-    ensures { λ r. ⌜ r ≡ itemTest Overtaken (cellOf h) x ⌝ }
+    ensures { λ r. ⌜ r ≡ overtakenAt (cellOf h) x ⌝ }
 {
     let rule = x.rule;
     if is_strong(rule) {
@@ -63,7 +64,7 @@ fn is_overtaken(h: History, x: Item) -> bool
 
 // Whether an item is `unk` in a history at the highest version.
 fn is_at_highest(h: History, x: Item) -> bool
-    ensures { λ r. ⌜ r ≡ itemTest Highest (cellOf h) x ⌝ }
+    ensures { λ r. ⌜ r ≡ highestAt (cellOf h) x ⌝ }
 {
     let rule = x.rule;
     if is_ordered(rule) {
@@ -80,9 +81,6 @@ fn item_test(t: ItemTest, h: History, x: Item) -> bool
     match t {
         ItemTest::Waits => !is_next(h, x),
         ItemTest::Stale => x.place.0 <= h.place.0,
-        ItemTest::Ran => has_run(h, x),
-        ItemTest::Overtaken => is_overtaken(h, x),
-        ItemTest::Highest => is_at_highest(h, x),
     }
 }
 
@@ -122,26 +120,46 @@ pub fn is_stale(book: &BookWords, e: Entry) -> bool
     some_item(ItemTest::Stale, book, e)
 }
 
-// Whether an operation has a strong ordered update with U ≤ C.
-pub fn already_done(book: &BookWords, e: Entry) -> bool
-    requires { ⌜ UsableEntry e ⌝ }
-    ensures { λ r. ⌜ r ≡ any (alreadyDoneIn (cellsOf (historiesIn (now (book .entry))))) (operationOf e .updates) ⌝ }
+// What was found, with what an item adds to it.
+fn found(f: Findings, h: History, x: Item) -> Findings
+    ensures { λ r. ⌜ r ≡ foundWith f (cellOf h) x ⌝ }
 {
-    some_item(ItemTest::Ran, book, e)
+    let rule = x.rule;
+    let strong = either(f.strong, is_strong(rule));
+    let ordering = either(f.orders, orders(rule));
+    let ran = either(f.ran, has_run(h, x));
+    let overtaken = either(f.overtaken, is_overtaken(h, x));
+    let highest = either(f.highest, is_at_highest(h, x));
+    Findings {
+        strong,
+        orders: ordering,
+        ran,
+        overtaken,
+        highest,
+    }
 }
 
-// Whether an operation has a `not` with U < C.
-pub fn read_overtaken(book: &BookWords, e: Entry) -> bool
+// What the checks 6, 8, 9 and 17 find in an operation, in one pass over its updates.
+pub fn findings(book: &BookWords, e: Entry) -> Findings
     requires { ⌜ UsableEntry e ⌝ }
-    ensures { λ r. ⌜ r ≡ any (readOvertakenIn (cellsOf (historiesIn (now (book .entry))))) (operationOf e .updates) ⌝ }
+    ensures { λ r. ⌜ r ≡ findingsIn (cellsOf (historiesIn (now (book .entry)))) (operationOf e .updates) ⌝ }
 {
-    some_item(ItemTest::Overtaken, book, e)
-}
-
-// Whether an operation has an `unk` in a history at the highest version.
-pub fn at_highest(book: &BookWords, e: Entry) -> bool
-    requires { ⌜ UsableEntry e ⌝ }
-    ensures { λ r. ⌜ r ≡ any (atHighestIn (cellsOf (historiesIn (now (book .entry))))) (operationOf e .updates) ⌝ }
-{
-    some_item(ItemTest::Highest, book, e)
+    let n = e.count;
+    let items = e.items;
+    let mut f = Findings {
+        strong: false,
+        orders: false,
+        ran: false,
+        overtaken: false,
+        highest: false,
+    };
+    let mut i: usize = 0;
+    while i < n {
+        let x = items[i];
+        let at = x.history as usize;
+        let h = history_at(book, at);
+        f = found(f, h, x);
+        i += 1;
+    }
+    f
 }

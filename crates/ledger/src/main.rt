@@ -118,9 +118,9 @@ fn serve(
 fn main() {
     let mut log = io::large_buffer();
     let mut rows = [0u64; Site::LIVE * ROW];
-    let mut order = [0u8; 64];
+    let mut order = [0u8; Site::LIVE];
     let mut book = [0u64; Site::HISTORIES * WIDTH];
-    let mut lists = [0u64; 68];
+    let mut lists = [0u64; Site::UPDATES + Site::LIVE];
     let mut chunk = io::large_buffer();
     let mut out = io::large_buffer();
     serve(

@@ -16,6 +16,7 @@ use Rattle.forms.specs.Read.{didAnswer}
 use Rattle.forms.specs.declared.reader.DidRead.{DidRead}
 use Rattle.forms.specs.Write.{Writes, WritesIf, HeldInRange}
 use Rattle.forms.specs.WriteLaws.{placed-length}
+use Rattle.forms.specs.Limits.{updateLimit}
 use Rattle.forms.specs.declared.writer.Written.{Written}
 use Rattle.forms.specs.declared.writer.Written.the-variants.{At, NoRoom}
 
@@ -37,14 +38,14 @@ writes-within l at bs r m w = go (leb (at + length bs) (length l)) refl w
     go false h v = subst (λ (x : Written). Within x (length m)) (sym (v .answer)) (omega arith)
 
 -- Four updates or blanks are held.
-four : (t : Step Did) → length (didAnswer t .did .held .first) ≡ 4
+four : (t : Step Did) → length (didAnswer t .did .held .first) ≡ updateLimit
 unfolding didAnswer heldDid heldChanges
 four (got d l) = refl
 four bad = refl
 
 -- A did line that was read, of at most four updates, can be written.
-pub did-range : (q : DidRead) (t : Step Did) → q ≡ didAnswer t → q .did .held .count ≤ 4 → HeldInRange (q .did .held)
-did-range q t e few = record { count = few; first = subst (λ (x : DidRead). length (x .did .held .first) ≡ 4) (sym e) (four t) }
+pub did-range : (q : DidRead) (t : Step Did) → q ≡ didAnswer t → q .did .held .count ≤ updateLimit → HeldInRange (q .did .held)
+did-range q t e few = record { count = few; first = subst (λ (x : DidRead). length (x .did .held .first) ≡ updateLimit) (sym e) (four t) }
 
 -- The bytes up to an answer's position are as many as it says.
 pub front-long : (r : Written) (buf : List ℕ) (n : ℕ) → Within r (length buf) → r ≡ At n → n ≡ length (take n buf)

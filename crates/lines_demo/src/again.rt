@@ -2,6 +2,7 @@
 use super::say;
 use super::say_number;
 use forms::DidLine;
+use forms::limits::UPDATES;
 use forms::reader::SiteRead;
 use forms::writer::Written;
 ghost use lib.ListN.{length};
@@ -37,7 +38,7 @@ pub fn say_did_again(s: &[u8]) {
     if r.ok {
         let did = r.did;
         let held = did.held;
-        if held.count <= 4 {
+        if held.count <= UPDATES {
             write_again(did);
         }
     }

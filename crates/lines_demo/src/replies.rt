@@ -6,16 +6,19 @@ use forms::Refusal;
 use forms::ReplyForm;
 use forms::Shown;
 use forms::Version;
+use forms::limits::LIVE;
 use forms::limits::REPLY_BYTES;
+use forms::limits::UPDATES;
 ghost use Prim.Native.Nat.{_≤_};
 ghost use lib.ListN.{length};
+ghost use Rattle.forms.specs.Limits.{liveLimit};
 
 // The greatest number that a line can have.
 const MOST: u64 = 18446744073709551615;
 
 // Writes a reply and prints it.
 fn say_reply(form: ReplyForm, xs: &[u64], ys: &[u64])
-    requires { ⌜ (length (now xs) ≤ 64) × (length (now ys) ≤ 64) ⌝ }
+    requires { ⌜ (length (now xs) ≤ liveLimit) × (length (now ys) ≤ liveLimit) ⌝ }
 {
     let mut buf = [b'.'; REPLY_BYTES];
     let w = forms::writer::write_reply(&mut buf, 0, form, xs, ys);
@@ -29,7 +32,7 @@ fn say_plain(form: ReplyForm) {
 
 // What finish replies: of its ids the first are overtaken, as many as `overtaken` says, and the rest made ready.
 fn say_finished(number: u64, values: &[u64], overtaken: usize, ids: &[u64])
-    requires { ⌜ (length (now values) ≤ 64) × (length (now ids) ≤ 64) ⌝ }
+    requires { ⌜ (length (now values) ≤ liveLimit) × (length (now ids) ≤ liveLimit) ⌝ }
 {
     let form = ReplyForm::Finished {
         number: LogNumber(number),
@@ -99,8 +102,8 @@ pub fn say_paper() {
 
 // Every form with the greatest numbers and with the longest lists.
 pub fn say_edges() {
-    let few = [MOST; 4];
-    let all = [MOST; 64];
+    let few = [MOST; UPDATES];
+    let all = [MOST; LIVE];
     let two = [MOST, 0];
     say_reply(ReplyForm::Added, &all, &two);
     say_finished(MOST, &few, 0, &all);

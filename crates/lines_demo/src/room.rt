@@ -3,10 +3,12 @@ use super::say;
 use super::say_number;
 use forms::DidLine;
 use forms::ReplyForm;
+use forms::limits::UPDATES;
 use forms::writer::Written;
 ghost use Prim.Native.Nat.{_≤_};
 ghost use lib.ListN.{length};
 ghost use Rattle.forms.specs.Write.{HeldInRange};
+ghost use Rattle.forms.specs.Limits.{liveLimit};
 
 // The answer, and the whole buffer as it is now.
 fn say_whole(r: Written, buf: &[u8]) {
@@ -32,7 +34,7 @@ fn try_site(buf: &mut [u8], at: usize, n: u64) {
 }
 
 fn try_ready(buf: &mut [u8], at: usize, ids: &[u64])
-    requires { ⌜ length (now ids) ≤ 64 ⌝ }
+    requires { ⌜ length (now ids) ≤ liveLimit ⌝ }
 {
     let w = forms::writer::write_reply(buf, at, ReplyForm::Added, ids, &[]);
     say_whole(w, buf);
@@ -60,7 +62,7 @@ pub fn say_did_room() {
     let r = forms::reader::read_did(b"(did 5 (inc 0 1 1 513)(not 1 0 1 0))");
     let did = r.did;
     let held = did.held;
-    if held.count <= 4 {
+    if held.count <= UPDATES {
         try_dids(did);
     }
 }

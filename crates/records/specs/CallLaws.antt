@@ -16,13 +16,14 @@ use Rattle.forms.specs.WriteLaws.{placed-length}
 use Rattle.forms.specs.declared.Refusal.{Refusal}
 use Rattle.forms.specs.declared.Refusal.the-variants.{IdPending, TableFull, WrongThreshold, NotSent}
 use Rattle.rules.specs.Checks.{check}
-use Rattle.rules.specs.CheckLaws.{lt-not-le, not-le}
+use Rattle.rule_laws.specs.CheckLaws.{lt-not-le, not-le}
 use Rattle.rules.specs.Records as book
-use Rattle.rules.specs.Records.{recordLimit, isIn, sitesOf, counts, isFor, RecordReply, unlessChecked, recorded}
+use Rattle.forms.specs.Limits.{recordLimit}
+use Rattle.rules.specs.Records.{isIn, sitesOf, counts, isFor, RecordReply, unlessChecked, recorded}
 use Rattle.rules.specs.Records.{recordsFull, wrongThreshold, fullNotSent, recordRefusal, newRecord, recordNew, onRecord, withReport}
 use Rattle.rules.specs.Records.{reportedIn, reportOn, report, question, forgetRecord}
-use Rattle.rules.specs.RecordLaws.{accepted}
-use Rattle.rules.specs.RecordMasks.{mask-report, site-low, bit-small}
+use Rattle.rule_laws.specs.RecordLaws.{accepted}
+use Rattle.rule_laws.specs.RecordMasks.{mask-report, site-low, bit-small}
 use Rattle.history.specs.Asking.{verdictOf}
 use Rattle.history.specs.Words.{within}
 use Rattle.history.specs.declared.Verdict.{Verdict}

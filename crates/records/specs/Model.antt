@@ -7,7 +7,8 @@ use lib.ListN.{length, getD, drop}
 use Rattle.forms.specs.Lists.{below}
 use Rattle.forms.specs.declared.Refusal.{Refusal}
 use Rattle.rules.specs.Records as book
-use Rattle.rules.specs.Records.{recordLimit, sitesOf, RecordReply, recordsAfter}
+use Rattle.forms.specs.Limits.{recordLimit}
+use Rattle.rules.specs.Records.{sitesOf, RecordReply, recordsAfter}
 use Rattle.history.specs.Words.{within}
 use Rattle.records.specs.declared.Records.{Records}
 use Rattle.records.specs.declared.RecordsResult.{RecordsResult}

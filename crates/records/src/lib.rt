@@ -70,7 +70,7 @@ fn is_wrong(threshold: u64, full: u8) -> bool
 
 impl Records {
     // "a 65th record 10"
-    pub const LIMIT: usize = 64;
+    pub const LIMIT: usize = forms::limits::RECORDS;
 
     // No records, in numbers of any contents.
     pub fn empty() -> Records

@@ -5,12 +5,15 @@
 -- changeovers among its first calls. "With further cuts between": they stand in `further` (`cuts` of `Asked`). "For the compact module":
 -- the same words over a site that does not stand alone are in Host, and over a slot of the module in the crate compact. Of the code's own
 -- calls and the bytes of its log it is stated in the crate end_to_end.
-use mathlib.Core.Path.{_≡_}
+use mathlib.Core.Path.{_≡_, refl, ap, _∙_}
 use mathlib.Core.Logic.{_↔_}
 use mathlib.Core.Bool.{Bool, true}
-use mathlib.Core.List.{List, [], _∷_, _++_, List·Permᴰ as Perm}
-use Prim.Native.Nat.{ℕ}
+use mathlib.Core.List.{List, [], _∷_, _++_, List·Permᴰ as Perm, List·Permᴰ·nil as perm-nil, List·Permᴰ·cons as perm-cons}
+use mathlib.Core.List.{List·Permᴰ·swap as perm-swap, List·Permᴰ·trans as perm-trans}
+use Prim.Native.Nat.{ℕ, suc}
+use native.Mathlib.Omega.{arith}
 use lib.Dec.{T}
+use lib.ListN.{length}
 use Rattle.forms.specs.Lists.{keep}
 use Rattle.forms.specs.Forms.{Did}
 use Rattle.rules.specs.Book.{touches}
@@ -33,6 +36,16 @@ didLines bytes = didsOf (readLog bytes)
 -- "are rearrangements of each other": the same lines, each as often.
 abbrev pub Rearranged : List Did → List Did → Type 0
 Rearranged a b = Perm a b
+
+-- "each as often": a line that stands twice is no rearrangement of the same line once, though the lines are the same as a set.
+pub twice : (d : Did) → Rearranged (d ∷ d ∷ []) (d ∷ []) → ⊥
+twice d p = let e : _≡_ {A = ℕ} 2 1 = same-length p in omega (arith, e)
+  where
+    same-length : {a b : List Did} → Perm a b → length a ≡ length b
+    same-length perm-nil = refl
+    same-length (perm-cons e p) = ap suc (same-length p)
+    same-length (perm-swap e f) = refl
+    same-length (perm-trans p q) = same-length p ∙ same-length q
 
 -- The lines of a log in history h, in their order.
 abbrev pub historyLines : ℕ → List Did → List Did

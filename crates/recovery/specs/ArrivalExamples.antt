@@ -1,20 +1,18 @@
--- What request (n) says of two logs, on both sides of each edge: lines twice, lines that share a history, lines that share none, lines that
+-- What request (n) says of two logs, on both sides of each edge: lines that share a history, lines that share none, lines that
 -- are no neighbours.
-use mathlib.Core.Path.{_≡_, refl, ap, _∙_}
+use mathlib.Core.Path.{_≡_, refl, ap}
 use mathlib.Core.Bool.{Bool, true, false, cond, _||_}
-use mathlib.Core.List.{List, [], _∷_, List·Permᴰ·nil as perm-nil, List·Permᴰ·cons as perm-cons, List·Permᴰ·swap as perm-swap, nil≢cons}
-use mathlib.Core.List.{List·Permᴰ·trans as perm-trans}
+use mathlib.Core.List.{List, [], _∷_, List·Permᴰ·swap as perm-swap, nil≢cons}
 use mathlib.Core.List.{head-eq-of-cons-eq, tail-eq-of-cons-eq}
-use Prim.Native.Nat.{ℕ, suc}
+use Prim.Native.Nat.{ℕ}
 use native.Mathlib.Omega.{arith}
 use lib.Dec.{T, eqb, eqb→eq}
-use lib.ListN.{length}
 use Rattle.forms.specs.Lists.{keep}
 use Rattle.forms.specs.Forms.{Did}
 use Rattle.forms.specs.declared.DoneRule.the-variants.{DidInc, DidNot}
 use Rattle.rules.specs.Book.{touches}
 use Rattle.recovery.specs.Claim.{shares, beside}
-use Rattle.recovery.specs.Arrival.{Rearranged, StandsBefore, SameWork}
+use Rattle.recovery.specs.Arrival.{StandsBefore, SameWork}
 use Rattle.recovery.specs.ArrivalLaws.{same-work}
 
 -- (did 5 (inc 0 1 1 7))
@@ -34,16 +32,6 @@ seven =
           record { rule = DidNot; history = 0; version = 1; place = 2; operand = 0 }
           ∷ record { rule = DidNot; history = 1; version = 1; place = 2; operand = 0 } ∷ [];
     }
-
--- "rearrangements": a line that stands twice is no rearrangement of the same line once, though the lines are the same as a set.
-twice : Rearranged (five ∷ five ∷ []) (five ∷ []) → ⊥
-twice p = let e : _≡_ {A = ℕ} 2 1 = same-length p in omega (arith, e)
-  where
-    same-length : {a b : List Did} → Rearranged a b → length a ≡ length b
-    same-length perm-nil = refl
-    same-length (perm-cons e p) = ap suc (same-length p)
-    same-length (perm-swap e f) = refl
-    same-length (perm-trans p q) = same-length p ∙ same-length q
 
 -- "stand in the same order" is not said of neighbours alone: line 5 stands before line 7, with line 6 between.
 apart : StandsBefore (five ∷ six ∷ seven ∷ []) five seven

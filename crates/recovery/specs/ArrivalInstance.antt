@@ -28,8 +28,8 @@ use Rattle.rules.specs.Calls.{redoRefusal, behind, pick, drain, delivered, redo
 use Rattle.rules.specs.Calls.{Changeover, changeover, openFull, openRefusal, openSite, show, withdrawRefusal, withdraw, Redo}
 use Rattle.rules.specs.Checks.{check, andThen, wrongCount, noSuchHistory, historyTwice, updateMisfits, changeMisfitsWith, formRefusal}
 use Rattle.rules.specs.Checks.{updatesRefusal, changesRefusalWith}
-use Rattle.rules.specs.Good.{Good}
-use Rattle.rules.specs.GoodLaws.{good-run}
+use Rattle.rule_laws.specs.Good.{Good}
+use Rattle.rule_laws.specs.GoodLaws.{good-run}
 use Rattle.rules.specs.Keeper.{sameBytes}
 use Rattle.rules.specs.Log.{readSecond, baseFits, inOrder, headText, stablesFrom, stablesAt, weaveFrom, markFrom, upToDid, reported}
 use Rattle.rules.specs.Log.{ended, linesText, logText, linesFrom, restFrom, historiesFit, acceptsWith, rises, follows, liveIn}

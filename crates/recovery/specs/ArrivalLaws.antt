@@ -13,11 +13,11 @@ use Rattle.forms.specs.Lists.{keep}
 use Rattle.forms.specs.ListLaws.{Nodup, nodup-mid, nodup-right, mem-split, mem-mid, mem-widen, mem-along}
 use Rattle.forms.specs.Forms.{Did, didText}
 use Rattle.rules.specs.Book.{touches}
-use Rattle.rules.specs.BookLaws.{proj, proj-mid}
+use Rattle.rule_laws.specs.BookLaws.{proj, proj-mid}
 use Rattle.rules.specs.State.{startOf, State, linesIn, logBytes}
-use Rattle.rules.specs.Good.{Good}
-use Rattle.rules.specs.KeptLaws.{good-reads}
-use Rattle.rules.specs.WeaveLaws.{dids-weave}
+use Rattle.rule_laws.specs.Good.{Good}
+use Rattle.rule_laws.specs.KeptLaws.{good-reads}
+use Rattle.rule_laws.specs.WeaveLaws.{dids-weave}
 use Rattle.rules.specs.Calls.{Cut}
 use Rattle.rules.specs.Run.{run}
 use Rattle.recovery.specs.Claim.{lostBy, shares, Closed, Comes, came}

@@ -15,9 +15,9 @@ use Rattle.rules.specs.State.{State, Reply, refused, ok, settle, linesIn}
 use Rattle.rules.specs.Calls.{Call, Add, Finish, Withdraw, Persistent, Stable, Show, Cut, Changeover, Redo, End, step}
 use Rattle.rules.specs.Keeper.{sameBytes}
 use Rattle.rules.specs.Examples.{same-bytes}
-use Rattle.rules.specs.Good.{Good}
+use Rattle.rule_laws.specs.Good.{Good}
 use Rattle.rules.specs.Run.{run}
-use Rattle.rules.specs.GoodLaws.{good-run}
+use Rattle.rule_laws.specs.GoodLaws.{good-run}
 use Rattle.recovery.specs.Claim.{countedAfter, counted, Fair, Comes, came, Asked}
 use Rattle.recovery.specs.Cuts.{cutting}
 use Rattle.recovery.specs.Recovery.{run-append}
@@ -115,7 +115,8 @@ module _ (lost : List Did) (chosen : Did → Bool) where
         (subst (λ (l : List Call). T (fine (counted m l s) (run l s) c (step c (run l s)))) (append-assoc xs (Cut k room ∷ []) a)
         (subst (λ (i : ℕ). T (fine i (run (first ++ a) s) c (step c (run (first ++ a) s)))) (sym (counted-append first a m s))
         (subst (λ (z : State). T (fine (counted (counted m first s) a (run first s)) z c (step c z))) (sym (run-append first a s))
-        (fine-at a c b (counted m first s) (run first s) (subst (λ (l : List Call). T (allFine (counted m first s) (run first s) l)) e t)))))
+        (fine-at a c b (counted m first s) (run first s)
+        (subst (λ (l : List Call). T (allFine (counted m first s) (run first s) l)) e t)))))
       where
         first : List Call
         first = xs ++ Cut k room ∷ []
@@ -126,7 +127,8 @@ module _ (lost : List Did) (chosen : Did → Bool) where
     asked-of t u =
         record {
           cuts =
-              λ a j r b after answer e q. fair-of _ j r _ after answer (good-run (xs ++ Cut k room ∷ a) s start) q (may-be t a (Cut j r) b e after answer q);
+              λ a j r b after answer e q. fair-of _ j r _ after answer (good-run (xs ++ Cut k room ∷ a) s start) q
+              (may-be t a (Cut j r) b e after answer q);
           redos = λ a line b after answer e q. brings-is line (may-be t a (Redo line) b e after answer q);
           changeovers = λ a n r b after answer e q. may-be t a (Changeover n r) b e after answer q;
           ends = λ a b after answer e q. may-be t a End b e after answer q;

@@ -19,12 +19,12 @@ use Rattle.rules.specs.Calls.{opened, openSite, inProgress, finish, add, withdr
 use Rattle.rules.specs.Calls.{stable, show, restarted, restartAs, restart, cut, redo, end, Call, Add}
 use Rattle.rules.specs.Calls.{Finish, Withdraw, Persistent, Stable, Show, Cut, Changeover, Redo, End, changeover, perform, step}
 use Rattle.rules.specs.Trim.{trimText}
-use Rattle.rules.specs.CheckLaws.{refused-not-ok, unless-ok, unless-check}
-use Rattle.rules.specs.Good.{Good, Rises}
-use Rattle.rules.specs.GoodLaws.{good-step}
+use Rattle.rule_laws.specs.CheckLaws.{refused-not-ok, unless-ok, unless-check}
+use Rattle.rule_laws.specs.Good.{Good, Rises}
+use Rattle.rule_laws.specs.GoodLaws.{good-step}
 use Rattle.rules.specs.Book.{baseOf}
-use Rattle.rules.specs.WeaveLaws.{unweave, mark-front, rises-front, reported-front}
-use Rattle.rules.specs.GrowLaws.{ok-state, Grows, grows-as, grows-same, grows-finish, grows-redo, grows-stable}
+use Rattle.rule_laws.specs.WeaveLaws.{unweave, mark-front, rises-front, reported-front}
+use Rattle.rule_laws.specs.GrowLaws.{ok-state, Grows, grows-as, grows-same, grows-finish, grows-redo, grows-stable}
 use Rattle.rules.specs.Run.{run}
 use Rattle.recovery.specs.Claim.{Start, justOpened, justRestarted, countedAfter, counted}
 
@@ -112,7 +112,8 @@ counts-persistent m n st p G c =
 
     rest : Prefix R (take M L)
     rest =
-        subst (λ (x : List Line). Prefix x (take M L)) (take-front (length R) R L front (omega arith) ∙ take-length R) (take-less (length R) M L (omega arith))
+        subst (λ (x : List Line). Prefix x (take M L)) (take-front (length R) R L front (omega arith) ∙ take-length R)
+        (take-less (length R) M L (omega arith))
 
 counts-ok : (c : Call) (m : ℕ) (st after : State) (answer : Answer) → Good st → Counts m st → perform c st ≡ ok after answer →
     Counts (countedAfter c (ok after answer) m) after

@@ -3,14 +3,16 @@ use mathlib.Core.Path.{_≡_, refl, sym, ap, _∙_, subst}
 use mathlib.Core.Logic.{_⊎_, inl, inr, _↔_}
 use mathlib.Core.Bool.{Bool, true, false, cond, not, _&&_}
 use mathlib.Core.List.{List, [], _∷_, _++_, append-assoc, append-nil, append-cancel-left}
-use mathlib.Core.List.{List·Memᴰ as Mem, List·Memᴰ·head as here, List·Memᴰ·tail as there, List·Memᴰ·not-nil, List·Memᴰ·cases-cons, Memᴰ·cast, Memᴰ·append-left, Memᴰ·append-right, List·Memᴰ·append-cases}
+use mathlib.Core.List.{List·Memᴰ as Mem, List·Memᴰ·head as here, List·Memᴰ·tail as there, List·Memᴰ·not-nil, List·Memᴰ·cases-cons}
+use mathlib.Core.List.{Memᴰ·cast, Memᴰ·append-left, Memᴰ·append-right, List·Memᴰ·append-cases}
 use Prim.Native.Nat.{ℕ}
 use lib.Dec.{T, T-not, not-T, eqb→eq, eqb-refl}
 use Rattle.forms.specs.Lists.{any, keep}
-use Rattle.forms.specs.ListLaws.{Prefix, mid, mem-split, mem-at, mem-along, mem-snoc, Nodup, nodup-right, nodup-apart, nodup-keep, true-T, false-T, and-intro, and-left, and-right, any-at, any-of, mem-keep, mem-of-keep}
+use Rattle.forms.specs.ListLaws.{Prefix, mid, mem-split, mem-at, mem-along, mem-snoc, Nodup, nodup-right, nodup-apart, nodup-keep, true-T}
+use Rattle.forms.specs.ListLaws.{false-T, and-intro, and-left, and-right, any-at, any-of, mem-keep, mem-of-keep}
 use Rattle.forms.specs.Forms.{Base, Change, Did}
 use Rattle.rules.specs.Book.{cell, canRun, touches}
-use Rattle.rules.specs.BookLaws.{proj, touches-of, touches-at, cell-same, proj-append}
+use Rattle.rule_laws.specs.BookLaws.{proj, touches-of, touches-at, cell-same, proj-append}
 use Rattle.recovery.specs.Claim.{beside, shares, Traced, direct, further, Closed, Just, none, with, without}
 use Rattle.recovery.specs.Invariant.{Setting, nodup-first, not-kept, Inv, can-run-next, before-ran}
 
@@ -27,8 +29,10 @@ pub shares-at : (d e : Did) → T (shares d e) → (h : ℕ) × T (touches h e) 
 unfolding shares beside
 shares-at d e t = go (any-at (λ x. any (beside x) (e .changes)) (d .changes) t)
   where
-    found : (x : Change) → Mem x (d .changes) → (y : Change) × Mem y (e .changes) × T (beside x y) → (h : ℕ) × T (touches h e) × T (touches h d)
-    found x m (y, k, s) = (x .history, subst (λ (h : ℕ). T (touches h e)) (sym (eqb→eq (x .history) (y .history) s)) (touches-of e k), touches-of d m)
+    found : (x : Change) → Mem x (d .changes) → (y : Change) × Mem y (e .changes) × T (beside x y) →
+        (h : ℕ) × T (touches h e) × T (touches h d)
+    found x m (y, k, s) =
+        (x .history, subst (λ (h : ℕ). T (touches h e)) (sym (eqb→eq (x .history) (y .history) s)) (touches-of e k), touches-of d m)
 
     go : (x : Change) × Mem x (d .changes) × T (any (beside x) (e .changes)) → (h : ℕ) × T (touches h e) × T (touches h d)
     go (x, m, s) = found x m (any-at (beside x) (e .changes) s)
@@ -48,7 +52,8 @@ closed-every L chosen every d m = record { itself = every d m; traced = λ e t. 
 -- ### Just the lines of which P holds
 
 module _ {P : Did → Type 0} where
-  just-cons : {d : Did} {l k : List Did} → Just P (d ∷ l) k → ((k′ : List Did) × (k ≡ d ∷ k′) × P d × Just P l k′) ⊎ ((P d → ⊥) × Just P l k)
+  just-cons : {d : Did} {l k : List Did} → Just P (d ∷ l) k →
+      ((k′ : List Did) × (k ≡ d ∷ k′) × P d × Just P l k′) ⊎ ((P d → ⊥) × Just P l k)
   just-cons (with {k = k′} p J) = inl (k′, refl, p, J)
   just-cons (without q J) = inr (q, J)
 
@@ -89,7 +94,8 @@ module _ {P : Did → Type 0} where
   just-one none k′ J = sym (just-nothing J (λ d m. absurd (List·Memᴰ·not-nil m)))
   just-one (with {d} {l} {k} p H) k′ J = go (just-cons J) (λ j I. just-one H j I)
     where
-      go : ((j : List Did) × (k′ ≡ d ∷ j) × P d × Just P l j) ⊎ ((P d → ⊥) × Just P l k′) → ((j : List Did) → Just P l j → k ≡ j) → d ∷ k ≡ k′
+      go : ((j : List Did) × (k′ ≡ d ∷ j) × P d × Just P l j) ⊎ ((P d → ⊥) × Just P l k′) → ((j : List Did) → Just P l j → k ≡ j) →
+          d ∷ k ≡ k′
       go (inl (j, e, q, I)) below = ap {B = List Did} (λ z. d ∷ z) (below j I) ∙ sym e
       go (inr (q, I)) below = absurd (q p)
   just-one (without {d} {l} {k} q H) k′ J = go (just-cons J) (λ j I. just-one H j I)
@@ -113,7 +119,8 @@ module _ (L : List Did) (chosen : Did → Bool) (once : Nodup L) where
 
   module _
       (A bad : List Did) (d : Did) (B : List Did) (at : L ≡ A ++ d ∷ B)
-      (or-bad : (e : Did) → Mem e A → Closed L chosen e ⊎ Mem e bad) (is-bad : (e : Did) → Mem e bad → Mem e A × (Closed L chosen e → ⊥)) where
+      (or-bad : (e : Did) → Mem e A → Closed L chosen e ⊎ Mem e bad)
+      (is-bad : (e : Did) → Mem e bad → Mem e A × (Closed L chosen e → ⊥)) where
     -- What stood before d stands in A.
     before : (a : List Did) (e : Did) (b c : List Did) → L ≡ a ++ e ∷ b ++ d ∷ c → Mem e A
     before a e b c p = go (mid (a ++ e ∷ b) (d ∷ c) A d B (sym p ∙ at))
@@ -146,7 +153,8 @@ module _ (L : List Did) (chosen : Did → Bool) (once : Nodup L) where
   unfolding closed
   closed-from A bad [] at or-bad is-bad = none
   closed-from A bad (d ∷ B) at or-bad is-bad =
-      go (chosen d && not (any (shares d) bad)) refl (λ bad′ o i. closed-from (A ++ d ∷ []) bad′ B (at ∙ sym (append-assoc A (d ∷ []) B)) o i)
+      go (chosen d && not (any (shares d) bad)) refl
+      (λ bad′ o i. closed-from (A ++ d ∷ []) bad′ B (at ∙ sym (append-assoc A (d ∷ []) B)) o i)
     where
       Below : Type 0
       Below =
@@ -155,7 +163,8 @@ module _ (L : List Did) (chosen : Did → Bool) (once : Nodup L) where
 
       go : (b : Bool) → (chosen d && not (any (shares d) bad)) ≡ b → Below →
           Just (Closed L chosen) (d ∷ B) (cond b (d ∷ closed chosen bad B) (closed chosen (d ∷ bad) B))
-      go true e below = with r (below bad (λ f k. more f (mem-snoc A k)) (λ f k. (Memᴰ·append-left (d ∷ []) (is-bad f k .0), is-bad f k .1)))
+      go true e below =
+          with r (below bad (λ f k. more f (mem-snoc A k)) (λ f k. (Memᴰ·append-left (d ∷ []) (is-bad f k .0), is-bad f k .1)))
         where
           r : Closed L chosen d
           r = test-closed A bad d B at or-bad is-bad (true-T (chosen d && not (any (shares d) bad)) e)
@@ -229,7 +238,8 @@ module _
         lost = mem-along (sym e) (mem-at d A C)
 
         traced : (f : Did) (h : ℕ) → Mem f A → T (touches h f) → T (touches h d) → Traced L d f
-        traced f h k tf td = let q = mem-split k in direct (q .0) f (q .1) d C (e ∙ ap {B = List Did} (λ x. x ++ d ∷ C) (q .2)) (shares-of h d f tf td)
+        traced f h k tf td =
+            let q = mem-split k in direct (q .0) f (q .1) d C (e ∙ ap {B = List Did} (λ x. x ++ d ∷ C) (q .2)) (shares-of h d f tf td)
 
         before : (f : Did) (h : ℕ) → Mem f K ⊎ Mem f A → T (touches h f) → T (touches h d) → Mem f log
         before f h (inl k) tf td = mem-along (sym (I .split)) (Memᴰ·append-left (I .ran) k)

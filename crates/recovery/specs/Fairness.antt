@@ -16,15 +16,15 @@ use Rattle.rules.specs.Log.{headText, mark, journal, logText, readLog}
 use Rattle.forms.specs.Limits.{logLimit}
 use Rattle.rules.specs.State.{startOf, State, linesIn, logBytes}
 use Rattle.rules.specs.Calls.{baseCut, restarted, restartAs, cutAbove, cut, writable, perform, step}
-use Rattle.rules.specs.Good.{Good}
-use Rattle.rules.specs.CheckLaws.{none-check, unless-none, le-not-lt, or-false}
-use Rattle.rules.specs.FitLaws.{fit, fit-prefix, fit-keeps, length-log}
-use Rattle.rules.specs.WeaveLaws.{mark-front, rises-front}
-use Rattle.rules.specs.LogLaws.{read-end}
-use Rattle.rules.specs.CutLaws.{cut-reads}
+use Rattle.rule_laws.specs.Good.{Good}
+use Rattle.rule_laws.specs.CheckLaws.{none-check, unless-none, le-not-lt, or-false}
+use Rattle.rule_laws.specs.FitLaws.{fit, fit-prefix, fit-keeps, length-log}
+use Rattle.rule_laws.specs.WeaveLaws.{mark-front, rises-front}
+use Rattle.rule_laws.specs.LogLaws.{read-end}
+use Rattle.rule_laws.specs.CutLaws.{cut-reads}
 use Rattle.recovery.specs.Claim.{Fair}
 use Rattle.recovery.specs.Counted.{Counts, take-begins}
-use Rattle.rules.specs.KeptLaws.{good-stand, kept-holds}
+use Rattle.rule_laws.specs.KeptLaws.{good-stand, kept-holds}
 use Rattle.recovery.specs.Cuts.{lines-restarted}
 
 module _ (m k room : ℕ) (st : State) (G : Good st) (C : Counts m st) where

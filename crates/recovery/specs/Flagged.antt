@@ -6,7 +6,7 @@ use mathlib.Core.Option.{some}
 use Rattle.rules.specs.State.{State, settle}
 use Rattle.rules.specs.Calls.{Call}
 use Rattle.rules.specs.When.{stepWhen}
-use Rattle.rules.specs.WhenLaws.{step-ten}
+use Rattle.rule_laws.specs.WhenLaws.{step-ten}
 use Rattle.recovery.specs.Host.{Host, Playing, HostClaim, HostArrival}
 use Rattle.recovery.specs.HostLaws.{host-recovery, host-arrival}
 

@@ -1,5 +1,6 @@
--- The recovery claim of a site that does not stand alone: one of a module's (request (m) of 02), or one that is refused 10 from outside. It is proved in HostLaws.
--- The words are those of Claim, over the moves of what carries the site; a move is a call of this site, or another's.
+-- The recovery claim of a site that does not stand alone: one of a module's (request (m) of 02), or one that is refused 10 from outside. It
+-- is proved in HostLaws. The words are those of Claim, over the moves of what carries the site; a move is a call of this site, or
+-- another's.
 use mathlib.Core.Path.{_≡_}
 use mathlib.Core.Logic.{_⊎_}
 use mathlib.Core.Bool.{Bool}
@@ -33,7 +34,8 @@ module _ (H : Host) where
   abbrev pub Plays : Option Call → H .Move → H .World → Type 0
   Plays none x w = H .site (H .next x w) ≡ H .site w
   Plays (some c) x w =
-      (H .site (H .next x w) ≡ settle (H .reply x w) (H .site w)) × ((H .reply x w ≡ refused TableFull) ⊎ (H .reply x w ≡ step c (H .site w)))
+      (H .site (H .next x w) ≡ settle (H .reply x w) (H .site w))
+      × ((H .reply x w ≡ refused TableFull) ⊎ (H .reply x w ≡ step c (H .site w)))
 
   unfoldable pub runIn : List (H .Move) → H .World → H .World
   runIn [] w = w
@@ -69,11 +71,15 @@ module _ (H : Host) where
     pub noShorter : H .site w .room ≤ room
 
   -- Claim's `Asked`
-  pub record AskedIn (m : ℕ) (w : H .World) (upTo : List (H .Move) → List (H .Move)) (ys : List (H .Move)) (lost : List Did) (chosen : Did → Bool) : Type 0 where
+  pub record AskedIn (m : ℕ) (w : H .World) (upTo : List (H .Move) → List (H .Move)) (ys : List (H .Move)) (lost : List Did)
+      (chosen : Did → Bool) : Type 0 where
     pub cuts : (a : List (H .Move)) (x : H .Move) (b : List (H .Move)) (k room : ℕ) (after : State) (answer : Answer) → ys ≡ a ++ x ∷ b →
-        H .own x ≡ some (Cut k room) → H .reply x (runIn (upTo a) w) ≡ ok after answer → FairIn (countedIn m (upTo a) w) k room x (runIn (upTo a) w) after
-    pub redos : (a : List (H .Move)) (x : H .Move) (b : List (H .Move)) (line : List ℕ) (after : State) (answer : Answer) → ys ≡ a ++ x ∷ b →
-        H .own x ≡ some (Redo line) → H .reply x (runIn (upTo a) w) ≡ ok after answer → (d : Did) × Mem d lost × T (chosen d) × (line ≡ didText d)
+        H .own x ≡ some (Cut k room) → H .reply x (runIn (upTo a) w) ≡ ok after answer →
+        FairIn (countedIn m (upTo a) w) k room x (runIn (upTo a) w) after
+    pub redos : (a : List (H .Move)) (x : H .Move) (b : List (H .Move)) (line : List ℕ) (after : State) (answer : Answer) →
+        ys ≡ a ++ x ∷ b →
+        H .own x ≡ some (Redo line) → H .reply x (runIn (upTo a) w) ≡ ok after answer →
+        (d : Did) × Mem d lost × T (chosen d) × (line ≡ didText d)
     pub changeovers : (a : List (H .Move)) (x : H .Move) (b : List (H .Move)) (n room : ℕ) (after : State) (answer : Answer) →
         ys ≡ a ++ x ∷ b → H .own x ≡ some (Changeover n room) → H .reply x (runIn (upTo a) w) ≡ ok after answer → ⊥
     pub ends : (a : List (H .Move)) (x : H .Move) (b : List (H .Move)) (after : State) (answer : Answer) → ys ≡ a ++ x ∷ b →

@@ -15,9 +15,9 @@ use Rattle.rules.specs.Book.{baseOf}
 use Rattle.rules.specs.State.{startOf, State, Reply, refused, ok, settle, linesIn, live}
 use Rattle.rules.specs.Calls.{Call, Add, Finish, Withdraw, Persistent, Stable, Show, Cut, Changeover, Redo, End, step}
 use Rattle.rules.specs.Log.{mark}
-use Rattle.rules.specs.CheckLaws.{refused-not-ok}
-use Rattle.rules.specs.Good.{Good}
-use Rattle.rules.specs.GoodLaws.{good-step}
+use Rattle.rule_laws.specs.CheckLaws.{refused-not-ok}
+use Rattle.rule_laws.specs.Good.{Good}
+use Rattle.rule_laws.specs.GoodLaws.{good-step}
 use Rattle.recovery.specs.Claim.{countedAfter, lostBy, comesAfter, Recovered}
 use Rattle.recovery.specs.Cuts.{skip, Picked, Cutting, cutting, left-kept, picked-at, were-live, cut-live}
 use Rattle.recovery.specs.Steps.{Site, fresh-below, redo-full}
@@ -79,7 +79,8 @@ module _ (H : Host) where
       (subst (λ (r : Reply). Counts (countedAfter c r m) (H .site w)) (sym e) k)
   counted-move (some c) x w m (p, inr e) G k =
       subst (Counts (countedAfter c (H .reply x w) m)) (sym (p ∙ ap (λ (r : Reply). settle r (H .site w)) e))
-      (subst (λ (r : Reply). Counts (countedAfter c r m) (settle (step c (H .site w)) (H .site w))) (sym e) (counts-step c m (H .site w) G k))
+      (subst (λ (r : Reply). Counts (countedAfter c r m) (settle (step c (H .site w)) (H .site w))) (sym e)
+      (counts-step c m (H .site w) G k))
 
   pub counted-in : (xs : List (H .Move)) (m : ℕ) (w : H .World) → Playing H xs w → Good (H .site w) → Counts m (H .site w) →
       Counts (countedIn H m xs w) (H .site (runIn H xs w))
@@ -126,7 +127,8 @@ module _ (H : Host) where
     unfolding upTo
     playing-to a b e =
         playing-first (l .xs ++ l .x ∷ a) b (l .start)
-        (subst (λ (z : List (H .Move)). Playing H z (l .start)) (ap {B = List (H .Move)} (λ z. l .xs ++ l .x ∷ z) e ∙ sym (append-assoc (l .xs) (l .x ∷ a) b)) (l .plays))
+        (subst (λ (z : List (H .Move)). Playing H z (l .start))
+        (ap {B = List (H .Move)} (λ z. l .xs ++ l .x ∷ z) e ∙ sym (append-assoc (l .xs) (l .x ∷ a) b)) (l .plays))
 
     start-is : Good (H .site (l .start))
     start-is = start-good (l .m) (H .site (l .start)) (l .begins)
@@ -144,7 +146,8 @@ module _ (H : Host) where
     -- The picked cut is one of 01.
     cut-plays : Plays H (some (Cut (l .k) (l .room))) (l .x) (runIn H (l .xs) (l .start))
     cut-plays =
-        subst (λ (o : Option Call). Plays H o (l .x) (runIn H (l .xs) (l .start))) (l .fair .isCut) (playing-at (l .xs) (l .x) (l .ys) (l .start) (l .plays))
+        subst (λ (o : Option Call). Plays H o (l .x) (runIn H (l .xs) (l .start))) (l .fair .isCut)
+        (playing-at (l .xs) (l .x) (l .ys) (l .start) (l .plays))
 
     accepted : step (Cut (l .k) (l .room)) before ≡ ok (l .after) (l .fair .answer)
     unfolding before
@@ -198,7 +201,8 @@ module _ (H : Host) where
     unfolding lines-of upTo comesAfter
     none-came =
         came-snoc [] (l .xs) (l .x) (l .start)
-        ∙ ap (λ (o : Option Call). cameOn H o (H .reply (l .x) (runIn H (l .xs) (l .start))) (cameIn H [] (l .xs) (l .start))) (l .fair .isCut)
+        ∙ ap (λ (o : Option Call). cameOn H o (H .reply (l .x) (runIn H (l .xs) (l .start))) (cameIn H [] (l .xs) (l .start)))
+        (l .fair .isCut)
         ∙ ap (λ (r : Reply). comesAfter (Cut (l .k) (l .room)) r (cameIn H [] (l .xs) (l .start))) (l .fair .accepted)
 
     good-at : (a b : List (H .Move)) → l .ys ≡ a ++ b → Good (H .site (at-world a))
@@ -266,8 +270,10 @@ module _ (H : Host) where
     move-keeps a x b e none o p G = (G .counted, subst (λ (s : State). At (lines-of a) s) (sym p) (G .at))
     move-keeps a x b e (some c) o (p, inl q) G = (
       subst (λ (r : Reply). length KL ≤ countedAfter c r (countedIn H (l .m) (upTo a) (l .start))) (sym q) (G .counted),
-      subst (λ (s : State). At (comesAfter c (H .reply x (at-world a)) (lines-of a)) s) (sym (p ∙ ap (λ (r : Reply). settle r (H .site (at-world a))) q))
-          (subst (λ (r : Reply). At (comesAfter c r (lines-of a)) (H .site (at-world a))) (sym q) (refused-ten a x b e c o q (lines-of a) (G .at))),
+      subst (λ (s : State). At (comesAfter c (H .reply x (at-world a)) (lines-of a)) s)
+          (sym (p ∙ ap (λ (r : Reply). settle r (H .site (at-world a))) q))
+          (subst (λ (r : Reply). At (comesAfter c r (lines-of a)) (H .site (at-world a))) (sym q)
+          (refused-ten a x b e c o q (lines-of a) (G .at))),
     )
     move-keeps a x b e (some c) o (p, inr q) G =
         let O : Obeying (H .site (at-world a)) c = obeys a x b e c o (G .counted) (enough a G) q in (
@@ -306,11 +312,18 @@ module _ (H : Host) where
         next =
             record {
               counted =
-                  omega (arith, made .0, counted-snoc (l .m) (upTo a) x (l .start), ap (λ (z : List (H .Move)). countedIn H (l .m) z (l .start)) longer);
+                  omega (
+                    arith,
+                    made .0,
+                    counted-snoc (l .m) (upTo a) x (l .start),
+                    ap (λ (z : List (H .Move)). countedIn H (l .m) z (l .start)) longer,
+                  );
               at =
                   subst (λ (z : List (H .Move)). At (cameIn H [] z (l .start)) (H .site (runIn H z (l .start)))) (sym longer)
-                  (subst (λ (z : List (List ℕ)). At z (H .site (runIn H (upTo a ++ x ∷ []) (l .start)))) (sym (came-snoc [] (upTo a) x (l .start)))
-                  (subst (λ (w : H .World). At (cameOn H (H .own x) (H .reply x (at-world a)) (lines-of a)) (H .site w)) (sym (run-snoc (upTo a) x (l .start))) (made .1)));
+                  (subst (λ (z : List (List ℕ)). At z (H .site (runIn H (upTo a ++ x ∷ []) (l .start))))
+                  (sym (came-snoc [] (upTo a) x (l .start)))
+                  (subst (λ (w : H .World). At (cameOn H (H .own x) (H .reply x (at-world a)) (lines-of a)) (H .site w))
+                  (sym (run-snoc (upTo a) x (l .start))) (made .1)));
             }
 
     first-counted : length KL ≤ countedIn H (l .m) (upTo []) (l .start)
@@ -319,7 +332,8 @@ module _ (H : Host) where
         omega (
           arith,
           counted-snoc (l .m) (l .xs) (l .x) (l .start),
-          ap (λ (o : Option Call). countedOn H o (H .reply (l .x) (runIn H (l .xs) (l .start))) (countedIn H (l .m) (l .xs) (l .start))) (l .fair .isCut),
+          ap (λ (o : Option Call). countedOn H o (H .reply (l .x) (runIn H (l .xs) (l .start))) (countedIn H (l .m) (l .xs) (l .start)))
+              (l .fair .isCut),
           ap (λ (r : Reply). countedAfter (Cut (l .k) (l .room)) r (countedIn H (l .m) (l .xs) (l .start))) (l .fair .accepted),
         )
 

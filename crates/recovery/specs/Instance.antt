@@ -32,10 +32,10 @@ use Rattle.rules.specs.Calls.{tableFull, addRefusal, arrived, add, changeOf, li
 use Rattle.rules.specs.Calls.{finished, finishFound, finish, withdrawRefusal, withdraw, persistent, stable, show, restarted, restartAs}
 use Rattle.rules.specs.Calls.{restart, cutAbove, cut, stale, redoRefusal, behind, pick, drain, delivered, redoRead, redo, end}
 use Rattle.rules.specs.Calls.{writableUpdate, writable, perform, step, aboveMark, stableFull, stableRefusal, stabled}
-use Rattle.rules.specs.Good.{Good, didIds}
+use Rattle.rule_laws.specs.Good.{Good, didIds}
 use Rattle.rules.specs.Keeper.{sameBytes}
 use Rattle.rules.specs.Run.{run}
-use Rattle.rules.specs.GoodLaws.{good-open, good-run}
+use Rattle.rule_laws.specs.GoodLaws.{good-open, good-run}
 use Rattle.recovery.specs.Claim.{none, Start, justOpened, direct, further, Closed, HasRun, counted, countedAfter, comesAfter}
 use Rattle.recovery.specs.Claim.{cameFrom, came, lostBy, shares, beside, Fair, Asked, Shows, Recovered}
 use Rattle.recovery.specs.Ending.{closed}
@@ -88,7 +88,18 @@ abbrev pub start : State
 start = opened 3 65536
 
 opens : openSite 3 65536 ≡ ok start Opened
-unfolding replacedWith profileOf run enteredWith enterWith enterAllWith cellFromWith cellWith startCell touches runsAt canRunWith unless openFull openRefusal opened openSite blockedBy blocked mayRunNow ready attempt tryFrom madeReady neverNow holdsNever overtaken notOvertaken overtakenIds nothingOrders idPending idDone alreadyDone readOvertaken atHighest tableFull addRefusal arrived add changeOf lineOf valuesAfter inProgress future without logFull finished finishFound finish withdrawRefusal withdraw persistent aboveMark stableFull stableRefusal stabled stable show restarted restartAs restart cutAbove baseCut cut stale redoRefusal behind pick drain delivered redoRead redo end writableUpdate writable perform step check andThen wrongCount noSuchHistory historyTwice updateMisfits changeMisfitsWith formRefusal updatesRefusal changesRefusalWith stablesFrom stablesAt weaveFrom markFrom upToDid reported ended didsText linesText logText headText linesFrom restFrom historiesFit acceptsWith rises follows liveIn tableHolds inOrder baseFits readLines readSecond readFirst readLog logBytes versionAt liveDone live asks dry becameDry rose lineBytes bytesOf settle below digitsWithin digits more number word fieldText fieldsText itemsText tailText listText changeText oneText siteText didText stableText lineText reading.field reading.doneRule reading.change reading.one reading.did reading.items reading.tail reading.line readWhole readDid readLine reading.baseCell reading.base readBase readSite counted countedAfter
+unfolding replacedWith profileOf run enteredWith enterWith enterAllWith cellFromWith cellWith startCell touches runsAt canRunWith unless
+    openFull openRefusal opened openSite blockedBy blocked mayRunNow ready attempt tryFrom madeReady neverNow holdsNever overtaken
+    notOvertaken overtakenIds nothingOrders idPending idDone alreadyDone readOvertaken atHighest tableFull addRefusal arrived add changeOf
+    lineOf valuesAfter inProgress future without logFull finished finishFound finish withdrawRefusal withdraw persistent aboveMark
+    stableFull stableRefusal stabled stable show restarted restartAs restart cutAbove baseCut cut stale redoRefusal behind pick drain
+    delivered redoRead redo end writableUpdate writable perform step check andThen wrongCount noSuchHistory historyTwice updateMisfits
+    changeMisfitsWith formRefusal updatesRefusal changesRefusalWith stablesFrom stablesAt weaveFrom markFrom upToDid reported ended didsText
+    linesText logText headText linesFrom restFrom historiesFit acceptsWith rises follows liveIn tableHolds inOrder baseFits readLines
+    readSecond readFirst readLog logBytes versionAt liveDone live asks dry becameDry rose lineBytes bytesOf settle below digitsWithin digits
+    more number word fieldText fieldsText itemsText tailText listText changeText oneText siteText didText stableText lineText reading.field
+    reading.doneRule reading.change reading.one reading.did reading.items reading.tail reading.line readWhole readDid readLine
+    reading.baseCell reading.base readBase readSite counted countedAfter
 opens = refl
 
 pub started : Start 0 start
@@ -134,7 +145,8 @@ module _ (xs : List Call) (k : ℕ) (base : Option Base) (kept : List Line) (fro
       abbrev pub final : State
       final = run calls start
 
-      -- What the rules compute: what is asked of ys holds; the bytes behind the kept lines, what `end` names, and what `show` gives of history h.
+      -- What the rules compute: what is asked of ys holds; the bytes behind the kept lines, what `end` names, and what `show` gives of
+      -- history h.
       pub record Computed (text : List ℕ) (ids : List ℕ) (h : ℕ) (shown : Answer) : Type 0 where
         pub fine : T (allFine lost chosen (counted 0 (xs ++ Cut k 65536 ∷ []) start) (run (xs ++ Cut k 65536 ∷ []) start) ys)
         pub come : T (allCome lost chosen (came calls start))
@@ -185,7 +197,8 @@ lost1 = ten ∷ eleven ∷ twelve ∷ thirteen ∷ fourteen ∷ fifteen ∷ []
 abbrev xs1 : List Call
 xs1 =
     Add 9 (update Inc 2 1 256 ∷ []) ∷ Finish 9 ∷ Persistent 1 ∷ Stable 1
-    ∷ Add 10 (update Inc 0 1 513 ∷ []) ∷ Add 11 (update Not 0 1 0 ∷ update Inc 1 1 7 ∷ []) ∷ Add 10 (update Inc 0 1 513 ∷ []) ∷ Finish 10 ∷ Finish 11
+    ∷ Add 10 (update Inc 0 1 513 ∷ []) ∷ Add 11 (update Not 0 1 0 ∷ update Inc 1 1 7 ∷ []) ∷ Add 10 (update Inc 0 1 513 ∷ []) ∷ Finish 10
+    ∷ Finish 11
     ∷ Add 12 (update Set 0 9 1000 ∷ []) ∷ Finish 12 ∷ Add 13 (update Inc 2 2 300 ∷ []) ∷ Finish 13
     ∷ Add 14 (update Inc 2 3 5 ∷ update Not 1 1 0 ∷ []) ∷ Finish 14 ∷ Add 15 (update Not 1 1 0 ∷ []) ∷ Finish 15 ∷ []
 
@@ -194,7 +207,18 @@ abbrev front1 : List ℕ
 front1 = bytes "(site 3)\n(did 9 (inc 2 1 1 256))\n"
 
 to-cut1 : ToCut xs1 40 none (didLine nine ∷ []) front1 1 lost1 (Restarted 1 33)
-unfolding replacedWith profileOf run enteredWith enterWith enterAllWith cellFromWith cellWith startCell touches runsAt canRunWith unless openFull openRefusal opened openSite blockedBy blocked mayRunNow ready attempt tryFrom madeReady neverNow holdsNever overtaken notOvertaken overtakenIds nothingOrders idPending idDone alreadyDone readOvertaken atHighest tableFull addRefusal arrived add changeOf lineOf valuesAfter inProgress future without logFull finished finishFound finish withdrawRefusal withdraw persistent aboveMark stableFull stableRefusal stabled stable show restarted restartAs restart cutAbove baseCut cut stale redoRefusal behind pick drain delivered redoRead redo end writableUpdate writable perform step check andThen wrongCount noSuchHistory historyTwice updateMisfits changeMisfitsWith formRefusal updatesRefusal changesRefusalWith stablesFrom stablesAt weaveFrom markFrom upToDid reported ended didsText linesText logText headText linesFrom restFrom historiesFit acceptsWith rises follows liveIn tableHolds inOrder baseFits readLines readSecond readFirst readLog logBytes versionAt liveDone live asks dry becameDry rose lineBytes bytesOf settle below digitsWithin digits more number word fieldText fieldsText itemsText tailText listText changeText oneText siteText didText stableText lineText reading.field reading.doneRule reading.change reading.one reading.did reading.items reading.tail reading.line readWhole readDid readLine reading.baseCell reading.base readBase readSite counted countedAfter lostBy
+unfolding replacedWith profileOf run enteredWith enterWith enterAllWith cellFromWith cellWith startCell touches runsAt canRunWith unless
+    openFull openRefusal opened openSite blockedBy blocked mayRunNow ready attempt tryFrom madeReady neverNow holdsNever overtaken
+    notOvertaken overtakenIds nothingOrders idPending idDone alreadyDone readOvertaken atHighest tableFull addRefusal arrived add changeOf
+    lineOf valuesAfter inProgress future without logFull finished finishFound finish withdrawRefusal withdraw persistent aboveMark
+    stableFull stableRefusal stabled stable show restarted restartAs restart cutAbove baseCut cut stale redoRefusal behind pick drain
+    delivered redoRead redo end writableUpdate writable perform step check andThen wrongCount noSuchHistory historyTwice updateMisfits
+    changeMisfitsWith formRefusal updatesRefusal changesRefusalWith stablesFrom stablesAt weaveFrom markFrom upToDid reported ended didsText
+    linesText logText headText linesFrom restFrom historiesFit acceptsWith rises follows liveIn tableHolds inOrder baseFits readLines
+    readSecond readFirst readLog logBytes versionAt liveDone live asks dry becameDry rose lineBytes bytesOf settle below digitsWithin digits
+    more number word fieldText fieldsText itemsText tailText listText changeText oneText siteText didText stableText lineText reading.field
+    reading.doneRule reading.change reading.one reading.did reading.items reading.tail reading.line readWhole readDid readLine
+    reading.baseCell reading.base readBase readSite counted countedAfter lostBy
 to-cut1 = record { cuts = refl; keeps = refl; enough = tt; wide = refl; histories = refl; kept-text = refl; lost-is = refl }
 
 abbrev pub brings : Did → Call
@@ -203,12 +227,14 @@ brings d = Redo (didText d)
 abbrev but13 : Did → Bool
 but13 d = not (eqb (d .id) 13)
 
--- Lines out of order and more than once, a further cut that takes lines 11 and 12 off again, and then all of them anew, with an unreadable line and other
--- calls that are refused, a stable call among them. After the last cut the set of line 12 comes before the reader 11.
+-- Lines out of order and more than once, a further cut that takes lines 11 and 12 off again, and then all of them anew, with an unreadable
+-- line and other calls that are refused, a stable call among them. After the last cut the set of line 12 comes before the reader 11.
 abbrev some : List Call
 some =
-    brings twelve ∷ brings fifteen ∷ brings ten ∷ brings ten ∷ brings twelve ∷ brings eleven ∷ Persistent 2 ∷ Stable 2 ∷ Cut 200 65536 ∷ Cut 70 65536
-    ∷ brings twelve ∷ brings fifteen ∷ brings fourteen ∷ Redo (bytes "(did 14") ∷ brings fourteen ∷ brings ten ∷ Add 20 (update Inc 0 2 0 ∷ [])
+    brings twelve ∷ brings fifteen ∷ brings ten ∷ brings ten ∷ brings twelve ∷ brings eleven ∷ Persistent 2 ∷ Stable 2 ∷ Cut 200 65536
+    ∷ Cut 70 65536
+    ∷ brings twelve ∷ brings fifteen ∷ brings fourteen ∷ Redo (bytes "(did 14") ∷ brings fourteen ∷ brings ten
+    ∷ Add 20 (update Inc 0 2 0 ∷ [])
     ∷ Finish 11 ∷ brings eleven ∷ brings twelve ∷ Show 0 ∷ []
 
 abbrev ran-some : List ℕ
@@ -217,7 +243,18 @@ ran-some = bytes "(did 10 (inc 0 1 1 513))\n(did 11 (not 0 1 2 0)(inc 1 1 1 7))\
 -- `end` would name 15 and then 14, as they first came after the last cut.
 computed-some : Computed xs1 40 none (didLine nine ∷ []) front1 1 lost1 (Restarted 1 33) to-cut1 but13 some ran-some (15 ∷ 14 ∷ []) 0
     (Shown 0 9 1 0 3 1000)
-unfolding replacedWith profileOf run enteredWith enterWith enterAllWith cellFromWith cellWith startCell touches runsAt canRunWith unless openFull openRefusal opened openSite blockedBy blocked mayRunNow ready attempt tryFrom madeReady neverNow holdsNever overtaken notOvertaken overtakenIds nothingOrders idPending idDone alreadyDone readOvertaken atHighest tableFull addRefusal arrived add changeOf lineOf valuesAfter inProgress future without logFull finished finishFound finish withdrawRefusal withdraw persistent aboveMark stableFull stableRefusal stabled stable show restarted restartAs restart cutAbove baseCut cut stale redoRefusal behind pick drain delivered redoRead redo end writableUpdate writable perform step check andThen wrongCount noSuchHistory historyTwice updateMisfits changeMisfitsWith formRefusal updatesRefusal changesRefusalWith stablesFrom stablesAt weaveFrom markFrom upToDid reported ended didsText linesText logText headText linesFrom restFrom historiesFit acceptsWith rises follows liveIn tableHolds inOrder baseFits readLines readSecond readFirst readLog logBytes versionAt liveDone live asks dry becameDry rose lineBytes bytesOf settle below digitsWithin digits more number word fieldText fieldsText itemsText tailText listText changeText oneText siteText didText stableText lineText reading.field reading.doneRule reading.change reading.one reading.did reading.items reading.tail reading.line readWhole readDid readLine reading.baseCell reading.base readBase readSite counted countedAfter comesAfter cameFrom allFine bringsChosen allCome sameBytes
+unfolding replacedWith profileOf run enteredWith enterWith enterAllWith cellFromWith cellWith startCell touches runsAt canRunWith unless
+    openFull openRefusal opened openSite blockedBy blocked mayRunNow ready attempt tryFrom madeReady neverNow holdsNever overtaken
+    notOvertaken overtakenIds nothingOrders idPending idDone alreadyDone readOvertaken atHighest tableFull addRefusal arrived add changeOf
+    lineOf valuesAfter inProgress future without logFull finished finishFound finish withdrawRefusal withdraw persistent aboveMark
+    stableFull stableRefusal stabled stable show restarted restartAs restart cutAbove baseCut cut stale redoRefusal behind pick drain
+    delivered redoRead redo end writableUpdate writable perform step check andThen wrongCount noSuchHistory historyTwice updateMisfits
+    changeMisfitsWith formRefusal updatesRefusal changesRefusalWith stablesFrom stablesAt weaveFrom markFrom upToDid reported ended didsText
+    linesText logText headText linesFrom restFrom historiesFit acceptsWith rises follows liveIn tableHolds inOrder baseFits readLines
+    readSecond readFirst readLog logBytes versionAt liveDone live asks dry becameDry rose lineBytes bytesOf settle below digitsWithin digits
+    more number word fieldText fieldsText itemsText tailText listText changeText oneText siteText didText stableText lineText reading.field
+    reading.doneRule reading.change reading.one reading.did reading.items reading.tail reading.line readWhole readDid readLine
+    reading.baseCell reading.base readBase readSite counted countedAfter comesAfter cameFrom allFine bringsChosen allCome sameBytes
 computed-some = record { fine = tt; come = tt; log = refl; ends = refl; shows = refl }
 
 -- (1) Line 15 is traced back to 14 and that to 13, which is not chosen: by the claim it has not run.
@@ -236,13 +273,15 @@ result-some =
 fifteen-waits : HasRun (run (xs1 ++ Cut 40 65536 ∷ some) start) fifteen → ⊥
 fifteen-waits r = fifteen-open (result-some .hasRun fifteen (there (there (there (there (there (here refl)))))) .0 r)
 
--- (4) The book is fed line 9, and then 10, 11 and 12: history 0 is at version 9, place 3, with profile 1000, as `show` was computed to give.
+-- (4) The book is fed line 9, and then 10, 11 and 12: history 0 is at version 9, place 3, with profile 1000, as `show` was computed to
+-- give.
 closed-some : closed but13 [] lost1 ≡ ten ∷ eleven ∷ twelve ∷ []
 unfolding closed shares beside
 closed-some = refl
 
 shown-some : Shows (run (xs1 ++ Cut 40 65536 ∷ some) start) 0 (record { profile = 1000; version = 9; place = 3 })
-unfolding closed shares beside restarted replacedWith profileOf enteredWith enterWith enterAllWith cellFromWith cellWith startCell touches runsAt canRunWith
+unfolding closed shares beside restarted replacedWith profileOf enteredWith enterWith enterAllWith cellFromWith cellWith startCell touches
+    runsAt canRunWith
 shown-some =
     book-shown xs1 40 none (didLine nine ∷ []) front1 1 lost1 (Restarted 1 33) to-cut1 but13 some ran-some (15 ∷ 14 ∷ []) 0
     (Shown 0 9 1 0 3 1000) computed-some 0
@@ -270,7 +309,18 @@ abbrev front2 : List ℕ
 front2 = bytes "(site 3)\n(did 9 (inc 2 1 1 256))\n(stable 1)\n"
 
 to-cut2 : ToCut xs2 50 none (didLine nine ∷ stableLine 1 ∷ []) front2 2 lost2 (Restarted 1 44)
-unfolding replacedWith profileOf run enteredWith enterWith enterAllWith cellFromWith cellWith startCell touches runsAt canRunWith unless openFull openRefusal opened openSite blockedBy blocked mayRunNow ready attempt tryFrom madeReady neverNow holdsNever overtaken notOvertaken overtakenIds nothingOrders idPending idDone alreadyDone readOvertaken atHighest tableFull addRefusal arrived add changeOf lineOf valuesAfter inProgress future without logFull finished finishFound finish withdrawRefusal withdraw persistent aboveMark stableFull stableRefusal stabled stable show restarted restartAs restart cutAbove baseCut cut stale redoRefusal behind pick drain delivered redoRead redo end writableUpdate writable perform step check andThen wrongCount noSuchHistory historyTwice updateMisfits changeMisfitsWith formRefusal updatesRefusal changesRefusalWith stablesFrom stablesAt weaveFrom markFrom upToDid reported ended didsText linesText logText headText linesFrom restFrom historiesFit acceptsWith rises follows liveIn tableHolds inOrder baseFits readLines readSecond readFirst readLog logBytes versionAt liveDone live asks dry becameDry rose lineBytes bytesOf settle below digitsWithin digits more number word fieldText fieldsText itemsText tailText listText changeText oneText siteText didText stableText lineText reading.field reading.doneRule reading.change reading.one reading.did reading.items reading.tail reading.line readWhole readDid readLine reading.baseCell reading.base readBase readSite counted countedAfter lostBy
+unfolding replacedWith profileOf run enteredWith enterWith enterAllWith cellFromWith cellWith startCell touches runsAt canRunWith unless
+    openFull openRefusal opened openSite blockedBy blocked mayRunNow ready attempt tryFrom madeReady neverNow holdsNever overtaken
+    notOvertaken overtakenIds nothingOrders idPending idDone alreadyDone readOvertaken atHighest tableFull addRefusal arrived add changeOf
+    lineOf valuesAfter inProgress future without logFull finished finishFound finish withdrawRefusal withdraw persistent aboveMark
+    stableFull stableRefusal stabled stable show restarted restartAs restart cutAbove baseCut cut stale redoRefusal behind pick drain
+    delivered redoRead redo end writableUpdate writable perform step check andThen wrongCount noSuchHistory historyTwice updateMisfits
+    changeMisfitsWith formRefusal updatesRefusal changesRefusalWith stablesFrom stablesAt weaveFrom markFrom upToDid reported ended didsText
+    linesText logText headText linesFrom restFrom historiesFit acceptsWith rises follows liveIn tableHolds inOrder baseFits readLines
+    readSecond readFirst readLog logBytes versionAt liveDone live asks dry becameDry rose lineBytes bytesOf settle below digitsWithin digits
+    more number word fieldText fieldsText itemsText tailText listText changeText oneText siteText didText stableText lineText reading.field
+    reading.doneRule reading.change reading.one reading.did reading.items reading.tail reading.line readWhole readDid readLine
+    reading.baseCell reading.base readBase readSite counted countedAfter lostBy
 to-cut2 = record { cuts = refl; keeps = refl; enough = tt; wide = refl; histories = refl; kept-text = refl; lost-is = refl }
 
 abbrev pub every : Did → Bool
@@ -285,10 +335,22 @@ ran-all =
     bytes "(did 9 (inc 2 2 2 300))\n(did 10 (inc 0 1 1 513))\n(did 11 (not 0 1 2 0)(inc 1 1 1 7))\n(did 14 (inc 2 3 3 5)(not 1 1 2 0))\n"
     ++ bytes "(did 15 (not 1 1 3 0))\n(did 12 (set 0 9 3 1000))\n"
 
--- The lines stand in another order than in the first log, behind the stable line, and `show` of history 2 gives what it gave before the picked cut.
+-- The lines stand in another order than in the first log, behind the stable line, and `show` of history 2 gives what it gave before the
+-- picked cut.
 computed-all : Computed xs2 50 none (didLine nine ∷ stableLine 1 ∷ []) front2 2 lost2 (Restarted 1 44) to-cut2 every reversed ran-all [] 2
     (Shown 2 3 1 1 3 11269)
-unfolding replacedWith profileOf run enteredWith enterWith enterAllWith cellFromWith cellWith startCell touches runsAt canRunWith unless openFull openRefusal opened openSite blockedBy blocked mayRunNow ready attempt tryFrom madeReady neverNow holdsNever overtaken notOvertaken overtakenIds nothingOrders idPending idDone alreadyDone readOvertaken atHighest tableFull addRefusal arrived add changeOf lineOf valuesAfter inProgress future without logFull finished finishFound finish withdrawRefusal withdraw persistent aboveMark stableFull stableRefusal stabled stable show restarted restartAs restart cutAbove baseCut cut stale redoRefusal behind pick drain delivered redoRead redo end writableUpdate writable perform step check andThen wrongCount noSuchHistory historyTwice updateMisfits changeMisfitsWith formRefusal updatesRefusal changesRefusalWith stablesFrom stablesAt weaveFrom markFrom upToDid reported ended didsText linesText logText headText linesFrom restFrom historiesFit acceptsWith rises follows liveIn tableHolds inOrder baseFits readLines readSecond readFirst readLog logBytes versionAt liveDone live asks dry becameDry rose lineBytes bytesOf settle below digitsWithin digits more number word fieldText fieldsText itemsText tailText listText changeText oneText siteText didText stableText lineText reading.field reading.doneRule reading.change reading.one reading.did reading.items reading.tail reading.line readWhole readDid readLine reading.baseCell reading.base readBase readSite counted countedAfter comesAfter cameFrom allFine bringsChosen allCome sameBytes
+unfolding replacedWith profileOf run enteredWith enterWith enterAllWith cellFromWith cellWith startCell touches runsAt canRunWith unless
+    openFull openRefusal opened openSite blockedBy blocked mayRunNow ready attempt tryFrom madeReady neverNow holdsNever overtaken
+    notOvertaken overtakenIds nothingOrders idPending idDone alreadyDone readOvertaken atHighest tableFull addRefusal arrived add changeOf
+    lineOf valuesAfter inProgress future without logFull finished finishFound finish withdrawRefusal withdraw persistent aboveMark
+    stableFull stableRefusal stabled stable show restarted restartAs restart cutAbove baseCut cut stale redoRefusal behind pick drain
+    delivered redoRead redo end writableUpdate writable perform step check andThen wrongCount noSuchHistory historyTwice updateMisfits
+    changeMisfitsWith formRefusal updatesRefusal changesRefusalWith stablesFrom stablesAt weaveFrom markFrom upToDid reported ended didsText
+    linesText logText headText linesFrom restFrom historiesFit acceptsWith rises follows liveIn tableHolds inOrder baseFits readLines
+    readSecond readFirst readLog logBytes versionAt liveDone live asks dry becameDry rose lineBytes bytesOf settle below digitsWithin digits
+    more number word fieldText fieldsText itemsText tailText listText changeText oneText siteText didText stableText lineText reading.field
+    reading.doneRule reading.change reading.one reading.did reading.items reading.tail reading.line readWhole readDid readLine
+    reading.baseCell reading.base readBase readSite counted countedAfter comesAfter cameFrom allFine bringsChosen allCome sameBytes
 computed-all = record { fine = tt; come = tt; log = refl; ends = refl; shows = refl }
 
 -- (5) So the claim says of each history.
@@ -318,7 +380,18 @@ Returns ys text =
     (Shown 2 3 1 1 3 11269)
 
 computed-forward : Returns forward ran-forward
-unfolding replacedWith profileOf run enteredWith enterWith enterAllWith cellFromWith cellWith startCell touches runsAt canRunWith unless openFull openRefusal opened openSite blockedBy blocked mayRunNow ready attempt tryFrom madeReady neverNow holdsNever overtaken notOvertaken overtakenIds nothingOrders idPending idDone alreadyDone readOvertaken atHighest tableFull addRefusal arrived add changeOf lineOf valuesAfter inProgress future without logFull finished finishFound finish withdrawRefusal withdraw persistent aboveMark stableFull stableRefusal stabled stable show restarted restartAs restart cutAbove baseCut cut stale redoRefusal behind pick drain delivered redoRead redo end writableUpdate writable perform step check andThen wrongCount noSuchHistory historyTwice updateMisfits changeMisfitsWith formRefusal updatesRefusal changesRefusalWith stablesFrom stablesAt weaveFrom markFrom upToDid reported ended didsText linesText logText headText linesFrom restFrom historiesFit acceptsWith rises follows liveIn tableHolds inOrder baseFits readLines readSecond readFirst readLog logBytes versionAt liveDone live asks dry becameDry rose lineBytes bytesOf settle below digitsWithin digits more number word fieldText fieldsText itemsText tailText listText changeText oneText siteText didText stableText lineText reading.field reading.doneRule reading.change reading.one reading.did reading.items reading.tail reading.line readWhole readDid readLine reading.baseCell reading.base readBase readSite counted countedAfter comesAfter cameFrom allFine bringsChosen allCome sameBytes
+unfolding replacedWith profileOf run enteredWith enterWith enterAllWith cellFromWith cellWith startCell touches runsAt canRunWith unless
+    openFull openRefusal opened openSite blockedBy blocked mayRunNow ready attempt tryFrom madeReady neverNow holdsNever overtaken
+    notOvertaken overtakenIds nothingOrders idPending idDone alreadyDone readOvertaken atHighest tableFull addRefusal arrived add changeOf
+    lineOf valuesAfter inProgress future without logFull finished finishFound finish withdrawRefusal withdraw persistent aboveMark
+    stableFull stableRefusal stabled stable show restarted restartAs restart cutAbove baseCut cut stale redoRefusal behind pick drain
+    delivered redoRead redo end writableUpdate writable perform step check andThen wrongCount noSuchHistory historyTwice updateMisfits
+    changeMisfitsWith formRefusal updatesRefusal changesRefusalWith stablesFrom stablesAt weaveFrom markFrom upToDid reported ended didsText
+    linesText logText headText linesFrom restFrom historiesFit acceptsWith rises follows liveIn tableHolds inOrder baseFits readLines
+    readSecond readFirst readLog logBytes versionAt liveDone live asks dry becameDry rose lineBytes bytesOf settle below digitsWithin digits
+    more number word fieldText fieldsText itemsText tailText listText changeText oneText siteText didText stableText lineText reading.field
+    reading.doneRule reading.change reading.one reading.did reading.items reading.tail reading.line readWhole readDid readLine
+    reading.baseCell reading.base readBase readSite counted countedAfter comesAfter cameFrom allFine bringsChosen allCome sameBytes
 computed-forward = record { fine = tt; come = tt; log = refl; ends = refl; shows = refl }
 
 delivery : (ys : List Call) (text : List ℕ) → Returns ys text → Delivery
@@ -339,6 +412,7 @@ delivery ys text C =
     }
 
 -- The final logs differ, and are rearrangements of each other and of the log before the cut, in each history the same.
-two-orders : AllThree (run xs2 start .log) (run (xs2 ++ Cut 50 65536 ∷ reversed) start .log) (run (xs2 ++ Cut 50 65536 ∷ forward) start .log)
+two-orders : AllThree (run xs2 start .log) (run (xs2 ++ Cut 50 65536 ∷ reversed) start .log)
+    (run (xs2 ++ Cut 50 65536 ∷ forward) start .log)
 unfolding delivery
 two-orders = orders (delivery reversed ran-all computed-all) (delivery forward ran-forward computed-forward) refl

@@ -3,16 +3,20 @@ use mathlib.Core.Path.{_≡_, refl, sym, ap, _∙_}
 use mathlib.Core.Logic.{_⊎_, inl, inr}
 use mathlib.Core.Bool.{Bool, true, false}
 use mathlib.Core.List.{List, [], _∷_, _++_, append-assoc, append-nil}
-use mathlib.Core.List.{List·Memᴰ as Mem, List·Memᴰ·head as here, List·Memᴰ·tail as there, List·Memᴰ·not-nil, Memᴰ·cast, Memᴰ·append-left, Memᴰ·append-right, List·Memᴰ·append-cases}
+use mathlib.Core.List.{List·Memᴰ as Mem, List·Memᴰ·head as here, List·Memᴰ·tail as there, List·Memᴰ·not-nil, Memᴰ·cast, Memᴰ·append-left}
+use mathlib.Core.List.{Memᴰ·append-right, List·Memᴰ·append-cases}
 use Prim.Native.Nat.{ℕ, _+_, _≤_, _<_}
 use native.Mathlib.Omega.{arith}
 use lib.Dec.{T}
 use lib.ListN.{length}
-use Rattle.forms.specs.ListLaws.{Prefix, mem-split, mem-at, mem-along, mem-mid, mem-snoc, mem-widen, Nodup, nodup-mid, nodup-snoc, nodup-apart, prefix-same, prefix-past, prefix-full, prefix-has, append-split, true-T, mem-keep, mem-of-keep, nodup-keep}
+use Rattle.forms.specs.ListLaws.{Prefix, mem-split, mem-at, mem-along, mem-mid, mem-snoc, mem-widen, Nodup, nodup-mid, nodup-snoc}
+use Rattle.forms.specs.ListLaws.{nodup-apart, prefix-same, prefix-past, prefix-full, prefix-has, append-split, true-T, mem-keep}
+use Rattle.forms.specs.ListLaws.{mem-of-keep, nodup-keep}
 use Rattle.forms.specs.Forms.{Base, Change, Did}
 use Rattle.rules.specs.Book.{startCell, cell, canRun, touches}
-use Rattle.rules.specs.Good.{Ran}
-use Rattle.rules.specs.BookLaws.{proj, EachOnce, touches-of, touches-at, cell-same, proj-append, proj-mid, can-run-same, can-run-place, nodup-ran}
+use Rattle.rule_laws.specs.Good.{Ran}
+use Rattle.rule_laws.specs.BookLaws.{proj, EachOnce, touches-of, touches-at, cell-same, proj-append, proj-mid, can-run-same, can-run-place}
+use Rattle.rule_laws.specs.BookLaws.{nodup-ran}
 use Rattle.recovery.specs.Claim.{InOrder}
 
 -- ### Order
@@ -77,7 +81,8 @@ module _ {B : Type 0} (σ : Base) (key : Did → B) (K L : List Did) (chosen : D
     pub at-first : (d : Did) → Mem d L → (a : List Did) × (b : List Did) × (K ++ L ≡ a ++ d ∷ b)
     at-first d m = mem-split (Memᴰ·append-right K m)
 
-    module _ (log : List Did) (front : (h : ℕ) → Prefix (proj h log) (proj h (K ++ L))) (d : Did) (a b : List Did) (at : K ++ L ≡ a ++ d ∷ b) where
+    module _ (log : List Did) (front : (h : ℕ) → Prefix (proj h log) (proj h (K ++ L))) (d : Did) (a b : List Did)
+        (at : K ++ L ≡ a ++ d ∷ b) where
       cut-at : (h : ℕ) → T (touches h d) → proj h (K ++ L) ≡ proj h a ++ d ∷ proj h b
       cut-at h t = ap (proj h) at ∙ proj-mid h a d b t
 
@@ -103,7 +108,8 @@ module _ {B : Type 0} (σ : Base) (key : Did → B) (K L : List Did) (chosen : D
           go true e =
               let t = true-T (touches h d) e in (
                 proj h b,
-                cut-at h t ∙ sym (append-assoc (proj h a) (d ∷ []) (proj h b)) ∙ ap {B = List Did} (λ l. (l ++ d ∷ []) ++ proj h b) (sym (next once r h t))
+                cut-at h t ∙ sym (append-assoc (proj h a) (d ∷ []) (proj h b))
+                    ∙ ap {B = List Did} (λ l. (l ++ d ∷ []) ++ proj h b) (sym (next once r h t))
                     ∙ ap {B = List Did} (λ l. l ++ proj h b) (sym (proj-mid h log d [] t)),
               )
           go false e = rw (proj-append h log (d ∷ []), e, append-nil (proj h log)) (front h)
@@ -113,7 +119,8 @@ module _ {B : Type 0} (σ : Base) (key : Did → B) (K L : List Did) (chosen : D
       past x m le =
           let h = x .history in
           let far : length (proj h a) < length (proj h log) = omega (arith, first-place x m) in
-          mem-of-keep (touches h) log (prefix-past (proj h log) (proj h (K ++ L)) (proj h a) d (proj h b) (front h) (cut-at h (touches-of d m)) far) .0
+          mem-of-keep (touches h) log (prefix-past (proj h log) (proj h (K ++ L)) (proj h a) d (proj h b) (front h)
+          (cut-at h (touches-of d m)) far) .0
 
       -- A lost line that has not run can run if all lines that stood before it in its histories have run.
       pub can-run-next : (Mem d log → ⊥) → ((e : Did) (h : ℕ) → Mem e a → T (touches h e) → T (touches h d) → Mem e log) →
@@ -217,7 +224,8 @@ module _ {B : Type 0} (σ : Base) (key : Did → B) (K L : List Did) (chosen : D
           seen = λ e m. seen-one e (mem-snoc wait m);
           met = λ e m k c. met-one e (mem-snoc came m) k c;
           order = order-snoc (First (came ++ key d ∷ [])) wait d
-              (order-map (First came) (First (came ++ key d ∷ [])) (first-snoc came (key d)) wait (I .order)) (λ e m. before e (mem-split (I .seen e m)));
+              (order-map (First came) (First (came ++ key d ∷ [])) (first-snoc came (key d)) wait (I .order))
+              (λ e m. before e (mem-split (I .seen e m)));
         }
       where
         wait-one : (e : Did) → (e ≡ d) ⊎ Mem e wait → Mem e L × T (chosen e)
@@ -245,12 +253,14 @@ module _ {B : Type 0} (σ : Base) (key : Did → B) (K L : List Did) (chosen : D
         not-known (inr m) = out-w m
 
         before : (e : Did) → (a : List B) × (b : List B) × (came ≡ a ++ key e ∷ b) → First (came ++ key d ∷ []) e d
-        before e (a, b, p) = first-snoc came (key d) e d (a, b, p, λ m. not-known (I .met d (mem-along (sym p) (Memᴰ·append-left (key e ∷ b) m)) lost choice))
+        before e (a, b, p) = first-snoc came (key d) e d
+            (a, b, p, λ m. not-known (I .met d (mem-along (sym p) (Memᴰ·append-left (key e ∷ b) m)) lost choice))
 
     -- ### The log is cut
 
     -- What a prefix of the log with the lines of K keeps.
-    pub inv-cut : (came : List B) (log wait kept rest : List Did) → Inv came log wait → log ≡ kept ++ rest → length K ≤ length kept → Inv [] kept []
+    pub inv-cut : (came : List B) (log wait kept rest : List Did) → Inv came log wait → log ≡ kept ++ rest → length K ≤ length kept →
+        Inv [] kept []
     inv-cut came log wait kept rest I e le = go (append-split K (I .ran) kept rest (sym (I .split) ∙ e) le)
       where
         front-cut : (h : ℕ) → Prefix (proj h log) (proj h (K ++ L)) → Prefix (proj h kept) (proj h (K ++ L))

@@ -13,9 +13,9 @@ use Rattle.forms.specs.declared.Refusal.the-variants.{TableFull}
 use Rattle.forms.specs.Limits.{liveLimit}
 use Rattle.rules.specs.State.{State, Reply, refused, ok, settle, live}
 use Rattle.rules.specs.Calls.{tableFull, Call, Cut, Changeover, Redo, End, step}
-use Rattle.rules.specs.WhenLaws.{step-off, ten-why}
+use Rattle.rule_laws.specs.WhenLaws.{step-off, ten-why}
 use Rattle.rules.specs.Run.{run}
-use Rattle.rules.specs.GoodLaws.{good-run}
+use Rattle.rule_laws.specs.GoodLaws.{good-run}
 use Rattle.recovery.specs.Claim.{countedAfter, counted, Fair, lostBy, comesAfter, cameFrom, came, Comes, Recovered, RecoveryClaim}
 use Rattle.recovery.specs.Recovery.{start-good}
 use Rattle.recovery.specs.HostLaws.{host-recovery}
@@ -65,8 +65,10 @@ at-least st t = leb→le liveLimit (live st) t
 pub lone-claim : HostClaim lone → RecoveryClaim
 lone-claim claim m s start xs k room ys after chosen fair asked =
     subst (λ (st : State). Recovered st after (lostBy st after) chosen (came all-calls s) (run all-calls s)) (sym (run-same xs s))
-    (subst (λ (z : List (List ℕ)). Recovered (runIn lone xs s) after (lostBy (runIn lone xs s) after) chosen z (run all-calls s)) (sym (came-same all-calls [] s))
-    (subst (λ (st : State). Recovered (runIn lone xs s) after (lostBy (runIn lone xs s) after) chosen (cameIn lone [] all-calls s) st) (sym (run-same all-calls s))
+    (subst (λ (z : List (List ℕ)). Recovered (runIn lone xs s) after (lostBy (runIn lone xs s) after) chosen z (run all-calls s))
+    (sym (came-same all-calls [] s))
+    (subst (λ (st : State). Recovered (runIn lone xs s) after (lostBy (runIn lone xs s) after) chosen (cameIn lone [] all-calls s) st)
+    (sym (run-same all-calls s))
     (claim chosen list)))
   where
     all-calls : List Call
@@ -86,12 +88,14 @@ lone-claim claim m s start xs k room ys after chosen fair asked =
         FairIn lone (countedIn lone m zs s) j wide c (runIn lone zs s) st
     fair-at zs j wide c st e F =
         subst (λ (n : ℕ). FairIn lone n j wide c (runIn lone zs s) st) (counted-same zs m s)
-        (subst (λ (w : State). FairIn lone (counted m zs s) j wide c w st) (run-same zs s) (fair-in (counted m zs s) j wide c (run zs s) st e F))
+        (subst (λ (w : State). FairIn lone (counted m zs s) j wide c w st) (run-same zs s)
+        (fair-in (counted m zs s) j wide c (run zs s) st e F))
 
     not-full : (zs : List Call) (c : Call) (line : List ℕ) → c ≡ Redo line → live (runIn lone zs s) < live (runIn lone xs s) →
         step c (runIn lone zs s) ≡ refused TableFull → ⊥
     not-full zs c line e lt ten =
-        let t = ten-why false (Redo line) (runIn lone zs s) (sym (step-off (Redo line) (runIn lone zs s)) ∙ ap (λ (x : Call). step x (runIn lone zs s)) (sym e) ∙ ten) in
+        let t = ten-why false (Redo line) (runIn lone zs s)
+        (sym (step-off (Redo line) (runIn lone zs s)) ∙ ap (λ (x : Call). step x (runIn lone zs s)) (sym e) ∙ ten) in
         omega (arith, few, at-least (runIn lone zs s) t)
 
     list : ListIn lone chosen
@@ -114,11 +118,13 @@ lone-claim claim m s start xs k room ys after chosen fair asked =
                     let p = some-one c (Cut j wide) o in
                     fair-at (xs ++ Cut k room ∷ a) j wide c st p
                     (asked .cuts a j wide b st answer (e ∙ ap (λ (x : Call). a ++ x ∷ b) p)
-                    (moved (xs ++ Cut k room ∷ a) (Cut j wide) (ok st answer) (ap (λ (x : Call). step x (runIn lone (xs ++ Cut k room ∷ a) s)) (sym p) ∙ r)));
+                    (moved (xs ++ Cut k room ∷ a) (Cut j wide) (ok st answer)
+                    (ap (λ (x : Call). step x (runIn lone (xs ++ Cut k room ∷ a) s)) (sym p) ∙ r)));
                 redos = λ a c b line st answer e o r.
                     let p = some-one c (Redo line) o in
                     let q = asked .redos a line b st answer (e ∙ ap (λ (x : Call). a ++ x ∷ b) p)
-                    (moved (xs ++ Cut k room ∷ a) (Redo line) (ok st answer) (ap (λ (x : Call). step x (runIn lone (xs ++ Cut k room ∷ a) s)) (sym p) ∙ r)) in
+                    (moved (xs ++ Cut k room ∷ a) (Redo line) (ok st answer)
+                    (ap (λ (x : Call). step x (runIn lone (xs ++ Cut k room ∷ a) s)) (sym p) ∙ r)) in
                     (q .0, subst (λ (l : List Did). Mem (q .0) l) lost-is (q .1), q .2, q .3);
                 changeovers = λ a c b j wide st answer e o r.
                     let p = some-one c (Changeover j wide) o in
@@ -128,7 +134,8 @@ lone-claim claim m s start xs k room ys after chosen fair asked =
                 ends = λ a c b st answer e o r.
                     let p = some-one c End o in
                     asked .ends a b st answer (e ∙ ap (λ (x : Call). a ++ x ∷ b) p)
-                    (moved (xs ++ Cut k room ∷ a) End (ok st answer) (ap (λ (x : Call). step x (runIn lone (xs ++ Cut k room ∷ a) s)) (sym p) ∙ r));
+                    (moved (xs ++ Cut k room ∷ a) End (ok st answer)
+                    (ap (λ (x : Call). step x (runIn lone (xs ++ Cut k room ∷ a) s)) (sym p) ∙ r));
                 all = λ d lost t.
                     subst (λ (z : List (List ℕ)). Comes z d) (came-same all-calls [] s)
                     (asked .all d (subst (λ (l : List Did). Mem d l) (sym lost-is) lost) t);

@@ -11,8 +11,8 @@ use Rattle.forms.specs.ListLaws.{Nodup, nodup-right}
 use Rattle.forms.specs.Forms.{Did, Ended}
 use Rattle.rules.specs.State.{State, startOf, ok, linesIn}
 use Rattle.rules.specs.Calls.{Call, Cut, End, step}
-use Rattle.rules.specs.Good.{Good, didIds}
-use Rattle.rules.specs.GoodLaws.{good-run}
+use Rattle.rule_laws.specs.Good.{Good, didIds}
+use Rattle.rule_laws.specs.GoodLaws.{good-run}
 use Rattle.rules.specs.Run.{run}
 use Rattle.recovery.specs.Claim.{Start, counted, Fair, lostBy, HasRun, came, Asked, Recovered}
 use Rattle.recovery.specs.Counted.{counted-start, counted-is}

@@ -12,9 +12,9 @@ use Rattle.rules.specs.Log.{dids, closing, journal}
 use Rattle.rules.specs.State.{State, linesIn}
 use Rattle.rules.specs.Calls.{restarted, Call, Cut}
 use Rattle.rules.specs.OldLog.{readOldWith, upgrade, upgraded}
-use Rattle.rules.specs.OldLogLaws.{Upgraded, upgrade-holds, RestartsAs, upgraded-restarts}
-use Rattle.rules.specs.OlderLogs.{olderParts, ReadAlike, read-alike}
-use Rattle.rules.specs.WeaveLaws.{dids-map}
+use Rattle.rule_laws.specs.OldLogLaws.{Upgraded, upgrade-holds, RestartsAs, upgraded-restarts}
+use Rattle.rule_laws.specs.OlderLogs.{olderParts, ReadAlike, read-alike}
+use Rattle.rule_laws.specs.WeaveLaws.{dids-map}
 use Rattle.rules.specs.Run.{run}
 use Rattle.recovery.specs.Claim.{Start, justRestarted, Fair, Asked, Recovered, counted, came, lostBy}
 use Rattle.recovery.specs.Recovery.{recovery}

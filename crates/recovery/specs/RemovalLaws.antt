@@ -186,12 +186,6 @@ module _ (N : ℕ) (log : List Did) (ps : List Pair) where
   unfolding grow
   grow-keeps ks m t h = mem-keep (grown ks) (mem-line m t) (or-left (isAmong m ks) (any (λ k. takes N log ps k m) ks) (among-of h))
 
-  grow-takes : (ks : List ℕ) (k m : ℕ) → T (isLine N log m) → Mem k ks → T (takes N log ps k m) → Mem m (grow N log ps ks)
-  unfolding grow
-  grow-takes ks k m t h u =
-      mem-keep (grown ks) (mem-line m t)
-      (or-right (isAmong m ks) (any (λ k. takes N log ps k m) ks) (any-of (λ k. takes N log ps k m) h u))
-
   record Taker (ks : List ℕ) (m : ℕ) : Type 0 where
     by : ℕ
     there : Mem by ks
@@ -227,11 +221,6 @@ module _ (N : ℕ) (log : List Did) (ps : List Pair) where
   sifted-grow : (ks : List ℕ) → Sifted (grow N log ps ks)
   unfolding grow
   sifted-grow ks = record { test = grown ks; same = refl }
-
-  sifted-line : (ks : List ℕ) → Sifted ks → (m : ℕ) → Mem m ks → T (isLine N log m)
-  sifted-line ks S m h =
-      let q = numbers-at N (length log) m (mem-of-keep (S .test) numbers (subst (λ (l : List ℕ). Mem m l) (S .same) h) .0) in
-      line-of N log m (q .0) (q .1)
 
   -- a round that adds none leaves a closed set
   still-closed : (ks : List ℕ) → Sifted ks → length (grow N log ps ks) ≤ length ks → ClosedIn ks

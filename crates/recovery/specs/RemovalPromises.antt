@@ -16,8 +16,8 @@ use Rattle.forms.specs.Lists.{keep}
 use Rattle.forms.specs.ListLaws.{true-T, and-intro, all-at, all-of, mem-of-keep}
 use Rattle.forms.specs.Read.{noDid}
 use Rattle.rules.specs.Book.{Cell, startCell, cellFrom, cellFromWith, cell, cellWith, touches, runsAt, canRunWith}
-use Rattle.rules.specs.BookLaws.{EachOnce, proj, place-is, runs-place, enterAll-untouched, touches-of}
-use Rattle.rules.specs.Good.{Ran}
+use Rattle.rule_laws.specs.BookLaws.{EachOnce, proj, place-is, runs-place, enterAll-untouched, touches-of}
+use Rattle.rule_laws.specs.Good.{Ran}
 use Rattle.recovery.specs.Claim.{shares}
 use Rattle.recovery.specs.Ending.{shares-of}
 use Rattle.recovery.specs.Removal.{numbersFrom, isLine, lineAt, Pair, byHistory, byTransaction, Removed, itself, later, together}

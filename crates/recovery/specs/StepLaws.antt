@@ -20,9 +20,9 @@ use Rattle.rules.specs.State.{withMarks, withStables}
 use Rattle.rules.specs.Calls.{restarted, cut, addRefusal, add, finish, withdrawRefusal, withdraw, persistent, aboveMark}
 use Rattle.rules.specs.Calls.{stableRefusal, stabled, stable, show, end, Call, Add, Finish, Withdraw, Persistent, Stable, Show, Cut, Redo}
 use Rattle.rules.specs.Calls.{Changeover, End, perform, step}
-use Rattle.rules.specs.Good.{Good}
-use Rattle.rules.specs.CheckLaws.{check-none, unless-ok, unless-check}
-use Rattle.rules.specs.WeaveLaws.{dids-append, dids-weave, stables-dids, mark-dids, did-not-stable}
+use Rattle.rule_laws.specs.Good.{Good}
+use Rattle.rule_laws.specs.CheckLaws.{check-none, unless-ok, unless-check}
+use Rattle.rule_laws.specs.WeaveLaws.{dids-append, dids-weave, stables-dids, mark-dids, did-not-stable}
 use Rattle.recovery.specs.Claim.{comesAfter}
 use Rattle.recovery.specs.Cuts.{ok-state, cut-ok, lines-restarted}
 use Rattle.recovery.specs.Invariant.{inv-cut}

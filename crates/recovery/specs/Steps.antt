@@ -17,6 +17,7 @@ use Rattle.forms.specs.ListLaws.{mem-along, mem-snoc, Nodup, nodup-append, nodu
 use Rattle.forms.specs.ListLaws.{mem-drop-less, T-false, true-T, false-T, or-cases, or-left, or-right, any-at, any-of}
 use Rattle.forms.specs.Forms.{Base, Change, Did, Line, didLine, didText, Answer}
 use Rattle.forms.specs.Reading.{readDid}
+use Rattle.forms.specs.Limits.{liveLimit}
 use Rattle.forms.specs.declared.Refusal.{Refusal}
 use Rattle.forms.specs.declared.Refusal.the-variants.{IdPending, AlreadyDone, TableFull, NoRoom, OutOfTurn}
 use Rattle.rules.specs.Book.{startCell, cell}
@@ -27,13 +28,13 @@ use Rattle.rules.specs.State.{withWaiting}
 use Rattle.rules.specs.Calls.{unless, idPending, idDone, tableFull, logFull, stale, redoRefusal, drain, delivered, redoRead, redo}
 use Rattle.rules.specs.Calls.{Redo}
 use Rattle.rules.specs.Calls.{writable, perform, step}
-use Rattle.rules.specs.Good.{FormedDid, Ran, Good}
-use Rattle.rules.specs.CheckLaws.{refused-not-ok}
-use Rattle.rules.specs.BookLaws.{proj, EachOnce, place-is, place-below, each-once, nodup-ran}
-use Rattle.rules.specs.DrainLaws.{drain-keeps}
-use Rattle.rules.specs.FitLaws.{log-append, lines-dids-text, length-dids}
-use Rattle.rules.specs.WeaveLaws.{weave-append, stables-below, unweave}
-use Rattle.rules.specs.LogLaws.{formed-read}
+use Rattle.rule_laws.specs.Good.{FormedDid, Ran, Good}
+use Rattle.rule_laws.specs.CheckLaws.{refused-not-ok}
+use Rattle.rule_laws.specs.BookLaws.{proj, EachOnce, place-is, place-below, each-once, nodup-ran}
+use Rattle.rule_laws.specs.DrainLaws.{drain-keeps}
+use Rattle.rule_laws.specs.FitLaws.{log-append, lines-dids-text, length-dids}
+use Rattle.rule_laws.specs.WeaveLaws.{weave-append, stables-below, unweave}
+use Rattle.rule_laws.specs.LogLaws.{formed-read}
 use Rattle.recovery.specs.Cuts.{skip, ok-state, Picked, some-change}
 use Rattle.recovery.specs.Invariant.{Setting, Inv, not-kept, at-first, past, inv-one, inv-again, inv-add}
 use Rattle.recovery.specs.Ending.{in-ran, in-log}
@@ -130,7 +131,8 @@ module _ (n : ℕ) (β : Option Base) (KL : List Line) (K L : List Did) (chosen 
       is-waiting : T (idPending (d .id) st) → Mem d (st .waiting)
       unfolding idPending
       is-waiting t =
-          go (or-cases (any (λ (x : Operation). eqb (x .id) (d .id)) (st .pending)) (any (λ (e : Did). eqb (e .id) (d .id)) (st .waiting)) t)
+          go (or-cases (any (λ (x : Operation). eqb (x .id) (d .id)) (st .pending))
+          (any (λ (e : Did). eqb (e .id) (d .id)) (st .waiting)) t)
         where
           found : (e : Did) × Mem e (st .waiting) × T (eqb (e .id) (d .id)) → Mem d (st .waiting)
           found (e, k, q) = Memᴰ·cast (sym (same-id e (G .inv .wait-chosen e k .0) q)) k
@@ -233,7 +235,7 @@ module _ (n : ℕ) (β : Option Base) (KL : List Line) (K L : List Did) (chosen 
 
       fresh-few : (Mem d (G .inv .ran) → ⊥) → (Mem d (st .waiting) → ⊥) → T (tableFull st) → ⊥
       unfolding tableFull
-      fresh-few out-r out-w t = let le = leb→le 64 (live st) t in omega (arith, G .picked .few, fresh-below out-r out-w)
+      fresh-few out-r out-w t = let le = leb→le liveLimit (live st) t in omega (arith, G .picked .few, fresh-below out-r out-w)
 
       fresh-fits : (Mem d (G .inv .ran) → ⊥) → (Mem d (st .waiting) → ⊥) → T (logFull d st) → ⊥
       unfolding logFull logBytes

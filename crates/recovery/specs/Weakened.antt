@@ -1,5 +1,5 @@
--- Five of (g)'s rules, each made weaker, and for each a list of calls at whose end the redo of a lost line is refused, though every lost line
--- is chosen and comes, in first order, after a cut that keeps each line counted persistent. So none of them can be spared. Computed.
+-- Five of (g)'s rules, each made weaker, and for each a list of calls at whose end the redo of a lost line is refused, though every lost
+-- line is chosen and comes, in first order, after a cut that keeps each line counted persistent. So none of them can be spared. Computed.
 use mathlib.Core.Path.{_≡_, refl}
 use mathlib.Core.Bool.{true, false}
 use mathlib.Core.Option.{none}

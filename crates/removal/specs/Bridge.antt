@@ -11,11 +11,11 @@ use native.Mathlib.Omega.{arith}
 use lib.Dec.{T, ltb, leb, ltb→lt, leb→le, lt→ltb}
 use lib.ListN.{length, getD}
 use Rattle.forms.specs.Forms.{Change, Did}
-use Rattle.forms.specs.Limits.{baseTop}
+use Rattle.forms.specs.Limits.{baseTop, historyLimit, updateLimit}
 use Rattle.forms.specs.ListLaws.{and-intro, and-left, and-right}
 use Rattle.forms.specs.Read.{noDid}
 use Rattle.rules.specs.Book.{touches}
-use Rattle.rules.specs.BookLaws.{touches-of, touches-at}
+use Rattle.rule_laws.specs.BookLaws.{touches-of, touches-at}
 use Rattle.recovery.specs.Claim.{shares}
 use Rattle.recovery.specs.Ending.{shares-of, shares-at}
 use Rattle.recovery.specs.Removal.{isLine, lineAt, pairsOf, byHistory, byTransaction, Removed}
@@ -30,12 +30,12 @@ use Rattle.removal.specs.PairLaws.{mem-place, place-mem, pairAt, pair-pl
 
 -- ### Histories of a did line
 
-history-touch : (d : Did) (u h : ℕ) → historyAt d u ≡ h → h < 16 → T (touches h d)
+history-touch : (d : Did) (u h : ℕ) → historyAt d u ≡ h → h < historyLimit → T (touches h d)
 unfolding historyAt
 history-touch d u h e lt = go (d .changes) u (λ x m. touches-of d m) e
   where
     go : (xs : List Change) (u : ℕ) → ((x : Change) → Mem x xs → T (touches (x .history) d)) →
-        getD (map (λ (x : Change). x .history) xs) u 16 ≡ h →
+        getD (map (λ (x : Change). x .history) xs) u historyLimit ≡ h →
         T (touches h d)
     go [] u f e′ = absurd (omega (arith, e′, lt))
     go (x ∷ xs) zero f e′ = subst (λ (k : ℕ). T (touches k d)) e′ (f x (head-of refl))
@@ -51,7 +51,7 @@ unfolding historyAt
 touch-history d h t = let q = touches-at h d t in go (d .changes) (q .0) (q .1) (q .2) (λ u l e. record { update = u; within = l; is = e })
   where
     go : (xs : List Change) (x : Change) → Mem x xs → x .history ≡ h →
-        ((u : ℕ) → u < length xs → getD (map (λ (x : Change). x .history) xs) u 16 ≡ h → Touch d h) → Touch d h
+        ((u : ℕ) → u < length xs → getD (map (λ (x : Change). x .history) xs) u historyLimit ≡ h → Touch d h) → Touch d h
     go [] x m e f = absurd (List·Memᴰ·not-nil m)
     go (y ∷ xs) x m e f = ⊎-elim
         (λ z. f 0 (omega arith) (ap (λ (c : Change). c .history) (sym z) ∙ e))
@@ -66,8 +66,8 @@ pub record Laid (N : ℕ) (log : List Did) (slots pairs lost : List ℕ) : Type 
   pub few : length log ≤ 2978
   pub low : N ≤ baseTop
   pub are : SlotsAre N log slots
-  pub changes : (i : ℕ) → i < length log → length (getD log i noDid .changes) ≤ 4
-  pub histories : (i u : ℕ) → i < length log → u < length (getD log i noDid .changes) → historyAt (getD log i noDid) u < 16
+  pub changes : (i : ℕ) → i < length log → length (getD log i noDid .changes) ≤ updateLimit
+  pub histories : (i u : ℕ) → i < length log → u < length (getD log i noDid .changes) → historyAt (getD log i noDid) u < historyLimit
   pub pairsKnown : PairsKnown pairs N (N + length log)
   pub lostKnown : LostKnown lost N (N + length log)
 
@@ -130,7 +130,7 @@ module _ (N : ℕ) (log : List Did) (slots pairs lost : List ℕ) (L : Laid N lo
 
   -- ### What the walk takes, the rules take
 
-  sound-onward : (k p q : ℕ) → Out (N + 1 + k) → k < length log → 4 * k ≤ p → p < 4 * k + 4 → keyAt slots 1 p < 16 →
+  sound-onward : (k p q : ℕ) → Out (N + 1 + k) → k < length log → 4 * k ≤ p → p < 4 * k + 4 → keyAt slots 1 p < historyLimit →
       Found slots 1 (keyAt slots 1 p) (suc p) q → q < countOf slots → Out (N + 1 + q / 4)
   unfolding byHistory
   sound-onward k p q r lk a b h F l = ⊎-elim
@@ -189,7 +189,7 @@ module _ (N : ℕ) (log : List Did) (slots pairs lost : List ℕ) (L : Laid N lo
   Down k = Fallen g lost k
 
   -- along a history
-  along : (fuel s t : ℕ) → Down (s / 4) → s < t → t ≤ s + fuel → t < countOf slots → keyAt slots 1 s < 16 →
+  along : (fuel s t : ℕ) → Down (s / 4) → s < t → t ≤ s + fuel → t < countOf slots → keyAt slots 1 s < historyLimit →
       keyAt slots 1 t ≡ keyAt slots 1 s → Down (t / 4)
   along zero s t r a b l h e = absurd (omega (arith, a, b))
   along (suc fuel) s t r a b l h e =
@@ -203,7 +203,7 @@ module _ (N : ℕ) (log : List Did) (slots pairs lost : List ℕ) (L : Laid N lo
       let low = n .found .low in
       ⊎-elim
       (λ z. subst (λ (x : ℕ). Down (x / 4)) z down)
-      (λ z. along fuel (n .at) t down z (omega (arith, low, b)) l (subst (λ (x : ℕ). x < 16) (sym same) h) (e ∙ sym same))
+      (λ z. along fuel (n .at) t down z (omega (arith, low, b)) l (subst (λ (x : ℕ). x < historyLimit) (sym same) h) (e ∙ sym same))
       (eq-or-lt-of-le most)
 
   abbrev Pair-down : ℕ → Type 0
@@ -271,21 +271,21 @@ module _ (N : ℕ) (log : List Did) (slots pairs lost : List ℕ) (L : Laid N lo
       let b = touch-history (getD log j noDid) (S .0) (S .1) in
       let li : i < length log = omega (arith, lt, lm .1, nk) in
       let lj : j < length log = omega (arith, lm .0, lm .1) in
-      let la : a .update < 4 = (let x = L .changes i li in let y = a .within in omega (arith, x, y)) in
-      let lb : b .update < 4 = (let x = L .changes j lj in let y = b .within in omega (arith, x, y)) in
+      let la : a .update < updateLimit = (let x = L .changes i li in let y = a .within in omega (arith, x, y)) in
+      let lb : b .update < updateLimit = (let x = L .changes j lj in let y = b .within in omega (arith, x, y)) in
       let s = 4 * i + a .update in
       let u = 4 * j + b .update in
       let ls : s < countOf slots = omega (arith, li, la, slots-are) in
       let lu : u < countOf slots = omega (arith, lj, lb, slots-are) in
       let ks : keyAt slots 1 s ≡ S .0 = at-slot i (a .update) la ls ∙ a .is in
       let ku : keyAt slots 1 u ≡ S .0 = at-slot j (b .update) lb lu ∙ b .is in
-      let h : S .0 < 16 = subst (λ (x : ℕ). x < 16) (a .is) (L .histories i (a .update) li (a .within)) in
+      let h : S .0 < historyLimit = subst (λ (x : ℕ). x < historyLimit) (a .is) (L .histories i (a .update) li (a .within)) in
       subst Down (let e : u / 4 ≡ j = omega (arith, lb) in e)
       (along (countOf slots) s u (subst Down (let e : i ≡ s / 4 = omega (arith, la) in e) r) (omega (arith, la, lt, nk)) (omega
       (arith, lu)) lu
-      (subst (λ (x : ℕ). x < 16) (sym ks) h) (ku ∙ sym ks))
+      (subst (λ (x : ℕ). x < historyLimit) (sym ks) h) (ku ∙ sym ks))
     where
-      at-slot : (i u : ℕ) → u < 4 → 4 * i + u < countOf slots → keyAt slots 1 (4 * i + u) ≡ historyAt (getD log i noDid) u
+      at-slot : (i u : ℕ) → u < updateLimit → 4 * i + u < countOf slots → keyAt slots 1 (4 * i + u) ≡ historyAt (getD log i noDid) u
       at-slot i u l w =
           slot-history (4 * i + u) w
           ∙ ap (λ (x : ℕ). historyAt (getD log x noDid) ((4 * i + u) % 4)) (let e : (4 * i + u) / 4 ≡ i = omega (arith, l) in e)

@@ -7,6 +7,7 @@ use native.Mathlib.Nat.{le-refl, le-trans, le-of-suc-le-suc, suc-le-suc-iff, not
 use native.Mathlib.Omega.{arith}
 use lib.ListN.{length, getD, set, length-set, replicate, length-replicate}
 use lib.Seq.{getD-set-same, getD-set-other}
+use Rattle.forms.specs.Limits.{historyLimit, updateLimit}
 use Rattle.removal.specs.Chains.{countOf, keyAt, Found, Ring}
 use Rattle.removal.specs.ChainLaws.{same-or, less-or, found-once, ring-once}
 use Rattle.removal.specs.Fall.{Net, linesIn, lineIn, Takes, onward, around, Reach, here, on, Fallen, itself, taken, Gone, left}
@@ -122,7 +123,7 @@ pub slots-none : (g : Net) (i : ℕ) (m : List ℕ) → SlotsTo g i m m 0
 slots-none g i m =
     record { fell = fell-none g i m; within = omega arith; all = λ p q a b. absurd (omega (arith, a, b)) }
 
-module _ (g : Net) (i : ℕ) (old mid : List ℕ) (u q : ℕ) (S : SlotsTo g i old mid u) (lt : u < 4) (L : LaterAt (g .slots)
+module _ (g : Net) (i : ℕ) (old mid : List ℕ) (u q : ℕ) (S : SlotsTo g i old mid u) (lt : u < updateLimit) (L : LaterAt (g .slots)
     (4 * i + u) q) where
   -- the slots before this one, or this
   last-or : (p : ℕ) → p < 4 * i + (u + 1) → (p ≡ 4 * i + u) ⊎ (p < 4 * i + u)
@@ -140,12 +141,12 @@ module _ (g : Net) (i : ℕ) (old mid : List ℕ) (u q : ℕ) (S : SlotsTo g i o
             (last-or p b);
       }
     where
-      none : (p r : ℕ) → p ≡ 4 * i + u → keyAt (g .slots) 1 p < 16 → Found (g .slots) 1 (keyAt (g .slots) 1 p) (suc p) r →
+      none : (p r : ℕ) → p ≡ 4 * i + u → keyAt (g .slots) 1 p < historyLimit → Found (g .slots) 1 (keyAt (g .slots) 1 p) (suc p) r →
           r < countOf (g .slots) → ⊥
       none p r e h F z =
           let G : Found (g .slots) 1 (keyAt (g .slots) 1 p) (suc p) q =
           subst (λ (x : ℕ). Found (g .slots) 1 (keyAt (g .slots) 1 x) (suc x) q) (sym e)
-          (L .found (subst (λ (x : ℕ). keyAt (g .slots) 1 x < 16) e h)) in
+          (L .found (subst (λ (x : ℕ). keyAt (g .slots) 1 x < historyLimit) e h)) in
           omega (arith, found-once (g .slots) 1 (keyAt (g .slots) 1 p) (suc p) r q F G, z, le)
 
   taken-next : q < countOf (g .slots) → Takes g i (lineIn (g .base) (g .slots) q)
@@ -165,11 +166,11 @@ module _ (g : Net) (i : ℕ) (old mid : List ℕ) (u q : ℕ) (S : SlotsTo g i o
             (last-or p b);
       }
     where
-      once : (p r : ℕ) → p ≡ 4 * i + u → keyAt (g .slots) 1 p < 16 → Found (g .slots) 1 (keyAt (g .slots) 1 p) (suc p) r → r ≡ q
+      once : (p r : ℕ) → p ≡ 4 * i + u → keyAt (g .slots) 1 p < historyLimit → Found (g .slots) 1 (keyAt (g .slots) 1 p) (suc p) r → r ≡ q
       once p r e h F =
           found-once (g .slots) 1 (keyAt (g .slots) 1 p) (suc p) r q F
           (subst (λ (x : ℕ). Found (g .slots) 1 (keyAt (g .slots) 1 x) (suc x) q) (sym e)
-          (L .found (subst (λ (x : ℕ). keyAt (g .slots) 1 x < 16) e h)))
+          (L .found (subst (λ (x : ℕ). keyAt (g .slots) 1 x < historyLimit) e h)))
 
 -- ### The pairs of a line
 
@@ -209,7 +210,7 @@ pub line-was : (g : Net) (i : ℕ) (m : List ℕ) → Gone m i → FellLine g i 
 line-was g i m h = record { fell = fell-none g i m; itself = h }
 
 pub line-done : (g : Net) (i : ℕ) (old mid new : List ℕ) (u p : ℕ) → i < length old → getD old i 0 ≡ 0 →
-    SlotsTo g i (set old i 1) mid u → 4 ≤ u → PairsTo g i mid new p → countOf (g .pairs) ≤ p → FellLine g i old new
+    SlotsTo g i (set old i 1) mid u → updateLimit ≤ u → PairsTo g i mid new p → countOf (g .pairs) ≤ p → FellLine g i old new
 line-done g i old mid new u p lt z S su P sp =
     fell-line g i old new lt z (fell-then g i (set old i 1) mid new (S .fell) (P .fell)) all
   where
@@ -296,5 +297,5 @@ pub same-at : (ws : List ℕ) (p : ℕ) → getD ws (2 * p) 0 ≡ keyAt ws 0 p
 same-at ws p = ap (λ (i : ℕ). getD ws i 0) (let e : 2 * p ≡ 2 * p + 0 = omega arith in e)
 
 -- a slot of a line is among the slots
-pub in-slots : (slots : List ℕ) (i u : ℕ) → i < linesIn slots → u < 4 → 4 * i + u < countOf slots
+pub in-slots : (slots : List ℕ) (i u : ℕ) → i < linesIn slots → u < updateLimit → 4 * i + u < countOf slots
 in-slots slots i u l h = omega (arith, l, h)

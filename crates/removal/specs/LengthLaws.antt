@@ -12,8 +12,8 @@ use Rattle.forms.specs.Forms.{Change, Did, Line, didLine, stableLine, fieldText
 use Rattle.forms.specs.Forms.{didText, lineText}
 use Rattle.forms.specs.declared.DoneRule.{DoneRule}
 use Rattle.forms.specs.declared.DoneRule.the-variants.{DidInc, DidSet, DidNot}
-use Rattle.rules.specs.CheckLaws.{formed-changes}
-use Rattle.rules.specs.Good.{FormedDid}
+use Rattle.rule_laws.specs.CheckLaws.{formed-changes}
+use Rattle.rule_laws.specs.Good.{FormedDid}
 use Rattle.rules.specs.Log.{dids, ended, linesText}
 
 field-long : (n : ℕ) → 2 ≤ length (fieldText n)

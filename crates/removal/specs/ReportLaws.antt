@@ -14,7 +14,7 @@ use lib.Dec.{T, eqb, eqb→eq, T-not, not-T}
 use lib.ListN.{length, getD, take, drop, length-append}
 use lib.Seq.{length-take-le, getD-take, drop-at}
 use Rattle.forms.specs.Forms.{Base, Change, Did, Line}
-use Rattle.forms.specs.Limits.{logLimit, baseTop}
+use Rattle.forms.specs.Limits.{logLimit, baseTop, historyLimit}
 use Rattle.forms.specs.Lists.{any, keep}
 use Rattle.forms.specs.ListLaws.{T-false, any-at, or-cases}
 use Rattle.forms.specs.Read.{noDid}
@@ -22,11 +22,11 @@ use Rattle.forms.specs.Refusals.{numberOf}
 use Rattle.forms.specs.declared.DoneRule.the-variants.{DidInc}
 use Rattle.forms.specs.declared.Refusal.the-variants.{AboveLimit, BadLog}
 use Rattle.rules.specs.Book.{baseOf}
-use Rattle.rules.specs.CheckLaws.{formed-changes}
-use Rattle.rules.specs.Good.{FormedDid}
-use Rattle.rules.specs.HeadLaws.{head-low}
+use Rattle.rule_laws.specs.CheckLaws.{formed-changes}
+use Rattle.rule_laws.specs.Good.{FormedDid}
+use Rattle.rule_laws.specs.HeadLaws.{head-low}
 use Rattle.rules.specs.Log.{Journal, journal, noJournal, dids, historiesFit, headText, logText, linesText, readLog}
-use Rattle.rules.specs.LogLaws.{histories-most}
+use Rattle.rule_laws.specs.LogLaws.{histories-most}
 use Rattle.history.specs.EntryLaws.{mem-getD}
 use Rattle.log_reader.specs.Model.{ReadsLog, Reads}
 use Rattle.log_reader.specs.declared.JournalRead.{JournalRead}
@@ -51,19 +51,20 @@ use Rattle.removal.specs.Model.{refusal, outcomeOf, Says, Reports, Reads
 abbrev noChange : Change
 noChange = record { rule = DidInc; history = 0; version = 0; place = 0; operand = 0 }
 
-getD-map-at : (xs : List Change) (u : ℕ) → u < length xs → getD (map (λ (x : Change). x .history) xs) u 16 ≡ getD xs u noChange .history
+getD-map-at : (xs : List Change) (u : ℕ) → u < length xs →
+    getD (map (λ (x : Change). x .history) xs) u historyLimit ≡ getD xs u noChange .history
 getD-map-at [] u h = absurd (not-suc-le-zero h)
 getD-map-at (x ∷ xs) zero h = refl
 getD-map-at (x ∷ xs) (suc u) h = getD-map-at xs u (le-of-suc-le-suc h)
 
-history-low : (n : ℕ) (d : Did) (u : ℕ) → FormedDid n d → n ≤ 16 → u < length (d .changes) → historyAt d u < 16
+history-low : (n : ℕ) (d : Did) (u : ℕ) → FormedDid n d → n ≤ historyLimit → u < length (d .changes) → historyAt d u < historyLimit
 unfolding historyAt
 history-low n d u F le l = go (d .changes) u l (λ x m. formed-changes n (d .changes) (F .passes) .known x m)
   where
     go : (xs : List Change) (u : ℕ) → u < length xs → ((x : Change) → Mem x xs → x .history < n) →
-        getD (map (λ (x : Change). x .history) xs) u 16 < 16
+        getD (map (λ (x : Change). x .history) xs) u historyLimit < historyLimit
     go xs u h f =
-        subst (λ (k : ℕ). k < 16) (sym (getD-map-at xs u h))
+        subst (λ (k : ℕ). k < historyLimit) (sym (getD-map-at xs u h))
         (omega (arith, f (getD xs u noChange) (mem-getD xs u noChange h), le))
 
 module _ (base : ℕ) (n : ℕ) (log : List Did) (full pairs lost : List ℕ) (fit : T (historiesFit n))
@@ -118,7 +119,7 @@ module _ (base : ℕ) (n : ℕ) (log : List Did) (full pairs lost : List ℕ) (f
 
 -- lines of a log that was read stand behind its head
 module _ (log : List ℕ) (j : JournalRead) (book notes : List ℕ) (n : ℕ) (β : Option Base) (lines : List Line)
-    (R : ReadsLog n β lines log j book notes) (small : length log ≤ 65536) where
+    (R : ReadsLog n β lines log j book notes) (small : length log ≤ logLimit) where
   abbrev printed : List ℕ
   printed = take (j .used) log
 
@@ -192,14 +193,14 @@ says-answer l old r new A = go (tooLong (length old) l) A
     go true a = record { answer = ap outcomeOf (a .answer); numbers = a .same }
     go false a = record { answer = ap outcomeOf (a .answer); numbers = a .numbers }
 
-pub report-above : (log pairs lost old : List ℕ) → 65536 < length log → Reports log pairs lost old (Refused AboveLimit) old
+pub report-above : (log pairs lost old : List ℕ) → logLimit < length log → Reports log pairs lost old (Refused AboveLimit) old
 unfolding report refuseIf numberOf
 report-above log pairs lost old h =
     subst (λ (b : Bool). Says (cond b (refused 13) (reportLog (readLog log) (pairsOf pairs) lost (length old))) old
     (Refused AboveLimit) old)
     (sym (lt-ltb logLimit (length log) h)) (says-refused 13 (Refused AboveLimit) old refl)
 
-module _ (log pairs lost old : List ℕ) (small : length log ≤ 65536) where
+module _ (log pairs lost old : List ℕ) (small : length log ≤ logLimit) where
   within : report log (pairsOf pairs) lost (length old) ≡ reportLog (readLog log) (pairsOf pairs) lost (length old)
   unfolding report refuseIf
   within = ap (λ (b : Bool). cond b (refused 13) (reportLog (readLog log) (pairsOf pairs) lost (length old))) (le-ltb logLimit

@@ -9,6 +9,8 @@ use super::chains::chain;
 use super::chains::first;
 use super::chains::further;
 use super::chains::mate;
+use super::slots::NO_HISTORY;
+use forms::limits::UPDATES;
 
 // The most did lines that a log of 65,536 bytes has: the shortest has 22.
 pub const LINES: usize = 2978;
@@ -17,14 +19,14 @@ pub const LINES: usize = 2978;
 pub type Marks = [u8; LINES];
 
 // Slots of a line: an update each.
-pub const SLOTS: usize = 4;
+pub const SLOTS: usize = UPDATES;
 
 // The next slot with the history of slot p: one of a later line. A slot without an update has the history 16.
 fn later(slots: &[u64], chains: &Chains, p: usize) -> usize
     requires { ⌜ Chained (now slots) 1 (now chains) × (p < countOf (now slots)) ⌝ }
     ensures { λ r. ⌜ LaterAt (now (slots .entry)) p r ⌝ }
 {
-    if slots[2 * p + 1] < 16 {
+    if slots[2 * p + 1] < NO_HISTORY {
         return further(slots, chains, 1, p);
     }
     slots.len() / 2

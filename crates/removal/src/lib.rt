@@ -9,6 +9,7 @@ ghost use Rattle.removal.specs.Model.{Reports, FallsIn, ReadsLines};
 use fall::Marks;
 use fall::mark;
 use forms::Refusal;
+use forms::limits::HISTORIES;
 use forms::limits::LIVE;
 use forms::limits::LOG_BYTES;
 use history::book::WIDTH;
@@ -46,7 +47,7 @@ pub fn report(log: &[u8], pairs: &[u64], lost: &[u64], out: &mut [u64]) -> Remov
     if LOG_BYTES < log.len() {
         return Removals::Refused(Refusal::AboveLimit);
     }
-    let mut book = [0u64; 16 * WIDTH];
+    let mut book = [0u64; HISTORIES * WIDTH];
     let mut notes = [0u64; LIVE * NOTE];
     let j = read_log(log, &mut book, &mut notes);
     let ok = j.ok;

@@ -1,7 +1,7 @@
 -- The card of the last W lines, computed from session texts, on both sides of each edge of 02's sentences; and an exchange of lines.
 use mathlib.Core.Path.{_≡_, refl}
-use mathlib.Core.Bool.{Bool}
-use mathlib.Core.List.{List, [], _∷_, _++_}
+use mathlib.Core.Bool.{Bool, false}
+use mathlib.Core.List.{List, [], _∷_, _++_, map}
 use mathlib.Core.List.{List·Memᴰ as Mem}
 use mathlib.Core.Option.{Option, none, some}
 use Prim.Native.Nat.{ℕ, _+_}
@@ -32,7 +32,8 @@ use Rattle.rules.specs.Calls.{valuesAfter, inProgress, future, without, 
 use Rattle.rules.specs.Calls.{withdrawRefusal, withdraw, persistent}
 use Rattle.rules.specs.Calls.{aboveMark, stableFull, stableRefusal, stabled, stable, restarted, restartAs, restart, cutAbove}
 use Rattle.rules.specs.Calls.{cut, stale, redoRefusal, behind, pick, drain, delivered}
-use Rattle.rules.specs.Calls.{redoRead, redo, end, changeover, Changeover, writableUpdate, writable, perform, step}
+use Rattle.rules.specs.Calls.{redoRead, redo, end, changeover, writableUpdate, writable, perform, step}
+use Rattle.rules.specs.Calls.{Call, Finish, Cut, Changeover, Redo}
 use Rattle.rules.specs.Keeper.{sameBytes}
 use Rattle.rules.specs.Session.{Session, turnOf, opening, calling, obey, onCommand, turn}
 use Rattle.rules.specs.Rules.{profileOf, replacedWith}
@@ -43,9 +44,8 @@ use Rattle.rules.specs.PollExamples.{after}
 use Rattle.rules.specs.Examples.{same-bytes}
 use Rattle.rules.specs.Trim.{baseCellAt, trimmedBase, trimmedLines, trimText, trimAbove, trimFull, trimRefusal}
 use Rattle.rules.specs.Card.{Carded, notCarded, carded, columnOf, tallied, updatesIn, updatesOver, lastLines, rowsOver}
-use Rattle.rules.specs.Card.{rowOver}
+use Rattle.rules.specs.Card.{rowOver, comesIn, allComeIn, takesBack, followed, followedBy}
 use Rattle.rules.specs.Card.{cardAfresh, cardNumbers, windowOut, cardRefusal, card}
-use Rattle.rules.specs.CardLaws.{Once}
 
 -- the numbers of a card, or that of the refusal
 unfoldable pub told : Carded → List ℕ
@@ -57,24 +57,33 @@ unfoldable pub changed : Option ℕ → State → State
 changed none st = st
 changed (some n) st = settle (step (Changeover n logLimit) st) st
 
--- the card of W lines of a session's site
-unfoldable pub asked : ℕ → Option ℕ → Session → List ℕ
-asked w over none = []
-asked w over (some st) = told (card w (changed over st))
+-- the card of W lines of a site; or the one that it had, followed by one call more
+unfoldable pub cardThen : ℕ → Option Call → State → List ℕ
+cardThen w none st = told (card w st)
+cardThen w (some c) st = cardNumbers (rowsOver (st .histories) (followedBy w (c ∷ []) st (lastLines w (st .log))))
 
--- A session of a site of two histories, a changeover behind it or none, and the card of W lines then: inc, set and not of history 0, and
--- of history 1.
+-- .. of a session's site
+unfoldable pub asked : ℕ → Option ℕ → Option Call → Session → List ℕ
+asked w over next none = []
+asked w over next (some st) = cardThen w next (changed over st)
+
+-- A session of a site of two histories, a changeover behind it or none, a call that the card follows or none, and the card of W lines then:
+-- inc, set and not of history 0, and of history 1.
 pub record Row : Type 0 where
   pub window : ℕ
   pub calls : List ℕ
   pub over : Option ℕ
+  pub next : Option Call
   pub told : List ℕ
 
 abbrev row : ℕ → List ℕ → List ℕ → Row
-row w calls told = record { window = w; calls = calls; over = none; told = told }
+row w calls told = record { window = w; calls = calls; over = none; next = none; told = told }
 
 abbrev rowBehind : ℕ → List ℕ → ℕ → List ℕ → Row
-rowBehind w calls n told = record { window = w; calls = calls; over = some n; told = told }
+rowBehind w calls n told = record { window = w; calls = calls; over = some n; next = none; told = told }
+
+abbrev rowNext : ℕ → List ℕ → Call → List ℕ → Row
+rowNext w calls c told = record { window = w; calls = calls; over = none; next = some c; told = told }
 
 -- six numbers
 abbrev six : ℕ → ℕ → ℕ → ℕ → ℕ → ℕ → List ℕ
@@ -121,16 +130,26 @@ edges =
     -- (h): only lines that stand in the log
     ∷ rowBehind 2 (both ++ bytes "(persistent 2)\n(stable 1)\n") 0 (six 1 0 0 0 1 1)
     ∷ rowBehind 2 (both ++ bytes "(persistent 2)\n(stable 1)\n") 1 (six 0 0 0 0 1 0)
+    -- "When a line comes in and W already count, the oldest leaves", and not before
+    ∷ rowNext 1 (added ++ bytes "(finish 5)\n") (Finish 6) (six 0 0 0 0 1 0)
+    ∷ rowNext 2 (added ++ bytes "(finish 5)\n") (Finish 6) (six 1 0 0 0 1 1)
+    -- behind a cut a card is counted afresh: the line that had left it is the last again
+    ∷ rowNext 1 both (Cut 46 logLimit) (six 1 0 0 0 0 1)
+    ∷ rowNext 1 both (Cut 3 logLimit) (six 0 0 0 0 1 0)
+    -- behind a changeover too: the first line no longer stands in the log
+    ∷ rowNext 2 (both ++ bytes "(persistent 2)\n(stable 1)\n") (Changeover 1 logLimit) (six 0 0 0 0 1 0)
+    -- all lines come in that a redo runs
+    ∷ rowNext 3 waiting (Redo (bytes "(did 6 (inc 0 1 1 0))")) (six 3 0 0 0 0 0)
     ∷ []
 
 -- The test of a row.
 unfoldable holds : Row → Bool
-holds r = sameBytes (asked (r .window) (r .over) (after (linesOf (bytes "(site 2)\n" ++ r .calls)) none)) (r .told)
+holds r = sameBytes (asked (r .window) (r .over) (r .next) (after (linesOf (bytes "(site 2)\n" ++ r .calls)) none)) (r .told)
 
 -- The one computed test, over the whole table.
 computed : T (all holds edges)
 computed =
-    unfold holds asked changed after told sameBytes below word digitsWithin digits more number numberOf in
+    unfold holds asked cardThen changed after told sameBytes below word digitsWithin digits more number numberOf in
     unfold fieldText fieldsText itemsText tailText listText updateText changeText oneText siteText didText stableText lineText redoText in
     unfold reading.field reading.rule reading.doneRule reading.update reading.change reading.one reading.items reading.tail reading.did in
     unfold reading.addForm in
@@ -154,13 +173,15 @@ computed =
     unfold turnOf opening calling obey onCommand turn in
     unfold baseCellText baseText closing settle baseCellAt trimmedBase trimmedLines trimText trimAbove trimFull trimRefusal changeover in
     unfold columnOf tallied updatesIn updatesOver lastLines rowOver rowsOver cardAfresh cardNumbers windowOut cardRefusal card in
+    unfold comesIn allComeIn takesBack followed followedBy in
     tt
 
 -- Each row holds.
-pub cards-hold : (r : Row) → Mem r edges → asked (r .window) (r .over) (after (linesOf (bytes "(site 2)\n" ++ r .calls)) none) ≡ r .told
+pub cards-hold : (r : Row) → Mem r edges →
+    asked (r .window) (r .over) (r .next) (after (linesOf (bytes "(site 2)\n" ++ r .calls)) none) ≡ r .told
 unfolding holds
 cards-hold r m =
-    same-bytes (asked (r .window) (r .over) (after (linesOf (bytes "(site 2)\n" ++ r .calls)) none)) (r .told)
+    same-bytes (asked (r .window) (r .over) (r .next) (after (linesOf (bytes "(site 2)\n" ++ r .calls)) none)) (r .told)
     (all-at holds edges computed r m)
 
 -- ### Why no line may have a history twice
@@ -177,6 +198,7 @@ abbrev other : Did
 other = record { id = 6; changes = record { rule = DidSet; history = 1; version = 1; place = 1; operand = 0 } ∷ [] }
 
 -- Exchanged for a line with a history twice, a single line moves a count by 2: the other one has none twice.
-pub exchange-twice : Once other × (updatesOver DidInc 0 (other ∷ []) + 2 ≡ updatesOver DidInc 0 (twice ∷ []))
+pub exchange-twice : (historyTwice (map (λ (x : Change). x .history) (other .changes)) ≡ false) ×
+    (updatesOver DidInc 0 (other ∷ []) + 2 ≡ updatesOver DidInc 0 (twice ∷ []))
 unfolding historyTwice updatesOver updatesIn tallied columnOf
 exchange-twice = (refl, refl)

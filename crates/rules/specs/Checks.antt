@@ -9,7 +9,7 @@ use Rattle.forms.specs.Lists.{any}
 use Rattle.forms.specs.Forms.{Update, Change}
 use Rattle.forms.specs.declared.Refusal.{Refusal}
 use Rattle.forms.specs.declared.Refusal.the-variants.{WrongCount, NoSuchHistory, HistoryTwice, OperandRange}
-use Rattle.forms.specs.Limits.{partLimit}
+use Rattle.forms.specs.Limits.{partLimit, updateLimit}
 use Rattle.rules.specs.Rules.{operandFits, operandFitsWith, ruleOf}
 
 -- "Checked in the order 1, 14, then rising": the first test that holds gives the refusal.
@@ -24,7 +24,7 @@ andThen none later = later
 
 -- 2: "updates not 1 to 4"
 unfoldable pub wrongCount : {A : Type 0} → List A → Bool
-wrongCount xs = eqb (length xs) 0 || ltb 4 (length xs)
+wrongCount xs = eqb (length xs) 0 || ltb updateLimit (length xs)
 
 -- 3: "no such history", in a site of n
 unfoldable pub noSuchHistory : ℕ → List ℕ → Bool

@@ -16,7 +16,8 @@ use Rattle.forms.specs.Reading.{readDid, readWhole}
 use Rattle.rules.specs.Checks.{check, andThen, wrongCount, noSuchHistory, historyTwice, formRefusal}
 use Rattle.rules.specs.Log.{ended, didsText}
 use Rattle.rules.specs.State.{lineBytes}
-use Rattle.rules.specs.Keeper.{Keeper, KeeperReply, refused, ok, keptBytes, unlessRefused, sameBytes, held, samePlace, placedAmong, samePlaces, agrees, inConflict, conflicts}
+use Rattle.rules.specs.Keeper.{Keeper, KeeperReply, refused, ok, keptBytes, unlessRefused, sameBytes, held, samePlace, placedAmong}
+use Rattle.rules.specs.Keeper.{samePlaces, agrees, inConflict, conflicts}
 use Rattle.rules.specs.Keeper.{keeperFull, tooLong, keepRefusal, keepRead, keepLine, coveredBy, dropLines}
 use Rattle.rules.specs.Checks.{changeMisfitsWith, changesRefusalWith}
 

@@ -7,19 +7,12 @@ use Prim.Native.Nat.{ℕ, _/_, _%_, _^_}
 use lib.Dec.{leb, ltb, eqb}
 use lib.ListN.{length}
 use Rattle.forms.specs.Lists.{any, keep, find, below}
+use Rattle.forms.specs.Limits.{recordLimit, sitesLimit}
 use Rattle.forms.specs.declared.Refusal.{Refusal}
 use Rattle.forms.specs.declared.Refusal.the-variants.{IdPending, TableFull, WrongThreshold, NotSent}
 use Rattle.rules.specs.Checks.{check}
 
 -- ### Sites
-
--- "up to eight sites"
-abbrev pub sitesLimit : ℕ
-sitesLimit = 8
-
--- "a 65th record 10"
-abbrev pub recordLimit : ℕ
-recordLimit = 64
 
 -- a site among others
 abbrev pub isIn : ℕ → List ℕ → Bool

@@ -10,7 +10,8 @@ use Rattle.forms.specs.declared.Rule.{Rule}
 use Rattle.forms.specs.declared.Rule.the-variants.{Inc, Set, Not, Unk}
 use Rattle.forms.specs.declared.Timing.{Timing}
 use Rattle.forms.specs.declared.Timing.the-variants.{Now, Later, Never}
-use Rattle.rules.specs.Rules.{loggedAs, mayRun, timing, versionAfter, profileAfter, strong, ordered, operandFits, profileOf, replacedWith}
+use Rattle.rules.specs.Rules.{loggedAs, mayRun, timing, versionAfter, profileAfter, strong, ordered, operandFits, profileOf}
+use Rattle.rules.specs.Rules.{replacedWith}
 use Rattle.rules.specs.Book.{Cell, entered, enteredWith}
 use Rattle.rules.specs.Keeper.{sameBytes}
 

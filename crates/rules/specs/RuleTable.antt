@@ -24,7 +24,8 @@ use Rattle.rules.specs.Log.{readSecond, baseFits, inOrder, headText, end
 use Rattle.rules.specs.Log.{stablesFrom, stablesAt, weaveFrom, markFrom}
 use Rattle.rules.specs.Log.{historiesFit, rises, follows, liveIn, tableHolds}
 use Rattle.rules.specs.State.{logBytes, versionAt, liveDone, live, asks, dry, becameDry, rose, lineBytes}
-use Rattle.rules.specs.Calls.{unless, blockedBy, blocked, mayRunNow, ready, attempt, tryFrom, madeReady, neverNow, holdsNever, overtaken, notOvertaken, overtakenIds}
+use Rattle.rules.specs.Calls.{unless, blockedBy, blocked, mayRunNow, ready, attempt, tryFrom, madeReady, neverNow, holdsNever}
+use Rattle.rules.specs.Calls.{overtaken, notOvertaken, overtakenIds}
 use Rattle.rules.specs.Calls.{nothingOrders, idPending, idDone, alreadyDone, readOvertaken, atHighest, tableFull, addRefusal, arrived}
 use Rattle.rules.specs.Calls.{add, changeOf, lineOf}
 use Rattle.rules.specs.Calls.{valuesAfter, inProgress, future, without, logFull, finished, finishFound, finish}

@@ -1,4 +1,5 @@
--- The calls with refusal 10 from outside: a site that shares its table (request (m) of 02). `full` says that "10 is met here", beside the site's own 64.
+-- The calls with refusal 10 from outside: a site that shares its table (request (m) of 02). `full` says that "10 is met here", beside the
+-- site's own 64.
 use mathlib.Core.Bool.{Bool, false, not, _||_}
 use mathlib.Core.List.{List}
 use mathlib.Core.Option.{none}

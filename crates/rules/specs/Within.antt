@@ -1,11 +1,13 @@
--- A site that may use n entries (request (m) of 02): the calls that take entries meet 10 where these do not suffice. Alone a site may use 64.
+-- A site that may use n entries (request (m) of 02): the calls that take entries meet 10 where these do not suffice. Alone a site may use
+-- 64.
 use mathlib.Core.Bool.{Bool, false}
 use mathlib.Core.List.{List}
 use Prim.Native.Nat.{ℕ}
 use lib.Dec.{leb, ltb}
 use Rattle.rules.specs.Log.{Journal}
 use Rattle.rules.specs.State.{State, Reply, refused, ok, live}
-use Rattle.rules.specs.Calls.{restartAs, restart, Call, Add, Finish, Withdraw, Persistent, Stable, Show, Cut, Changeover, Redo, End, step}
+use Rattle.rules.specs.Calls.{restartAs, restart, Call, Add, Finish, Withdraw, Persistent, Stable, Show, Cut, Changeover, Redo, End}
+use Rattle.rules.specs.Calls.{step}
 use Rattle.rules.specs.When.{lastly, stepWhen}
 
 -- the kept live lines of a cut or restart: those that are live after it

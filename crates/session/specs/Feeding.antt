@@ -5,6 +5,7 @@ use mathlib.Core.Bool.{Bool, true, false}
 use mathlib.Core.List.{List, [], _∷_, _++_}
 use mathlib.Core.Option.{Option, none}
 use lib.ListN.{length, take}
+use Rattle.forms.specs.Limits.{lineLimit}
 use Rattle.rules.specs.State.{State}
 use Rattle.rules.specs.Log.{linesFrom, restFrom}
 use Rattle.rules.specs.Session.{replies, afterLines}
@@ -45,15 +46,15 @@ joined (c ∷ cs) = c ++ joined cs
 -- what is held of an unended line: its bytes, or that it is above 1,024 bytes
 abbrev pub LineIs : Bool → List ℕ → List ℕ → Type 0
 LineIs false held line = held ≡ line
-LineIs true held line = 1024 < length line
+LineIs true held line = lineLimit < length line
 
 -- What the code asks of it.
 pub record UsablePartial (b : PartialLine) : Type 0 where
-  pub few : b .len ≤ 1024
-  pub long : length (b .bytes) ≡ 1024
+  pub few : b .len ≤ lineLimit
+  pub long : length (b .bytes) ≡ lineLimit
 
 -- b holds the unended line.
 pub record Begins (b : PartialLine) (line : List ℕ) : Type 0 where
-  pub few : b .len ≤ 1024
-  pub long : length (b .bytes) ≡ 1024
+  pub few : b .len ≤ lineLimit
+  pub long : length (b .bytes) ≡ lineLimit
   pub is : LineIs (b .over) (take (b .len) (b .bytes)) line

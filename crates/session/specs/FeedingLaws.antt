@@ -6,7 +6,7 @@ use mathlib.Core.Option.{Option}
 use Rattle.forms.specs.Forms.{outcomeText}
 use Rattle.rules.specs.State.{State}
 use Rattle.rules.specs.Log.{ended, linesFrom, restFrom}
-use Rattle.rules.specs.LineSplitLaws.{lines-append, rest-append, lines-from-open, rest-from-open, no-end-one}
+use Rattle.rule_laws.specs.LineSplitLaws.{lines-append, rest-append}
 use Rattle.rules.specs.Session.{turn, replies, afterLines, restReply, sessionIn}
 use Rattle.session.specs.Feeding.{Progress, atStart, fed, fedAll, joined}
 
@@ -58,22 +58,6 @@ fed-append room a b g = λ i. record { begun = begun i; session = session i; rep
 pub fed-none : (room : ℕ) (g : Progress) → fed room [] g ≡ g
 unfolding fed linesFrom restFrom replies afterLines
 fed-none room g = λ i. record { begun = g .begun; session = g .session; replied = append-nil (g .replied) i }
-
--- A byte that ends no line is kept.
-pub fed-byte : (room b : ℕ) (g : Progress) → (b ≡ 10 → ⊥) →
-    fed room (b ∷ []) g ≡ record { begun = g .begun ++ (b ∷ []); session = g .session; replied = g .replied }
-unfolding fed replies afterLines
-fed-byte room b g h =
-    λ i. record { begun = rest-from-open (g .begun) (b ∷ []) (no-end-one b h) i; session = session i; replied = replied i }
-  where
-    none-ended : linesFrom (g .begun) (b ∷ []) ≡ []
-    none-ended = lines-from-open (g .begun) (b ∷ []) (no-end-one b h)
-
-    session : afterLines room (linesFrom (g .begun) (b ∷ [])) (g .session) ≡ g .session
-    session = ap (λ (x : List (List ℕ)). afterLines room x (g .session)) none-ended
-
-    replied : g .replied ++ replies room (linesFrom (g .begun) (b ∷ [])) (g .session) ≡ g .replied
-    replied = ap (λ (x : List (List ℕ)). g .replied ++ replies room x (g .session)) none-ended ∙ append-nil (g .replied)
 
 -- A line end: the line is replied to, and nothing is begun.
 pub fed-end : (room : ℕ) (g : Progress) →

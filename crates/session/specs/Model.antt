@@ -72,8 +72,8 @@ pub record Unchanged (s : Session) (old : Lent) (r : LineResult) (new : Lent) : 
   pub session : r .session ≡ s
   pub kept : new ≡ old
 
--- "An accepted call alters no byte of a lent buffer past those in use, or handed out, after it": of the log's buffer, of the table's rows, of
--- the histories' numbers, and of the lists' numbers past those that the reply counts.
+-- "An accepted call alters no byte of a lent buffer past those in use, or handed out, after it": of the log's buffer, of the table's rows,
+-- of the histories' numbers, and of the lists' numbers past those that the reply counts.
 pub record UnusedKept (old : Lent) (r : LineResult) (new : Lent) : Type 0 where
   pub past : drop (usedIf (r .session .opened) (r .session .site)) (new .log)
       ≡ drop (usedIf (r .session .opened) (r .session .site)) (old .log)
@@ -183,4 +183,5 @@ DoesForm s old c r new = Does s old (siteReply (length (old .log)) (c .form) (c 
 -- The session, which is not open, takes the turn of opening a site of n histories.
 abbrev pub OpensLine : Session → ℕ → Ends → Ends → Ends → Ends → LineResult → Type 0
 OpensLine s n log rows order book r =
-    (ns : List ℕ) → Turns s (oldWith ns log rows order book) (turnOf (openSite n (length (was log))) none) r (newWith ns log rows order book)
+    (ns : List ℕ) → Turns s (oldWith ns log rows order book) (turnOf (openSite n (length (was log))) none) r
+    (newWith ns log rows order book)

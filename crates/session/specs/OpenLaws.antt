@@ -5,7 +5,7 @@ use mathlib.Core.Path.{_≡_, refl, sym, ap, subst}
 use mathlib.Core.Bool.{Bool, false}
 use mathlib.Core.Option.{none, some}
 use Rattle.rules.specs.State.{Reply, refused, ok}
-use Rattle.rules.specs.LogLaws.{histories-least}
+use Rattle.rule_laws.specs.LogLaws.{histories-least}
 use Rattle.rules.specs.Session.{turnOf}
 use Rattle.site.specs.declared.CallResult.{CallResult}
 use Rattle.site.specs.Representation.{Sound}

@@ -20,6 +20,7 @@ use Rattle.rules.specs.Calls.{Call, writable, perform, step, redo, redoRead}
 use Rattle.rules.specs.Session.{Turn, turnOf, opening, calling, obey, onCommand, turn}
 use Rattle.forms.specs.declared.reader.CommandRead.{CommandRead}
 use Rattle.forms.specs.Read.{commandAnswer}
+use Rattle.forms.specs.Limits.{lineLimit}
 use Rattle.site.specs.Model.{Lent}
 use Rattle.site.specs.ModelLaws.{step-performs}
 use Rattle.site.specs.Trim.{didHeld, redoOf}
@@ -29,7 +30,7 @@ use Rattle.session.specs.declared.LineResult.{LineResult}
 use Rattle.session.specs.Model.{sessionView, Turns, TurnsLine, siteReply, closedReply, obeyed, TurnsForm}
 
 -- the did line of a redo is shorter than its line
-redo-short : (d : Did) → length (commandText (Redo d)) ≤ 1024 → length (didText d) ≤ 1024
+redo-short : (d : Did) → length (commandText (Redo d)) ≤ lineLimit → length (didText d) ≤ lineLimit
 unfolding commandText redoText
 redo-short d h = omega (arith, h, length-append (bytes "(redo ") (didText d ++ bytes ")"), length-append (didText d) (bytes ")"))
 
@@ -40,7 +41,7 @@ redo-step d st e =
     step-performs (Call.Redo (didText d)) st refl ∙ ap (λ (z : Step Did). redoRead z st) e ∙ sym (redo-held d st)
 
 -- What is obeyed is the form that was read.
-obeys : (room : ℕ) (c : Command) (rest : List ℕ) (s : Option State) → WritableCommand c → length (commandText c) ≤ 1024 →
+obeys : (room : ℕ) (c : Command) (rest : List ℕ) (s : Option State) → WritableCommand c → length (commandText c) ≤ lineLimit →
     obey room c s ≡ obeyed room (commandAnswer (got c rest)) s
 unfolding obey opening calling obeyed siteReply closedReply commandAnswer
 obeys room (SiteOf n) rest none w h = refl
@@ -79,7 +80,7 @@ turn-is room line s = go (readCommand line) refl
     go : (x : Step Command) → readCommand line ≡ x → onCommand room x s ≡ obeyed room (commandAnswer x) s
     go (got c rest) e =
         let r = command-read line c rest e in
-        obeys room c rest s (r .2) (subst (λ (l : List ℕ). length l ≤ 1024) (r .0) (r .3))
+        obeys room c rest s (r .2) (subst (λ (l : List ℕ). length l ≤ lineLimit) (r .0) (r .3))
     go bad e = unread room s
 
 -- What is done for the form that was read is done for the line.

@@ -10,7 +10,7 @@ use lib.ListN.{length, length-drop}
 use lib.Seq.{length-take-le}
 use borrow.Author.Tests.{le-leb, lt-leb, not-true, not-false}
 use Rattle.forms.specs.ListLaws.{and-left, and-right}
-use Rattle.forms.specs.Limits.{liveLimit}
+use Rattle.forms.specs.Limits.{liveLimit, lineLimit}
 use Rattle.forms.specs.declared.writer.Written.{Written}
 use Rattle.forms.specs.Reading.{readWhole, readCommand}
 use Rattle.forms.specs.Forms.{Did}
@@ -20,7 +20,7 @@ use Rattle.forms.specs.declared.Refusal.{Refusal}
 use Rattle.forms.specs.declared.Refusal.the-variants.{Unreadable}
 use Rattle.rules.specs.State.{State, Reply, refused, ok}
 use Rattle.rules.specs.Calls.{unless, openSite, delivered}
-use Rattle.rules.specs.WithinLaws.{redo-own}
+use Rattle.rule_laws.specs.WithinLaws.{redo-own}
 use Rattle.rules.specs.Session.{Turn, turnOf, onCommand, turn}
 use Rattle.forms.specs.declared.reader.CommandForm.{CommandForm}
 use Rattle.forms.specs.declared.reader.CommandRead.{CommandRead}
@@ -38,10 +38,10 @@ unfolding numbersOf
 numbers-count n f = length-take-le (n .count) (n .values) (f .within)
 
 -- The lists of a reply that a call gives can be written.
-pub lists-short : (r : Replied) → Printable r → (length (numbersOf (r .first)) ≤ 64) × (length (numbersOf (r .second)) ≤ 64)
+pub lists-short : (r : Replied) → Printable r → (length (numbersOf (r .first)) ≤ liveLimit) × (length (numbersOf (r .second)) ≤ liveLimit)
 lists-short r p = (short (r .first) (p .first), short (r .second) (p .second))
   where
-    short : (n : Numbers) → Few n → length (numbersOf n) ≤ 64
+    short : (n : Numbers) → Few n → length (numbersOf n) ≤ liveLimit
     short n f = omega (arith, numbers-count n f, f .few)
 
 -- The second list ends within the array, and has as many numbers as the reply counts.
@@ -160,11 +160,12 @@ form-called s old c r new t e v d same =
     (call-turns s old (siteReply (length (old .log)) (c .form) (c .asked) (c .did) (view (s .site) old)) r new e v d))
 
 -- A redo of a site with 64 entries is that of a site alone.
-pub redo-alone : (s : Site) (old : Lent) (did : Did) (r : CallResult) (new : Lent) → length (old .order) ≡ 64 →
+pub redo-alone : (s : Site) (old : Lent) (did : Did) (r : CallResult) (new : Lent) → length (old .order) ≡ liveLimit →
     Does s old (redoWithin (length (old .order)) did (view s old)) r new → Does s old (redoOf did (view s old)) r new
 redo-alone s old did r new e d =
     subst (λ (x : Reply). Does s old x r new)
-    (ap (λ (n : ℕ). redoWithin n did (view s old)) e ∙ ap (λ (o : Option Refusal). unless o (delivered did (view s old))) (redo-own did (view s old)))
+    (ap (λ (n : ℕ). redoWithin n did (view s old)) e
+    ∙ ap (λ (o : Option Refusal). unless o (delivered did (view s old))) (redo-own did (view s old)))
     d
 
 -- .. of the form that it is
@@ -199,6 +200,6 @@ form-opens s old c n t new e h x = subst (λ (y : Turn). Turns s old y t new) (s
 -- ### A line
 
 -- 1: "above 1,024 bytes without its end"
-pub turn-over : (room : ℕ) (line : List ℕ) (s : Option State) → 1024 < length line → turn room line s ≡ turnOf (refused Unreadable) s
+pub turn-over : (room : ℕ) (line : List ℕ) (s : Option State) → lineLimit < length line → turn room line s ≡ turnOf (refused Unreadable) s
 unfolding turn onCommand readCommand readWhole
-turn-over room line s h = rw (lt-leb (length line) 1024 h) refl
+turn-over room line s h = rw (lt-leb (length line) lineLimit h) refl

@@ -15,6 +15,7 @@ use forms::LogNumber;
 use forms::Refusal;
 use forms::ReplyLine;
 use forms::ReplyNumbers;
+use forms::limits::LINE_BYTES;
 use forms::limits::LIVE;
 use forms::reader::CommandForm;
 use forms::reader::CommandRead;
@@ -48,7 +49,7 @@ pub struct Answered {
 
 // The unended line so far: its first `len` bytes, or that it is above 1,024 bytes.
 pub struct PartialLine {
-    pub bytes: [u8; 1024],
+    pub bytes: [u8; LINE_BYTES],
     pub len: usize,
     pub over: bool,
 }
@@ -58,7 +59,7 @@ pub fn no_line() -> PartialLine
     ensures { λ r. ⌜ Begins r [] ⌝ }
 {
     PartialLine {
-        bytes: [0; 1024],
+        bytes: [0; LINE_BYTES],
         len: 0,
         over: false,
     }

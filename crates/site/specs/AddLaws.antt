@@ -2,7 +2,7 @@
 use Prim.Native.Nat.{ℕ, _+_, _≤_, _<_}
 use native.Mathlib.Omega.{arith}
 use mathlib.Core.Path.{_≡_, refl, sym, ap, ap₂, subst, _∙_}
-use mathlib.Core.Bool.{Bool, true, false, _&&_, _||_}
+use mathlib.Core.Bool.{Bool, true, false, not, _&&_, _||_}
 use mathlib.Core.List.{List, [], _∷_, _++_, map, map-append}
 use mathlib.Core.List.{List·Memᴰ as Mem}
 use mathlib.Core.Logic.{_⊎_, inl, inr}
@@ -14,32 +14,34 @@ use Rattle.forms.specs.Decimal.{top}
 use Rattle.forms.specs.Lists.{all, any, sum}
 use Rattle.forms.specs.ListLaws.{T-true, mem-snoc}
 use Rattle.forms.specs.Forms.{Update, Added}
-use Rattle.forms.specs.Held.{outcomeWith, heldUpdates, updatesOf, Numbers, listed}
-use Rattle.forms.specs.HeldLaws.{updates-back}
+use Rattle.forms.specs.Held.{outcomeWith, updatesOf, Numbers, listed}
+use Rattle.forms.specs.Limits.{historyLimit}
 use Rattle.forms.specs.declared.AskedHeld.{AskedHeld}
 use Rattle.forms.specs.declared.ReplyForm.{ReplyForm}
 use Rattle.forms.specs.declared.Refusal.{Refusal}
 use Rattle.forms.specs.declared.Refusal.the-variants.{NothingOrders, IdPending, AlreadyDone, ReadOvertaken, HighestVersion, TableFull}
 use Rattle.forms.specs.declared.Refusal.the-variants.{OutOfTurn}
+use Rattle.rules.specs.Book.{Cell}
 use Rattle.rules.specs.Checks.{check, andThen, updatesRefusal}
-use Rattle.rules.specs.CheckLaws.{check-none, andThen-none, formed-updates, not-le, or-false-left}
+use Rattle.rule_laws.specs.CheckLaws.{check-none, andThen-none, formed-updates, not-le, or-false-left}
 use Rattle.rules.specs.Poll.{asksIn, busy}
-use Rattle.rules.specs.PollLaws.{busy-added, busy-few}
+use Rattle.rule_laws.specs.PollLaws.{busy-added, busy-few}
 use Rattle.rules.specs.State.{Operation, State, refused, ok, startOf, live, withPending}
 use Rattle.rules.specs.Calls.{Call, unless, writable, writableUpdate, perform, step, tryAll, madeReady}
-use Rattle.rules.specs.Calls.{add, addRefusalWhen, addRefusal, arrived, nothingOrders, idPending, idDone, alreadyDone, readOvertaken, atHighest, tableFull}
+use Rattle.rules.specs.Calls.{add, addRefusalWhen, addRefusal, arrived, nothingOrders, idPending, idDone, alreadyDone, readOvertaken}
+use Rattle.rules.specs.Calls.{atHighest, tableFull}
 use Rattle.rules.specs.When.{addWhen, performWhen, stepWhen}
 use Rattle.rules.specs.Within.{usesAll, stepWithin}
 use Rattle.history.specs.declared.History.{History}
 use Rattle.history.specs.declared.Entry.{Entry}
+use Rattle.history.specs.declared.Findings.{Findings}
 use Rattle.history.specs.declared.Verdict.{Verdict}
 use Rattle.history.specs.declared.Verdict.the-variants.{Refused}
-use Rattle.history.specs.Asking.{verdictOf, UsableHeld, Enters}
-use Rattle.history.specs.AskingLaws.{usable-held}
+use Rattle.history.specs.Asking.{verdictOf, HoldsUpdates, Enters}
 use Rattle.history.specs.Entries.{cellsOf, operationOf, InFirst}
 use Rattle.history.specs.Words.{entryIn}
 use Rattle.history.specs.BusyLaws.{items-asked, all-in-first, entry-few}
-use Rattle.history.specs.Cells.{alreadyDoneIn, readOvertakenIn, atHighestIn}
+use Rattle.history.specs.Cells.{alreadyDoneIn, readOvertakenIn, atHighestIn, findingsIn}
 use Rattle.history.specs.AtLog.{asked-first, already-done-book, read-overtaken-book, at-highest-book}
 use Rattle.table.specs.Tries.{tryAllIn, operationsOf}
 use Rattle.table.specs.TryLaws.{try-all-is}
@@ -48,12 +50,8 @@ use Rattle.site.specs.Representation.{Representation, stateOf, pendingIn
 use Rattle.site.specs.ModelLaws.{AcceptsCall, step-performs, accepts-step, says-lists, Means, means-is, means-none}
 use Rattle.site.specs.QueueLaws.{withQueue, carries-queue}
 use Rattle.site.specs.ShowLaws.{count-most}
-use Rattle.site.specs.CheckInputs.{Sees, conflictRefusal}
+use Rattle.site.specs.CheckInputs.{Sees, conflictRefusal, entryRefusal, addedOperation}
 use Rattle.site.specs.SeenLaws.{live-is}
-
--- the operation that an add brings
-abbrev pub addedOperation : ℕ → List Update → Operation
-addedOperation i us = record { id = i; updates = us; running = false }
 
 -- ### Refusals
 
@@ -72,39 +70,63 @@ module _ (x : CheckInputs) (hs : List History) (i : ℕ) (us : List Update) (ful
       (conflictRefusal (s .pending j) (s .done j || any (alreadyDone st) us) (any (readOvertaken st) us) (any (atHighest st) us)
       (s .full j) false))))
 
-  pub nothing-orders-is : nothingOrders us ≡ true → Refused NothingOrders ≡ verdictOf others
-  unfolding check verdictOf
-  nothing-orders-is e = rw e refl
-
-  pub conflict-is : updatesRefusal (x .count) us ≡ none → nothingOrders us ≡ false → (e : Entry) → Enters (addedOperation i us) e →
-      (done overtaken highest : Bool) →
-      done ≡ (x .done || any (alreadyDoneIn (cellsOf hs)) (operationOf e .updates)) →
-      overtaken ≡ any (readOvertakenIn (cellsOf hs)) (operationOf e .updates) →
-      highest ≡ any (atHighestIn (cellsOf hs)) (operationOf e .updates) →
-      (v : Verdict) → v ≡ verdictOf (conflictRefusal (x .pending) done overtaken highest (x .full) false) → v ≡ verdictOf others
-  unfolding check
-  conflict-is formed orders e enters done overtaken highest d o t v h =
-      h ∙ λ j. verdictOf (check (sym orders j) NothingOrders (conflictRefusal (x .pending) (ran j) (late j) (top-is j) (x .full) false))
+  pub entry-is : updatesRefusal (x .count) us ≡ none → (e : Entry) → Enters (addedOperation i us) e →
+      (v : Verdict) → v ≡ verdictOf (entryRefusal x (cellsOf hs) (operationOf e .updates)) → v ≡ verdictOf others
+  unfolding entryRefusal
+  entry-is formed e enters v h =
+      h ∙ λ j. verdictOf (check (nothing j) NothingOrders (conflictRefusal (x .pending) (ran j) (late j) (top-is j) (x .full) false))
     where
       within : InFirst (x .count) e
       within =
           asked-first (x .count) e (enters .usable)
           (ap (λ (y : Operation). updatesRefusal (x .count) (y .updates)) (enters .operation) ∙ formed)
 
-      ran : done ≡ (x .done || any (alreadyDone st) us)
+      nothing : nothingOrders (operationOf e .updates) ≡ nothingOrders us
+      nothing = ap (λ (y : Operation). nothingOrders (y .updates)) (enters .operation)
+
+      ran : (x .done || any (alreadyDoneIn (cellsOf hs)) (operationOf e .updates)) ≡ (x .done || any (alreadyDone st) us)
       ran =
-          d ∙ ap (_||_ (x .done)) (already-done-book (x .count) hs st (s .book) e within
+          ap (_||_ (x .done)) (already-done-book (x .count) hs st (s .book) e within
           ∙ ap (λ (y : Operation). any (alreadyDone st) (y .updates)) (enters .operation))
 
-      late : overtaken ≡ any (readOvertaken st) us
+      late : any (readOvertakenIn (cellsOf hs)) (operationOf e .updates) ≡ any (readOvertaken st) us
       late =
-          o ∙ read-overtaken-book (x .count) hs st (s .book) e within
+          read-overtaken-book (x .count) hs st (s .book) e within
           ∙ ap (λ (y : Operation). any (readOvertaken st) (y .updates)) (enters .operation)
 
-      top-is : highest ≡ any (atHighest st) us
+      top-is : any (atHighestIn (cellsOf hs)) (operationOf e .updates) ≡ any (atHighest st) us
       top-is =
-          t ∙ at-highest-book (x .count) hs st (s .book) e within
+          at-highest-book (x .count) hs st (s .book) e within
           ∙ ap (λ (y : Operation). any (atHighest st) (y .updates)) (enters .operation)
+
+-- ### By what one pass has found
+
+orders-both : (s o : Bool) → (s && not o) ≡ not (not s || o)
+orders-both true true = refl
+orders-both true false = refl
+orders-both false true = refl
+orders-both false false = refl
+
+module _ (x : CheckInputs) (cells : ℕ → Cell) (us : List Update) (f : Findings) (e : f ≡ findingsIn cells us) where
+  -- 6, by the negation
+  orders-is : (b : Bool) → b ≡ (not (f .strong) || f .orders) → nothingOrders us ≡ not b
+  unfolding nothingOrders findingsIn
+  orders-is b h =
+      sym (ap (λ (g : Findings). g .strong && not (g .orders)) e) ∙ orders-both (f .strong) (f .orders) ∙ ap not (sym h)
+
+  pub nothing-orders-is : (b : Bool) → b ≡ (not (f .strong) || f .orders) → b ≡ false →
+      Refused NothingOrders ≡ verdictOf (entryRefusal x cells us)
+  unfolding check verdictOf entryRefusal
+  nothing-orders-is b h z = rw (orders-is b h ∙ ap not z) refl
+
+  pub conflict-is : (b : Bool) → b ≡ (not (f .strong) || f .orders) → b ≡ true → (done : Bool) → done ≡ (x .done || f .ran) →
+      (v : Verdict) → v ≡ verdictOf (conflictRefusal (x .pending) done (f .overtaken) (f .highest) (x .full) false) →
+      v ≡ verdictOf (entryRefusal x cells us)
+  unfolding check entryRefusal findingsIn
+  conflict-is b h z done d v k =
+      k ∙ λ j. verdictOf
+      (check (sym (orders-is b h ∙ ap not z) j) NothingOrders
+      (conflictRefusal (x .pending) ((d ∙ ap (λ (g : Findings). x .done || g .ran) e) j) (e j .overtaken) (e j .highest) (x .full) false))
 
 -- What passed all checks: `full` does not say that the site may use no more entries.
 pub record Free (full : Bool) (i : ℕ) (us : List Update) (st : State) : Type 0 where
@@ -136,17 +158,11 @@ pub free-of : (i : ℕ) (us : List Update) (st : State) → addRefusal i us st �
 unfolding addRefusal
 free-of i us st e = free-when false i us st e
 
--- updates that passed 2 to 5 can become an entry
-pub usable-asked : (a : AskedHeld) (us : List Update) (n : ℕ) → n ≤ 16 → a ≡ heldUpdates us → updatesRefusal n us ≡ none → UsableHeld a
-usable-asked a us n le e f = subst UsableHeld (sym e) (usable-held n us le f)
-
--- the updates of an entry are those asked for
-pub asked-back : (a : AskedHeld) (us : List Update) (n : ℕ) → a ≡ heldUpdates us → updatesRefusal n us ≡ none → updatesOf a ≡ us
-asked-back a us n e f = ap updatesOf e ∙ updates-back us (formed-updates n us f .few)
-
--- .. and the entry is theirs
-pub asked-enters : (i : ℕ) (ks us : List Update) → ks ≡ us → (e : Entry) → Enters (addedOperation i ks) e → Enters (addedOperation i us) e
-asked-enters i ks us b e x = subst (λ (l : List Update). Enters (addedOperation i l) e) b x
+-- updates that passed 2 to 5 are those of the entry made of them
+pub asked-enters : (i n : ℕ) (a : AskedHeld) (us : List Update) → HoldsUpdates a us → updatesRefusal n us ≡ none →
+    (e : Entry) → Enters (addedOperation i (updatesOf a)) e → Enters (addedOperation i us) e
+asked-enters i n a us h f e x =
+    subst (λ (l : List Update). Enters (addedOperation i l) e) (h .first (omega (arith, h .count, formed-updates n us f .few))) x
 
 -- ### The call
 
@@ -171,7 +187,7 @@ module _ (s : Representation) (bytes : List ℕ) (v : Sound s bytes) (i : ℕ) (
     (q : List Entry) (more : q ≡ s .queue ++ (e ∷ [])) (tq : List Entry)
     (queue : operationsOf tq ≡ tryAllIn (cellsOf (s .histories)) (operationsOf q)) (ns : Numbers)
     (ids : Means ns (madeReady (operationsOf q) (tryAllIn (cellsOf (s .histories)) (operationsOf q))))
-    (numbers : List ℕ) (counts : (h : ℕ) → h < 16 → getD numbers h 0 ≡ getD (s .busy) h 0 + sum (entryIn h) (e ∷ [])) where
+    (numbers : List ℕ) (counts : (h : ℕ) → h < historyLimit → getD numbers h 0 ≡ getD (s .busy) h 0 + sum (entryIn h) (e ∷ [])) where
   abbrev st : State
   st = stateOf s bytes
 
@@ -238,11 +254,6 @@ module _ (s : Representation) (bytes : List ℕ) (v : Sound s bytes) (i : ℕ) (
 
 -- ### From the code's tests
 
--- what is held has four places
-pub asks-long : (a : AskedHeld) (us : List Update) → a ≡ heldUpdates us → length (a .first) ≡ 4
-unfolding heldUpdates
-asks-long a us e = ap (λ (h : AskedHeld). length (h .first)) e
-
 -- there is room for one entry more
 pub room-left : (s : Representation) (bytes : List ℕ) → Sound s bytes → (n : ℕ) → usesAll n (stateOf s bytes) ≡ false →
     length (s .finished) + length (s .queue) < n
@@ -263,10 +274,3 @@ module _ (s : Representation) (bytes : List ℕ) (v : Sound s bytes) (i : ℕ) (
   passed-counts e x k one =
       let lt : k < s .count = all-in-first (s .count) e (passed-first e x) k (omega (arith, one)) in
       omega (arith, v .carries .busy k lt, busy-few (stateOf s bytes) k (v .good), entry-few k e (x .usable))
-
-  module _ (a : AskedHeld) (h : a ≡ heldUpdates us) where
-    pub passed-usable : UsableHeld a
-    passed-usable = usable-asked a us (s .count) (count-most s bytes v) h (free-of i us (stateOf s bytes) free .formed)
-
-    pub passed-enters : (e : Entry) → Enters (addedOperation i (updatesOf a)) e → Enters (addedOperation i us) e
-    passed-enters = asked-enters i (updatesOf a) us (asked-back a us (s .count) h (free-of i us (stateOf s bytes) free .formed))

@@ -10,7 +10,7 @@ use Rattle.forms.specs.Lists.{any}
 use Rattle.forms.specs.ListLaws.{Nodup}
 use Rattle.rules.specs.State.{State}
 use Rattle.rules.specs.Calls.{idPending, idDone}
-use Rattle.rules.specs.Good.{didIds, operationIds}
+use Rattle.rule_laws.specs.Good.{didIds, operationIds}
 use Rattle.history.specs.Entries.{didOfEntry}
 use Rattle.table.specs.declared.Lookup.{Lookup}
 use Rattle.table.specs.declared.Lookup.the-variants.{At, Nothing}

@@ -7,6 +7,7 @@ use denote.Ref.{RefT, now}
 use Rattle.forms.specs.Lists.{below}
 use Rattle.forms.specs.Forms.{Outcome, Refused, Accepted, Answer}
 use Rattle.forms.specs.Held.{Numbers, Replied, replied, outcomeOf}
+use Rattle.forms.specs.Limits.{liveLimit}
 use Rattle.forms.specs.declared.Refusal.{Refusal}
 use Rattle.rules.specs.State.{State, Reply, refused, ok}
 use Rattle.rules.specs.Calls.{Call, step}
@@ -97,7 +98,7 @@ ValidLog s log = (rows : List ℕ) × (order : List ℕ) × (book : List ℕ) ×
 
 -- the numbers of a reply are at most 64, so that it can be printed
 pub record Few (n : Numbers) : Type 0 where
-  pub few : n .count ≤ 64
+  pub few : n .count ≤ liveLimit
   pub within : n .count ≤ length (n .values)
 
 pub record Printable (r : Replied) : Type 0 where
@@ -146,7 +147,7 @@ Does s old x r new = DoesWith (old .order) s old x r new
 
 -- .. opening and restart of a site alone: whatever the order was before, its 64 entries are numbered from 0 on
 abbrev pub Opens : Site → Lent → Reply → CallResult → Lent → Type 0
-Opens s old x r new = DoesWith (below 64) s old x r new
+Opens s old x r new = DoesWith (below liveLimit) s old x r new
 
 -- .. of this call, as a site alone does it; those that take no entries have no 10
 abbrev pub Steps : Site → Lent → Call → CallResult → Lent → Type 0

@@ -2,23 +2,24 @@
 use Prim.Native.Nat.{ℕ, _+_}
 use native.Mathlib.Omega.{arith}
 use mathlib.Core.Path.{_≡_, refl, sym, ap, ap₂, subst, _∙_}
-use mathlib.Core.Bool.{true, false}
+use mathlib.Core.Bool.{true}
 use mathlib.Core.List.{List, []}
 use lib.ListN.{length, drop}
 use Rattle.forms.specs.Forms.{Answer, Refused, Accepted}
 use Rattle.forms.specs.Held.{Numbers, listed, numbersOf, Replied, replied, outcomeWith, outcomeOf}
-use Rattle.rules.specs.KeptLaws.{good-reads}
-use Rattle.rules.specs.WeaveLaws.{dids-weave}
-use Rattle.rules.specs.GoodLaws.{good-step}
+use Rattle.forms.specs.Limits.{liveLimit}
+use Rattle.rule_laws.specs.KeptLaws.{good-reads}
+use Rattle.rule_laws.specs.WeaveLaws.{dids-weave}
+use Rattle.rule_laws.specs.GoodLaws.{good-step}
 use Rattle.forms.specs.declared.Refusal.{Refusal}
 use Rattle.forms.specs.declared.ReplyForm.{ReplyForm}
 use Rattle.rules.specs.Log.{dids, stablesOf, readLog}
 use Rattle.rules.specs.State.{State, Reply, refused, ok, linesIn, settle}
 use Rattle.rules.specs.Checks.{check}
 use Rattle.rules.specs.Calls.{Call, unless, writable, perform, step}
-use Rattle.rules.specs.Within.{tenWithin, stepWithin}
-use Rattle.rules.specs.WithinLaws.{within-plain, step-own}
-use Rattle.rules.specs.Good.{Good}
+use Rattle.rules.specs.Within.{stepWithin}
+use Rattle.rule_laws.specs.WithinLaws.{step-own}
+use Rattle.rule_laws.specs.Good.{Good}
 use Rattle.history.specs.declared.History.{History}
 use Rattle.history.specs.declared.Entry.{Entry}
 use Rattle.history.specs.Words.{PastKept}
@@ -265,14 +266,8 @@ accepts-call old reply st a r new e says h past =
       past = past;
     }
 
--- A call that takes no entries, or for which there are enough, is that of a site alone.
-pub steps-within : (s : Site) (old : Lent) (c : Call) (r : CallResult) (new : Lent) →
-    tenWithin (length (old .order)) c (view s old) ≡ false → Steps s old c r new → StepsWithin s old c r new
-steps-within s old c r new e d =
-    subst (λ (x : Reply). Does s old x r new) (sym (within-plain (length (old .order)) c (view s old) e)) d
-
 -- With 64 entries each call is that of a site alone.
-pub steps-alone : (s : Site) (old : Lent) (c : Call) (r : CallResult) (new : Lent) → length (old .order) ≡ 64 →
+pub steps-alone : (s : Site) (old : Lent) (c : Call) (r : CallResult) (new : Lent) → length (old .order) ≡ liveLimit →
     StepsWithin s old c r new → Steps s old c r new
 steps-alone s old c r new e d =
     subst (λ (x : Reply). Does s old x r new) (ap (λ (n : ℕ). stepWithin n c (view s old)) e ∙ step-own c (view s old)) d

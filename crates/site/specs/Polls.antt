@@ -7,9 +7,10 @@ use mathlib.Core.List.{List, []}
 use lib.Dec.{eqb}
 use lib.ListN.{getD}
 use borrow.Author.Tests.{le-leb, lt-leb}
+use Rattle.forms.specs.Limits.{historyLimit}
 use Rattle.forms.specs.declared.Refusal.the-variants.{NoSuchHistory as RefusedNoSuchHistory}
 use Rattle.rules.specs.Poll.{Polled, PollRefused, PollDry, PollBusy, busy, poll}
-use Rattle.rules.specs.PollLaws.{poll-is}
+use Rattle.rule_laws.specs.PollLaws.{poll-is}
 use Rattle.rules.specs.State.{dry}
 use Rattle.site.specs.declared.Site.{Site}
 use Rattle.site.specs.declared.poll.PollAnswer.{PollAnswer}
@@ -34,7 +35,7 @@ Polls s book h r =
     (log rows order : List ℕ) → Valid s (lent log rows order book []) → polledOf r ≡ poll h (view s (lent log rows order book []))
 
 -- there are at most sixteen histories
-pub with-most : (s : Site) (book : List ℕ) → ValidWith s book → s .count ≤ 16
+pub with-most : (s : Site) (book : List ℕ) → ValidWith s book → s .count ≤ historyLimit
 with-most s book (log, rows, order, v) = count-most _ log (v .sound)
 
 -- ### What the number says

@@ -8,6 +8,7 @@ use lib.Seq.{take-at, drop-at, drop-drop, length-take-le}
 use Rattle.forms.specs.Held.{listed, numbersOf}
 use Rattle.forms.specs.Write.{placed, Wrote}
 use Rattle.forms.specs.WriteLaws.{wrote-more}
+use Rattle.forms.specs.Limits.{liveLimit}
 use Rattle.history.specs.Lists.{Lists}
 use Rattle.site.specs.ModelLaws.{Means}
 use Rattle.site.specs.LineLaws.{Appended, behind-past, behind-length}
@@ -63,7 +64,7 @@ module _ {old xs : List ℕ} {n : ℕ} {new : List ℕ} (l : Lists old 0 xs n ne
 
 -- .. as one
 pub lists-joined : {old : List ℕ} {at : ℕ} {xs : List ℕ} {n : ℕ} {mid ys : List ℕ} {m : ℕ} {new : List ℕ} → Lists old at xs n mid →
-    Lists mid (at + n) ys m new → n + m ≤ 64 → Lists old at (xs ++ ys) (n + m) new
+    Lists mid (at + n) ys m new → n + m ≤ liveLimit → Lists old at (xs ++ ys) (n + m) new
 lists-joined {old} {at} {xs} {n} {mid} {ys} {m} {new} f g few =
     let e : at + n + m ≡ at + (n + m) = omega arith in
     record {

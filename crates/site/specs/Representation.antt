@@ -7,13 +7,14 @@ use mathlib.Core.Option.{Option, none}
 use lib.ListN.{length, take, drop, getD}
 use Rattle.forms.specs.Lists.{sum}
 use Rattle.forms.specs.Forms.{Base, Did, Line}
+use Rattle.forms.specs.Limits.{historyLimit}
 use Rattle.forms.specs.declared.LogNumber.{LogNumber}
 use Rattle.rules.specs.Book.{cell}
 use Rattle.rules.specs.Log.{Journal, journal, noJournal, dids, stablesOf, headText, readLog}
 use Rattle.rules.specs.State.{Operation, State, logBytes, startOf, doneIn, linesIn, stableTo, versionAt, liveDone, lineBytes}
-use Rattle.rules.specs.CoverLaws.{marksBefore}
+use Rattle.rule_laws.specs.CoverLaws.{marksBefore}
 use Rattle.rules.specs.Poll.{busy as busyIn}
-use Rattle.rules.specs.Good.{Good}
+use Rattle.rule_laws.specs.Good.{Good}
 use Rattle.history.specs.declared.History.{History}
 use Rattle.history.specs.declared.Entry.{Entry}
 use Rattle.history.specs.Entries.{cellsOf, operationOf, didOfEntry}
@@ -102,11 +103,11 @@ pub record Carries (s : Representation) (bytes : List ℕ) (st : State) : Type 0
   pub pending : pendingIn (s .restoring) s ≡ st .pending
   pub waiting : waitingIn (s .restoring) s ≡ st .waiting
   pub reserved : s .reserved ≡ sum lineBytes (st .waiting)
-  pub historiesLong : length (s .histories) ≡ 16
+  pub historiesLong : length (s .histories) ≡ historyLimit
   pub book : (h : ℕ) → h < s .count → cellsOf (s .histories) h ≡ cell (startOf st) h (st .log)
-  pub persistedLong : length (s .persisted) ≡ 16
+  pub persistedLong : length (s .persisted) ≡ historyLimit
   pub persisted : (h : ℕ) → h < s .count → getD (s .persisted) h 0 ≡ versionAt (st .persistentTo) h st
-  pub stabilisedLong : length (s .stabilised) ≡ 16
+  pub stabilisedLong : length (s .stabilised) ≡ historyLimit
   pub stabilised : (h : ℕ) → h < s .count → getD (s .stabilised) h 0 ≡ versionAt (stableTo st) h st
   -- "for every history the number of its future, in-progress and volatile updates"
   pub busy : (h : ℕ) → h < s .count → getD (s .busy) h 0 ≡ busyIn st h

@@ -11,6 +11,7 @@ use lib.Dec.{leb, eqb}
 use lib.ListN.{length, length-map}
 use Rattle.forms.specs.Lists.{any}
 use Rattle.forms.specs.Forms.{Did}
+use Rattle.forms.specs.Limits.{liveLimit}
 use Rattle.forms.specs.declared.Refusal.{Refusal}
 use Rattle.forms.specs.declared.Refusal.the-variants.{OutOfTurn}
 use Rattle.rules.specs.Checks.{check, andThen}
@@ -61,15 +62,15 @@ live-is s bytes c = omega (arith, go (s .restoring), done)
     done = sym (length-map (s .finished) didOfEntry) ∙ ap length (c .finished)
 
 -- .. of which a site may use n, at most 64: where all of 64 are live, all of n are
-full-is : (n m : ℕ) → n ≤ 64 → leb n m ≡ (leb n m || leb 64 m)
+full-is : (n m : ℕ) → n ≤ liveLimit → leb n m ≡ (leb n m || leb liveLimit m)
 full-is n m most = go (leb n m) refl
   where
-    go : (b : Bool) → leb n m ≡ b → b ≡ (b || leb 64 m)
+    go : (b : Bool) → leb n m ≡ b → b ≡ (b || leb liveLimit m)
     go true e = refl
-    go false e = sym (lt-leb 64 m (omega (arith, leb-false n m e, most)))
+    go false e = sym (lt-leb liveLimit m (omega (arith, leb-false n m e, most)))
 
 -- what is read of a valid site that may use n entries is so in its stateOf
-pub site-sees : (s : Representation) (bytes : List ℕ) → Sound s bytes → (n : ℕ) → n ≤ 64 → (i : ℕ) (pending done full : Bool) →
+pub site-sees : (s : Representation) (bytes : List ℕ) → Sound s bytes → (n : ℕ) → n ≤ liveLimit → (i : ℕ) (pending done full : Bool) →
     pending ≡ any (hasId i) (s .queue) →
     done ≡ any (hasId i) (s .finished) → full ≡ leb n (length (s .finished) + length (s .queue)) →
     Sees (record { restoring = s .restoring; count = s .count; pending = pending; done = done; full = full }) (s .histories) i
@@ -102,6 +103,15 @@ passes-is o e = sym (ap refusalIn e ∙ verdict-back o)
 
 pub refused-is : (o : Option Refusal) (q : Refusal) → Refused q ≡ verdictOf o → o ≡ some q
 refused-is o q e = sym (ap refusalIn e ∙ verdict-back o)
+
+-- a verdict that refuses does not pass
+kindOf : Verdict → ℕ
+kindOf Passes = 0
+kindOf (Refused q) = 1
+
+pub refuses-not : (v : Verdict) (q : Refusal) → v ≡ Refused q → v ≡ Passes → ⊥
+unfolding kindOf
+refuses-not v q e f = let z : _≡_ {A = ℕ} 1 0 = ap kindOf (sym e ∙ f) in omega (arith, z)
 
 -- Checks that begin with the turn and the form.
 module _ (o : Option Refusal) (turn : Bool) (form rest : Option Refusal) (is : o ≡ check turn OutOfTurn (andThen form rest)) where

@@ -8,11 +8,12 @@ use Rattle.forms.specs.Decimal.{top}
 use Rattle.forms.specs.Held.{Replied, outcomeWith, listed}
 use Rattle.forms.specs.declared.ReplyForm.{ReplyForm}
 use Rattle.forms.specs.Forms.{Shown}
+use Rattle.forms.specs.Limits.{historyLimit}
 use Rattle.forms.specs.declared.Refusal.the-variants.{NoSuchHistory}
 use Rattle.rules.specs.Checks.{check}
 use Rattle.rules.specs.Book.{cell}
 use Rattle.rules.specs.State.{State, refused, ok, startOf, stableTo, versionAt}
-use Rattle.rules.specs.LogLaws.{histories-most}
+use Rattle.rule_laws.specs.LogLaws.{histories-most}
 use Rattle.rules.specs.Calls.{Call, unless, writable, perform, step, show}
 use Rattle.history.specs.declared.History.{History}
 use Rattle.history.specs.Entries.{cellsOf, noHistory}
@@ -20,7 +21,7 @@ use Rattle.site.specs.Representation.{Representation, stateOf, Carries, 
 use Rattle.site.specs.ModelLaws.{AcceptsCall, step-performs, accepts-call, says-lists, means-none}
 
 -- There are at most sixteen histories.
-pub count-most : (s : Representation) (bytes : List ℕ) → Sound s bytes → s .count ≤ 16
+pub count-most : (s : Representation) (bytes : List ℕ) → Sound s bytes → s .count ≤ historyLimit
 unfolding Sound
 count-most s bytes v = histories-most (s .count) (v .good .histories)
 

@@ -9,7 +9,7 @@ use mathlib.Core.Option.{Option, none, some}
 use mathlib.Core.List.{List, [], _∷_, map}
 use mathlib.Core.List.{List·Memᴰ as Mem, List·Memᴰ·head as here, List·Memᴰ·tail as there, List·Memᴰ·not-nil, List·Memᴰ·cases-cons}
 use lib.Dec.{T, leb, eqb}
-use lib.ListN.{length, getD}
+use lib.ListN.{length, getD, take}
 use borrow.Author.Tests.{leb-true, leb-false, le-leb, lt-ltb}
 use Rattle.forms.specs.Decimal.{top}
 use Rattle.forms.specs.Lists.{all, any}
@@ -17,8 +17,10 @@ use Rattle.forms.specs.ListLaws.{true-T, all-of, all-at}
 use Rattle.forms.specs.Forms.{Update, Change, Did}
 use Rattle.forms.specs.Writable.{WritableUpdate, WritableChange, WritableDid, Each}
 use Rattle.forms.specs.Held.{asUpdate, asAsked, asChange, asDone, noUpdate, noChange, firstFour, heldUpdates, heldChanges, heldDid}
+use Rattle.forms.specs.Held.{updatesOf}
 use Rattle.forms.specs.HeldLaws.{four-at}
 use Rattle.forms.specs.BaseHeldLaws.{padded-length, padded-at}
+use Rattle.forms.specs.Limits.{updateLimit}
 use Rattle.forms.specs.declared.Asked.{Asked}
 use Rattle.forms.specs.declared.Done.{Done}
 use Rattle.forms.specs.declared.AskedHeld.{AskedHeld}
@@ -28,6 +30,7 @@ use Rattle.forms.specs.declared.Refusal.the-variants.{WrongCount, NoSuchHistory
 use Rattle.rules.specs.Checks.{check, andThen, wrongCount, noSuchHistory, historyTwice, formRefusal, updatesRefusal}
 use Rattle.rules.specs.State.{State, Reply, refused}
 use Rattle.rules.specs.Calls.{Call, writableUpdate, unless, step, add, addRefusal, redoRefusal, delivered}
+use Rattle.history.specs.Asking.{HoldsUpdates}
 use Rattle.site.specs.AddLaws.{add-performs}
 use Rattle.site.specs.Trim.{padded, updatesHeld, changesHeld, didHeld, redoOf, redoFull, Stands}
 use Rattle.rules.specs.Checks.{changesRefusalWith}
@@ -50,7 +53,7 @@ module _ {A : Type 0} (blank : A) where
   padded-past (suc n) (x ∷ xs) (suc i) h = padded-past n xs i (omega arith)
 
   -- at most four are all held
-  padded-all : (xs : List A) → length xs ≤ 4 → padded blank (length xs) (firstFour (λ x. x) blank xs) ≡ xs
+  padded-all : (xs : List A) → length xs ≤ updateLimit → padded blank (length xs) (firstFour (λ x. x) blank xs) ≡ xs
   padded-all [] h = refl
   padded-all (a ∷ []) h = refl
   padded-all (a ∷ b ∷ []) h = refl
@@ -72,7 +75,8 @@ module _ {A : Type 0} (blank : A) where
   each-at W (y ∷ ys) h (suc i) l = each-at W ys (λ x m. h x (there m)) i (omega (arith, l))
 
   -- four places: what holds there below the count, and of the blank, holds of all that are held
-  four-each : (W : A → Type 0) → W blank → (n : ℕ) (a b c d : A) → ((i : ℕ) → i < n → i < 4 → W (getD (a ∷ b ∷ c ∷ d ∷ []) i blank)) →
+  four-each : (W : A → Type 0) → W blank → (n : ℕ) (a b c d : A) →
+      ((i : ℕ) → i < n → i < updateLimit → W (getD (a ∷ b ∷ c ∷ d ∷ []) i blank)) →
       Each W (padded blank n (a ∷ b ∷ c ∷ d ∷ []))
   four-each W empty n a b c d h = padded-each W n (a ∷ b ∷ c ∷ d ∷ []) go
     where
@@ -84,7 +88,7 @@ module _ {A : Type 0} (blank : A) where
       go (suc (suc (suc (suc i)))) l = empty
 
 -- what holds at four places
-four : (P : ℕ → Type 0) → P 0 → P 1 → P 2 → P 3 → (i : ℕ) → i < 4 → P i
+four : (P : ℕ → Type 0) → P 0 → P 1 → P 2 → P 3 → (i : ℕ) → i < updateLimit → P i
 four P a b c d zero h = a
 four P a b c d (suc zero) h = b
 four P a b c d (suc (suc zero)) h = c
@@ -94,7 +98,7 @@ four P a b c d (suc (suc (suc (suc i)))) h = absurd (omega arith)
 -- Values of the code: n are counted, and the first four stand in places.
 module _ {A B : Type 0} (f : A → B) (g : B → A) (blank : A) (W : A → Type 0) (n : ℕ) (xs : List B) where
   -- what the code finds in place i stands for what is held there
-  pub stands-below : (i : ℕ) (r : B) → i < n → i < 4 → Stands f W (g (getD xs i (f blank))) r →
+  pub stands-below : (i : ℕ) (r : B) → i < n → i < updateLimit → Stands f W (g (getD xs i (f blank))) r →
       Stands f W (getD (padded blank n (firstFour g (f blank) xs)) i blank) r
   stands-below i r h k s =
       subst (λ (x : A). Stands f W x r) (sym (padded-at blank n (firstFour g (f blank) xs) i h ∙ four-at g (f blank) xs i blank k)) s
@@ -150,6 +154,33 @@ did-held l le p q r s =
       writable = record { id = le; changes = k .1 };
     }
 
+-- the elements of four that count, through a function
+four-take : {A B : Type 0} (g : B → A) (d : B) (blank : A) (n : ℕ) (xs : List B) → length xs ≡ updateLimit → n ≤ updateLimit →
+    map g (take n xs) ≡ padded blank n (firstFour g d xs)
+four-take g d blank n [] e h = absurd (omega arith)
+four-take g d blank n (a ∷ []) e h = absurd (omega arith)
+four-take g d blank n (a ∷ b ∷ []) e h = absurd (omega arith)
+four-take g d blank n (a ∷ b ∷ c ∷ []) e h = absurd (omega arith)
+four-take {A} {B} g d blank n (a ∷ b ∷ c ∷ x ∷ []) e h = go n h
+  where
+    go : (k : ℕ) → k ≤ 4 → map g (take k (a ∷ b ∷ c ∷ x ∷ [])) ≡ padded blank k (g a ∷ g b ∷ g c ∷ g x ∷ [])
+    go zero l = refl
+    go (suc zero) l = refl
+    go (suc (suc zero)) l = refl
+    go (suc (suc (suc zero))) l = refl
+    go (suc (suc (suc (suc zero)))) l = refl
+    go (suc (suc (suc (suc (suc k))))) l = absurd (omega arith)
+four-take g d blank n (a ∷ b ∷ c ∷ x ∷ y ∷ xs) e h = absurd (omega arith)
+
+-- what is held is held, whatever stands past the count
+pub holds-these : (h : AskedHeld) → length (h .first) ≡ updateLimit → HoldsUpdates h (updatesHeld h)
+unfolding updatesOf
+holds-these h long =
+    record {
+      count = sym (padded-length noUpdate (h .count) (firstFour asUpdate (asAsked noUpdate) (h .first)));
+      first = four-take asUpdate (asAsked noUpdate) noUpdate (h .count) (h .first) long;
+    }
+
 update-writable : (u : Update) → WritableUpdate u → T (writableUpdate u)
 unfolding writableUpdate
 update-writable u w =
@@ -161,28 +192,28 @@ updates-writable us w = all-of writableUpdate us (λ u m. update-writable u (w u
 
 -- ### What is held of a list is as good as the list
 
-many-refused : {A : Type 0} (history : A → ℕ) (misfits : A → Bool) (n : ℕ) (xs : List A) → 4 < length xs →
+many-refused : {A : Type 0} (history : A → ℕ) (misfits : A → Bool) (n : ℕ) (xs : List A) → updateLimit < length xs →
     formRefusal history misfits n xs ≡ some WrongCount
 unfolding formRefusal wrongCount check
 many-refused history misfits n xs h =
     ap (λ (b : Bool). check b WrongCount (check (noSuchHistory n (map history xs)) NoSuchHistory
     (check (historyTwice (map history xs)) HistoryTwice
     (check (any misfits xs) OperandRange none))))
-    (ap (λ (b : Bool). eqb (length xs) 0 || b) (lt-ltb 4 (length xs) h) ∙ or-true (eqb (length xs) 0))
+    (ap (λ (b : Bool). eqb (length xs) 0 || b) (lt-ltb updateLimit (length xs) h) ∙ or-true (eqb (length xs) 0))
 
 -- four or fewer are all held, and of more as many
 held-same : {A : Type 0} (blank : A) (xs : List A) → (padded blank (length xs) (firstFour (λ x. x) blank xs) ≡ xs)
-    ⊎ ((4 < length xs) × (4 < length (padded blank (length xs) (firstFour (λ x. x) blank xs))))
-held-same {A} blank xs = go (leb (length xs) 4) refl
+    ⊎ ((updateLimit < length xs) × (updateLimit < length (padded blank (length xs) (firstFour (λ x. x) blank xs))))
+held-same {A} blank xs = go (leb (length xs) updateLimit) refl
   where
     ys : List A
     ys = padded blank (length xs) (firstFour (λ x. x) blank xs)
 
-    go : (b : Bool) → leb (length xs) 4 ≡ b → (ys ≡ xs) ⊎ ((4 < length xs) × (4 < length ys))
-    go true h = inl (padded-all blank xs (leb-true (length xs) 4 h))
+    go : (b : Bool) → leb (length xs) updateLimit ≡ b → (ys ≡ xs) ⊎ ((updateLimit < length xs) × (updateLimit < length ys))
+    go true h = inl (padded-all blank xs (leb-true (length xs) updateLimit h))
     go false h =
-        let m : 4 < length xs = leb-false (length xs) 4 h in
-        inr (m, subst (λ (k : ℕ). 4 < k) (sym (padded-length blank (length xs) (firstFour (λ x. x) blank xs))) m)
+        let m : updateLimit < length xs = leb-false (length xs) updateLimit h in
+        inr (m, subst (λ (k : ℕ). updateLimit < k) (sym (padded-length blank (length xs) (firstFour (λ x. x) blank xs))) m)
 
 -- an order of checks of which the second refuses
 second-refuses : (b : Bool) (o later : Option Refusal) (x : Reply) → o ≡ some WrongCount →
@@ -192,11 +223,12 @@ second-refuses true o later x e = refl
 second-refuses false o later x e = rw e refl
 
 -- above four updates an add is refused, whatever they are
-many-add : (i : ℕ) (us : List Update) (st : State) → 4 < length us → add i us st ≡ refused (cond (st .restoring) OutOfTurn WrongCount)
+many-add : (i : ℕ) (us : List Update) (st : State) → updateLimit < length us →
+    add i us st ≡ refused (cond (st .restoring) OutOfTurn WrongCount)
 unfolding add addRefusal updatesRefusal
 many-add i us st h = second-refuses (st .restoring) _ _ _ (many-refused _ _ (st .histories) us h)
 
-many-redo : (full : Bool) (did : Did) (st : State) → 4 < length (did .changes) →
+many-redo : (full : Bool) (did : Did) (st : State) → updateLimit < length (did .changes) →
     redoFull full did st ≡ refused (cond (not (st .restoring)) OutOfTurn WrongCount)
 unfolding changesRefusalWith
 many-redo full did st h = second-refuses (not (st .restoring)) _ _ (delivered did st) (many-refused _ _ (st .histories) (did .changes) h)
@@ -215,7 +247,7 @@ pub add-held : (i : ℕ) (us : List Update) (st : State) → i ≤ top → T (al
 unfolding heldUpdates
 add-held i us st le w = go (held-same noUpdate us)
   where
-    go : (updatesHeld (heldUpdates us) ≡ us) ⊎ ((4 < length us) × (4 < length (updatesHeld (heldUpdates us)))) →
+    go : (updatesHeld (heldUpdates us) ≡ us) ⊎ ((updateLimit < length us) × (updateLimit < length (updatesHeld (heldUpdates us)))) →
         step (Call.Add i (updatesHeld (heldUpdates us))) st ≡ step (Call.Add i us) st
     go (inl e) = ap (λ (l : List Update). step (Call.Add i l) st) e
     go (inr k) =
@@ -228,7 +260,8 @@ pub redo-full : (full : Bool) (did : Did) (st : State) → redoFull full (didHel
 unfolding heldDid heldChanges
 redo-full full did st = go (held-same noChange (did .changes))
   where
-    go : (didHeld (heldDid did) .changes ≡ did .changes) ⊎ ((4 < length (did .changes)) × (4 < length (didHeld (heldDid did) .changes))) →
+    go : (didHeld (heldDid did) .changes ≡ did .changes)
+        ⊎ ((updateLimit < length (did .changes)) × (updateLimit < length (didHeld (heldDid did) .changes))) →
         redoFull full (didHeld (heldDid did)) st ≡ redoFull full did st
     go (inl e) = ap (λ (l : List Change). redoFull full (record { id = did .id; changes = l }) st) e
     go (inr k) = many-redo full (didHeld (heldDid did)) st (k .1) ∙ sym (many-redo full did st (k .0))

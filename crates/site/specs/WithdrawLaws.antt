@@ -13,14 +13,15 @@ use Rattle.forms.specs.Lists.{keep, below, sum}
 use Rattle.forms.specs.ListLaws.{Nodup, nodup-right, mem-at, mem-along}
 use Rattle.forms.specs.Forms.{Withdrawn}
 use Rattle.forms.specs.Held.{outcomeWith, Numbers, listed}
+use Rattle.forms.specs.Limits.{historyLimit}
 use Rattle.forms.specs.declared.ReplyForm.{ReplyForm}
 use Rattle.forms.specs.declared.Refusal.the-variants.{WrongState, OutOfTurn}
 use Rattle.rules.specs.Checks.{check}
 use Rattle.rules.specs.Poll.{busy}
-use Rattle.rules.specs.PollLaws.{busy-withdrawn}
+use Rattle.rule_laws.specs.PollLaws.{busy-withdrawn}
 use Rattle.rules.specs.State.{Operation, State, refused, ok, liveDone, becameDry, withPending}
 use Rattle.rules.specs.Calls.{Call, unless, writable, perform, step, without, withdrawRefusal, withdraw}
-use Rattle.rules.specs.Good.{operationIds, didIds}
+use Rattle.rule_laws.specs.Good.{operationIds, didIds}
 use Rattle.table.specs.declared.Found.the-variants.{At, Nothing}
 use Rattle.table.specs.Lists.{firstAt}
 use Rattle.table.specs.declared.versions.Naming.the-variants.{Dried}
@@ -122,7 +123,7 @@ module _ (s : Representation) (bytes : List ℕ) (i k : ℕ) (v : Sound s bytes)
     (left : List Entry) (before after : List ℕ) (a : Numbers) (ys : List ℕ)
     (removed : left ≡ take k (s .queue) ++ drop (k + 1) (s .queue))
     (was : before ≡ s .busy)
-    (counts : (h : ℕ) → h < 16 → getD (s .busy) h 0 ≡ getD after h 0 + sum (entryIn h) (entry ∷ []))
+    (counts : (h : ℕ) → h < historyLimit → getD (s .busy) h 0 ≡ getD after h 0 + sum (entryIn h) (entry ∷ []))
     (dried : Means a (keep (singled Dried before after) (below (s .count)))) where
   -- the ids of the operations are distinct
   once : Nodup (operationIds (operationsOf (s .queue)))

@@ -55,15 +55,15 @@ pub struct CallResult {
 
 impl Site {
     // "A site has 1 to 16 histories"
-    pub const HISTORIES: usize = 16;
+    pub const HISTORIES: usize = forms::limits::HISTORIES;
     // "At most 64 operations are live"
-    pub const LIVE: usize = 64;
+    pub const LIVE: usize = forms::limits::LIVE;
     // "1 to 4 updates"
-    pub const UPDATES: usize = 4;
+    pub const UPDATES: usize = forms::limits::UPDATES;
     // "a log buffer at most 65,536"
-    pub const LOG_BYTES: usize = 65536;
+    pub const LOG_BYTES: usize = forms::limits::LOG_BYTES;
     // "above 1,024 bytes without its end"
-    pub const LINE_BYTES: usize = 1024;
+    pub const LINE_BYTES: usize = forms::limits::LINE_BYTES;
 }
 
 // A reply without numbers behind those of its form.

@@ -3,6 +3,7 @@ ghost use mathlib.Core.Path.{_≡_};
 ghost use Rattle.history.specs.Asking.{verdictOf};
 ghost use Rattle.site.specs.CheckInputs.{conflictRefusal};
 use forms::Refusal;
+use history::Entry;
 use history::Verdict;
 
 // What the checks of an operation or of a did line read of a site, beside its histories.
@@ -15,6 +16,12 @@ pub struct CheckInputs {
     pub done: bool,
     // whether as many operations are live as may be
     pub full: bool,
+}
+
+// What the checks of an add say, and the entry of an operation that passes them.
+pub struct Admission {
+    pub verdict: Verdict,
+    pub entry: Entry,
 }
 
 // The checks 7 to 9, 17, 10 and 12, by what each has found.

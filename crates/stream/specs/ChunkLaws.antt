@@ -70,7 +70,8 @@ comes-quiet g s bytes e = λ i. record { begun = g .begun; session = sym e i; re
 front-is : (text out page : List ℕ) (n : ℕ) → Fronts text out page n → take n page ≡ text
 front-is text out page n f = ap (λ (l : List ℕ). take n l) (f .bytes) ∙ take-at text (drop n out) n (sym (f .count))
 
--- What the calls have written is what the specification replies to the bytes that they have used, and the unended line is the specification's.
+-- What the calls have written is what the specification replies to the bytes that they have used, and the unended line is the
+-- specification's.
 pub record RepliedSoFar (room : ℕ) (s : Stream) (g : Progress) (cs : List FeedCall) : Type 0 where
   pub text : writtenIn cs ≡ fedAll room (usedIn cs) g .replied
   pub begun : Begins (streamAfter s cs .begun) (fedAll room (usedIn cs) g .begun)
@@ -111,13 +112,15 @@ calls-replied (c ∷ cs) s line bytes h f =
     replied-more c cs s line bytes (f .0) h
     (calls-replied cs (c .result .stream) (next c cs s line bytes (f .0) h .begun) (c .lent) (f .0 .does line h .begun) (f .1))
 
--- The calls have used the input, in whatever chunks: what they have written, and the reply to the unended rest, is the specification's session.
+-- The calls have used the input, in whatever chunks: what they have written, and the reply to the unended rest, is the specification's
+-- session.
 pub record WholeInput (room : ℕ) (s : Stream) (cs : List FeedCall) : Type 0 where
   pub rest : List ℕ
   pub begun : Begins (streamAfter s cs .begun) rest
   pub text : writtenIn cs ++ restReply rest ≡ sessionIn room (joined (usedIn cs))
 
-pub calls-whole : (cs : List FeedCall) (s : Stream) (bytes : Lent) → StartsStream s bytes → FedBy s bytes cs → WholeInput (length (bytes .log)) s cs
+pub calls-whole : (cs : List FeedCall) (s : Stream) (bytes : Lent) → StartsStream s bytes → FedBy s bytes cs →
+    WholeInput (length (bytes .log)) s cs
 calls-whole cs s bytes starts f =
     record {
       rest = fedAll (length (bytes .log)) (usedIn cs) atStart .begun;

@@ -9,7 +9,7 @@ use Rattle.forms.specs.Limits.{replyLimit}
 use Rattle.forms.specs.Forms.{Outcome, outcomeText}
 use Rattle.forms.specs.Held.{replied, outcomeOf}
 use Rattle.rules.specs.Log.{ended, linesFrom, restFrom}
-use Rattle.rules.specs.LineSplitLaws.{NoEnd, lines-append, lines-from-open, rest-from-open}
+use Rattle.rule_laws.specs.LineSplitLaws.{NoEnd, lines-append, lines-from-open, rest-from-open}
 use Rattle.rules.specs.Session.{Turn, turn}
 use Rattle.log_reader.specs.Model.{EndAt}
 use Rattle.log_reader.specs.LineLaws.{take-line}
@@ -63,7 +63,8 @@ along-start s old chunk out v =
           (record { begun = h; session = refl; replies = fronts-none out });
     }
 
-module _ (s : Stream) (old : Lent) (chunk : List ℕ) (r : FeedResult) (new : Lent) (out page : List ℕ) (a : Along s old chunk r new out page) where
+module _ (s : Stream) (old : Lent) (chunk : List ℕ) (r : FeedResult) (new : Lent) (out page : List ℕ)
+    (a : Along s old chunk r new out page) where
   -- what is written lies within the buffer
   pub along-fits : r .written ≤ length out
   along-fits =
@@ -99,7 +100,8 @@ module _ (s : Stream) (old : Lent) (chunk : List ℕ) (r : FeedResult) (new : Le
             ∙ ap (λ (ls : List (List ℕ)). logged (length (old .log)) ls (sessionView (s .session) old) (old .log)) (sym (same-lines line));
         does = λ line begins.
             let x = a .does line begins in
-            subst (λ (g : Progress). Progressed g (record { session = r .stream .session; begun = b }) new out page (r .written)) (sym (is line))
+            subst (λ (g : Progress). Progressed g (record { session = r .stream .session; begun = b }) new out page (r .written))
+            (sym (is line))
             (record {
               begun = keeps (fed (length (old .log)) (take (r .used) chunk) (standing s line old) .begun) (x .begun);
               session = x .session;

@@ -8,6 +8,7 @@ use mathlib.Core.Bool.{Bool, true, false}
 use mathlib.Core.List.{List, [], _∷_, _++_, append-assoc, append-nil}
 use lib.ListN.{length, take, set, getD, replicate, length-append, length-set, length-replicate}
 use lib.Seq.{take-suc, take-suc-set, take-all, length-take-le}
+use Rattle.forms.specs.Limits.{lineLimit}
 use Rattle.forms.specs.declared.Refusal.the-variants.{Unreadable}
 use Rattle.rules.specs.Session.{turn}
 use Rattle.session.specs.declared.PartialLine.{PartialLine}
@@ -50,11 +51,12 @@ usable b line h = record { few = h .few; long = h .long }
 -- The array holds the first bytes of the part behind those of before.
 pub record CopiedPart (old : List ℕ) (n : ℕ) (part : List ℕ) (i : ℕ) (new : List ℕ) : Type 0 where
   pub some : i ≤ length part
-  pub fits : n + length part ≤ 1024
-  pub long : length new ≡ 1024
+  pub fits : n + length part ≤ lineLimit
+  pub long : length new ≡ lineLimit
   pub bytes : take (n + i) new ≡ take n old ++ take i part
 
-pub copied-start : (old : List ℕ) (n : ℕ) (part : List ℕ) → n + length part ≤ 1024 → length old ≡ 1024 → CopiedPart old n part 0 old
+pub copied-start : (old : List ℕ) (n : ℕ) (part : List ℕ) → n + length part ≤ lineLimit → length old ≡ lineLimit →
+    CopiedPart old n part 0 old
 copied-start old n part h l =
     record { some = omega arith; fits = h; long = l; bytes = ap (λ (k : ℕ). take k old) (add-zero n) ∙ sym (append-nil (take n old)) }
 
@@ -92,7 +94,7 @@ module _ (b : PartialLine) (line part : List ℕ) (h : Begins b line) where
       by-over true e = omega (arith, length-append line part)
 
   -- 1: "above 1,024 bytes": that is all that is kept of such a line.
-  pub begins-above : 1024 - b .len < length part → Begins (record { bytes = b .bytes; len = b .len; over = true }) (line ++ part)
+  pub begins-above : lineLimit - b .len < length part → Begins (record { bytes = b .bytes; len = b .len; over = true }) (line ++ part)
   begins-above lt =
       record {
         few = h .few;
@@ -100,7 +102,7 @@ module _ (b : PartialLine) (line part : List ℕ) (h : Begins b line) where
         is = by-over (b .over) (h .is);
       }
     where
-      by-over : (o : Bool) → LineIs o (take (b .len) (b .bytes)) line → 1024 < length (line ++ part)
+      by-over : (o : Bool) → LineIs o (take (b .len) (b .bytes)) line → lineLimit < length (line ++ part)
       by-over false e =
           let m : length line ≡ b .len = sym (ap length e) ∙ length-take-le (b .len) (b .bytes) (omega (arith, h .few, h .long)) in
           omega (arith, length-append line part, m, h .few)
@@ -109,7 +111,7 @@ module _ (b : PartialLine) (line part : List ℕ) (h : Begins b line) where
 -- ### Its turn
 
 -- 1: "above 1,024 bytes without its end"
-pub turns-over : (s : Session) (old : Lent) (line : List ℕ) (r : LineResult) → ValidSession s old → 1024 < length line →
+pub turns-over : (s : Session) (old : Lent) (line : List ℕ) (r : LineResult) → ValidSession s old → lineLimit < length line →
     Refuses s Unreadable r →
     Turns s old (turn (length (old .log)) line (sessionView s old)) r old
 turns-over s old line r v h q =
@@ -117,10 +119,10 @@ turns-over s old line r v h q =
     (turn-over (length (old .log)) line (sessionView s old) h) q
 
 -- a line is above the limit where its beginning is
-pub over-is : (b : PartialLine) (line : List ℕ) → Begins b line → b .over ≡ true → 1024 < length line
+pub over-is : (b : PartialLine) (line : List ℕ) → Begins b line → b .over ≡ true → lineLimit < length line
 over-is b line h e = subst (λ (o : Bool). LineIs o (take (b .len) (b .bytes)) line) e (h .is)
 
-pub over-more : (line part : List ℕ) → 1024 < length line → 1024 < length (line ++ part)
+pub over-more : (line part : List ℕ) → lineLimit < length line → lineLimit < length (line ++ part)
 over-more line part h = omega (arith, length-append line part)
 
 -- what is held is the line

@@ -7,7 +7,7 @@ use lib.ListN.{length, take, drop, length-append, length-drop}
 use lib.Seq.{take-at, drop-append-add, drop-drop}
 use Rattle.forms.specs.Forms.{outcomeText}
 use Rattle.rules.specs.Log.{ended, linesFrom}
-use Rattle.rules.specs.LineSplitLaws.{NoEnd, lines-from-open, rest-from-open}
+use Rattle.rule_laws.specs.LineSplitLaws.{NoEnd, lines-from-open, rest-from-open}
 use Rattle.rules.specs.Session.{turn, replies, afterLines, restReply, sessionIn}
 use Rattle.session.specs.Feeding.{Progress, atStart, fed}
 use Rattle.session.specs.FeedingLaws.{fed-append, fed-end}

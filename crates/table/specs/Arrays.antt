@@ -5,13 +5,14 @@ use mathlib.Core.Bool.{Bool, _&&_}
 use mathlib.Core.List.{List}
 use lib.Dec.{eqb, ltb}
 use lib.ListN.{length, getD}
+use Rattle.forms.specs.Limits.{historyLimit}
 use Rattle.table.specs.declared.versions.Naming.{Naming}
 use Rattle.table.specs.declared.versions.Naming.the-variants.{Risen, Dried}
 
 -- The array has f h for each history h; d stands past its end.
 pub record Tabulates {A : Type 0} (d : A) (r : List A) (f : ℕ → A) : Type 0 where
-  pub long : length r ≡ 16
-  pub each : (h : ℕ) → h < 16 → getD r h d ≡ f h
+  pub long : length r ≡ historyLimit
+  pub each : (h : ℕ) → h < historyLimit → getD r h d ≡ f h
 
 -- "The reply names the histories whose persistent (stable) version rose": the version is greater after than before. "Persistent" and
 -- "withdraw" also name those that became dry: there was an update that kept it from being dry, and there is none.

@@ -14,17 +14,17 @@ use Rattle.forms.specs.ListLaws.{Nodup, mem-along, keep-append}
 use Rattle.forms.specs.Forms.{Base, Change, Did}
 use Rattle.rules.specs.Book.{Cell, cell, entered, enterAll, enterAllWith, enterWith, runsAt, canRun}
 use Rattle.rules.specs.Poll.{busy}
-use Rattle.rules.specs.PollLaws.{dry-is}
+use Rattle.rule_laws.specs.PollLaws.{dry-is}
 use Rattle.rules.specs.State.{State, dry, becameDry, rose, versionAt}
-use Rattle.rules.specs.Good.{FormedDid, Ran}
-use Rattle.rules.specs.BookLaws.{once-formed, enterAll-other, entered-version, can-run-at, cell-snoc, ran-prefix}
+use Rattle.rule_laws.specs.Good.{FormedDid, Ran}
+use Rattle.rule_laws.specs.BookLaws.{once-formed, enterAll-other, entered-version, can-run-at, cell-snoc, ran-prefix}
 use Rattle.history.specs.declared.Item.{Item}
 use Rattle.history.specs.declared.Entry.{Entry}
 use Rattle.history.specs.Entries.{itemChange, itemsOf, didOfEntry}
 use Rattle.table.specs.declared.versions.Naming.the-variants.{Risen, Dried}
 use Rattle.table.specs.Arrays.{names, singled}
-use Rattle.table.specs.Tables.{rowsIn, versionBy, versionFrom}
-use Rattle.table.specs.RangeLaws.{map-take, map-drop, range-part}
+use Rattle.table.specs.Tables.{versionBy, versionFrom}
+use Rattle.table.specs.RangeLaws.{map-take, map-drop}
 
 -- ### Versions
 
@@ -133,13 +133,6 @@ advance-is σ n h log s from to v es formed ran le e q =
     runs p d r f =
         ran-prefix σ (take (s + to) log) (drop (s + to) log) (subst (Ran σ) front ran) (a ++ p) d r
         (sym whole ∙ ap (λ (l : List Did). a ++ l) (sym same ∙ f) ∙ sym (append-assoc a p (d ∷ r)))
-
--- .. where they are the first m entries of an order
-pub advance-rows : (σ : Base) (n h : ℕ) (log : List Did) (s from to v m : ℕ) (o ws : List ℕ) → ((d : Did) → Mem d log → FormedDid n d) →
-    Ran σ log → from ≤ to → to ≤ m → map didOfEntry (rowsIn o ws 0 m) ≡ drop s log → v ≡ cell σ h (take (s + from) log) .version
-    → versionFrom h v (rowsIn o ws from to) ≡ cell σ h (take (s + to) log) .version
-advance-rows σ n h log s from to v m o ws formed ran le few e q =
-    ap (versionFrom h v) (range-part o ws from to m few) ∙ advance-is σ n h log s from to v (rowsIn o ws 0 m) formed ran le e q
 
 -- ### Histories named in replies
 

@@ -6,6 +6,7 @@ use mathlib.Core.List.{List, [], _∷_, _++_}
 use lib.ListN.{length, getD}
 use Rattle.forms.specs.Lists.{sum}
 use Rattle.forms.specs.ListLaws.{sum-append}
+use Rattle.forms.specs.Limits.{historyLimit}
 use Rattle.history.specs.declared.Entry.{Entry}
 use Rattle.history.specs.Entries.{UsableEntry}
 use Rattle.history.specs.Words.{busyIn, entryIn, CountsMore}
@@ -32,7 +33,7 @@ module _ (o ws : List ℕ) (from : ℕ) where
         ((k : ℕ) → 1 ≤ sum (entryIn k) (rowsIn o ws from to) → sum (entryIn k) (rowsIn o ws from to) ≤ getD (busyIn high) k 0) →
         (k : ℕ) → 1 ≤ entryIn k e → entryIn k e ≤ getD (busyIn mid) k 0
     lowered-some to l g u all k some =
-        let low : k < 16 = all-in-first 16 e (λ j lt. u .each j lt .history) k (omega (arith, some)) in
+        let low : k < historyLimit = all-in-first historyLimit e (λ j lt. u .each j lt .history) k (omega (arith, some)) in
         let parts : sum (entryIn k) (rowsIn o ws from to)
         ≡ sum (entryIn k) (rowsIn o ws from i) + (entryIn k e + sum (entryIn k) (rowsIn o ws (suc i) to)) =
         ap (sum (entryIn k)) (range-split o ws from i to h l g)

@@ -8,6 +8,7 @@ use mathlib.Core.List.{List, [], _∷_, map}
 use mathlib.Core.List.{List·Memᴰ as Mem, List·Memᴰ·not-nil, List·Memᴰ·cases-cons}
 use lib.ListN.{length, getD, take}
 use Rattle.forms.specs.Forms.{Base, Update, Change, Did}
+use Rattle.forms.specs.Limits.{historyLimit}
 use Rattle.rules.specs.Rules.{mayRun, timing, isNever}
 use Rattle.rules.specs.Book.{Cell, runsAt, canRun, canRunWith}
 use Rattle.history.specs.Cells.{neverIn}
@@ -19,25 +20,26 @@ use Rattle.history.specs.Entries.{mayRunIn, UsableEntry}
 use Rattle.history.specs.AtLog.{HoldsBook}
 use Rattle.history.specs.Tests.{all-agree}
 use Rattle.table.specs.Tables.{canRunEntry}
-use Rattle.table.specs.Tries.{entryUpdates}
+use Rattle.table.specs.declared.Marks.{Marks}
+use Rattle.table.specs.Tries.{entryUpdates, freeBy}
 
 -- what is made of the items of a usable entry keeps their histories
 item-low : {B : Type 0} (f : Item → B) (history : B → ℕ) → ((x : Item) → history (f x) ≡ x .history) → (e : Entry) → UsableEntry e
-    → (b : B) → Mem b (map f (take (e .count) (e .items))) → history b < 16
+    → (b : B) → Mem b (map f (take (e .count) (e .items))) → history b < historyLimit
 item-low {B} f history same e w b m = go (e .count) (e .items) (omega (arith, w .few, w .long)) (λ i h. w .each i h .history) m
   where
-    go : (n : ℕ) (l : List Item) → n ≤ length l → ((i : ℕ) → i < n → getD l i noItem .history < 16) → Mem b (map f (take n l))
-        → history b < 16
+    go : (n : ℕ) (l : List Item) → n ≤ length l → ((i : ℕ) → i < n → getD l i noItem .history < historyLimit) → Mem b (map f (take n l))
+        → history b < historyLimit
     go zero [] q h k = absurd (List·Memᴰ·not-nil k)
     go zero (x ∷ l) q h k = absurd (List·Memᴰ·not-nil k)
     go (suc n) [] q h k = absurd (let z : suc n ≤ 0 = q in omega arith)
     go (suc n) (x ∷ l) q h k = cases (List·Memᴰ·cases-cons k) (λ r. go n l (omega arith) (λ i p. h (suc i) (omega arith)) r)
       where
-        cases : (b ≡ f x) ⊎ Mem b (map f (take n l)) → (Mem b (map f (take n l)) → history b < 16) → history b < 16
+        cases : (b ≡ f x) ⊎ Mem b (map f (take n l)) → (Mem b (map f (take n l)) → history b < historyLimit) → history b < historyLimit
         cases (inl e) below = let z : history b ≡ x .history = ap history e ∙ same x in omega (arith, h 0 (omega arith))
         cases (inr r) below = below r
 
-pub usable-history : (e : Entry) → UsableEntry e → (u : Update) → Mem u (entryUpdates e) → u .history < 16
+pub usable-history : (e : Entry) → UsableEntry e → (u : Update) → Mem u (entryUpdates e) → u .history < historyLimit
 unfolding operationOf
 usable-history e w u m = item-low itemUpdate (λ (v : Update). v .history) (λ x. refl) e w u m
 
@@ -56,10 +58,14 @@ module _ (hs : List History) (y : Item) {h : History} {b : Bool} where
       sym
       (g ∙ ap (λ (k : History). runsAt (cellOf k) (itemChange x)) f ∙ ap (λ (z : Item). runsAt (cellsOf hs (z .history)) (itemChange z)) e)
 
-  pub may-read : h ≡ getD hs (y .history) noHistory → b ≡ mayRun (y .rule) (h .version .0) (y .version .0)
+  pub may-read : {x : Item} → x ≡ y → h ≡ getD hs (x .history) noHistory → b ≡ mayRun (x .rule) (h .version .0) (x .version .0)
       → mayRunIn (cellsOf hs) (itemUpdate y) ≡ b
   unfolding mayRunIn
-  may-read f g = sym (g ∙ ap (λ (k : History). mayRun (y .rule) (k .version .0) (y .version .0)) f)
+  may-read {x} e f g =
+      sym
+      (g
+      ∙ ap (λ (k : History). mayRun (x .rule) (k .version .0) (x .version .0)) f
+      ∙ ap (λ (z : Item). mayRun (z .rule) (cellsOf hs (z .history) .version) (z .version .0)) e)
 
   pub never-read : {x : Item} → x ≡ y → h ≡ getD hs (x .history) noHistory → b ≡ isNever (timing (x .rule) (h .version .0) (x .version .0))
       → neverIn (cellsOf hs) (itemUpdate y) ≡ b
@@ -69,3 +75,6 @@ module _ (hs : List History) (y : Item) {h : History} {b : Bool} where
       (g
       ∙ ap (λ (k : History). isNever (timing (x .rule) (k .version .0) (x .version .0))) f
       ∙ ap (λ (z : Item). isNever (timing (z .rule) (cellsOf hs (z .history) .version) (z .version .0))) e)
+
+pub free-read : (m : Marks) (x y : Item) (b : Bool) → x ≡ y → b ≡ freeBy m (itemUpdate x) → freeBy m (itemUpdate y) ≡ b
+free-read m x y b e g = sym (g ∙ ap (λ (z : Item). freeBy m (itemUpdate z)) e)

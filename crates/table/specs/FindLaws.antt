@@ -17,8 +17,8 @@ use Rattle.rules.specs.Book.{canRun}
 use Rattle.rules.specs.State.{Operation}
 use Rattle.rules.specs.Calls.{inProgress, future, without, behind, pick, Pick}
 use Rattle.rules.specs.Calls.Pick.{nobody, this}
-use Rattle.rules.specs.Good.{didIds, operationIds}
-use Rattle.rules.specs.CheckLaws.{or-false-left, or-false-right}
+use Rattle.rule_laws.specs.Good.{didIds, operationIds}
+use Rattle.rule_laws.specs.CheckLaws.{or-false-left, or-false-right}
 use Rattle.history.specs.declared.History.{History}
 use Rattle.history.specs.declared.Entry.{Entry}
 use Rattle.history.specs.Entries.{cellsOf, operationOf, didOfEntry}

@@ -10,9 +10,8 @@ use mathlib.Core.List.{List·Memᴰ as Mem, List·Memᴰ·head as here, List·Me
 use lib.ListN.{length, getD, take, drop, set, length-take, drop-of-length-le}
 use lib.Seq.{take-suc, length-take-le, take-suc-set, drop-append-le}
 use Rattle.forms.specs.Lists.{any, all, keep, below}
-use Rattle.forms.specs.ListLaws.{keep-append, length-keep}
+use Rattle.forms.specs.ListLaws.{keep-append}
 use Rattle.history.specs.Tests.{take-split}
-use Rattle.history.specs.WordLaws.{below-long}
 use Rattle.table.specs.declared.Found.{Found}
 use Rattle.table.specs.declared.Found.the-variants.{At, Nothing}
 use Rattle.table.specs.Lists.{oneLater, firstAt}
@@ -122,7 +121,3 @@ below-next p h b e =
     ap (λ (n : ℕ). keep p (below n)) (add-one h)
     ∙ keep-append p (below h) (h ∷ [])
     ∙ ap (λ (t : Bool). keep p (below h) ++ cond t (h ∷ []) []) e
-
--- at most as many as are tried
-pub keep-few : (p : ℕ → Bool) (n : ℕ) → length (keep p (below n)) ≤ n
-keep-few p n = omega (arith, length-keep p (below n), below-long n)

@@ -8,6 +8,7 @@ use lib.Dec.{eqb}
 use lib.ListN.{length, getD, take, set, replicate}
 use Rattle.forms.specs.Lists.{any}
 use Rattle.forms.specs.Forms.{Update}
+use Rattle.forms.specs.Limits.{historyLimit}
 use Rattle.forms.specs.declared.Rule.{Rule}
 use Rattle.forms.specs.declared.Rule.the-variants.{Inc, Set, Not, Unk}
 use Rattle.rules.specs.Rules.{strong}
@@ -57,28 +58,27 @@ pub record Marking (i : ℕ) (e : Entry) (m₀ m : Marks) : Type 0 where
   pub strongs : Tabulates false (m .strong)
       (λ (h : ℕ). getD (m₀ .strong) h false || any (λ (x : Item). strongIn h (itemUpdate x)) (take i (e .items)))
 
-pub marking-start : (e : Entry) (m : Marks) → length (m .any) ≡ 16 → length (m .strong) ≡ 16 → Marking 0 e m m
+pub marking-start : (e : Entry) (m : Marks) → length (m .any) ≡ historyLimit → length (m .strong) ≡ historyLimit → Marking 0 e m m
 marking-start e m p q = record {
   each = says-start (m .any) (λ (h : ℕ) (x : Item). inHistory h (itemUpdate x)) (e .items) p;
   strongs = says-start (m .strong) (λ (h : ℕ) (x : Item). strongIn h (itemUpdate x)) (e .items) q;
 }
 
-pub marking-next : (i : ℕ) (e : Entry) (m₀ m : Marks) (b : Bool) → UsableEntry e → i < e .count → Marking i e m₀ m
-    → b ≡ (getD (m .strong) (getD (e .items) i noItem .history) false || strong (getD (e .items) i noItem .rule))
-    → Marking (i + 1) e m₀
-    (record { any = set (m .any) (getD (e .items) i noItem .history) true; strong = set (m .strong) (getD (e .items) i noItem .history) b })
-marking-next i e m₀ m b u lt a q = record {
-  each = says-next (m .any) (m₀ .any) (λ (h : ℕ) (x : Item). inHistory h (itemUpdate x)) (e .items) noItem i at true true
-      (omega (arith, u .few, u .long)) (u .each i lt .history) (sym (or-true (getD (m .any) at false))) (λ h. and-true (eqb at h))
-      (a .each);
+pub marking-next : (i : ℕ) (e : Entry) (m₀ m : Marks) (b : Bool) (x : Item) → UsableEntry e → i < e .count → x ≡ getD (e .items) i noItem
+    → Marking i e m₀ m → b ≡ (getD (m .strong) (x .history) false || strong (x .rule))
+    → Marking (i + 1) e m₀ (record { any = set (m .any) (x .history) true; strong = set (m .strong) (x .history) b })
+marking-next i e m₀ m b x u lt is a q = record {
+  each = says-next (m .any) (m₀ .any) (λ (h : ℕ) (y : Item). inHistory h (itemUpdate y)) (e .items) noItem i (x .history) true true
+      (omega (arith, u .few, u .long)) low (sym (or-true (getD (m .any) (x .history) false)))
+      (λ h. and-true (eqb (x .history) h) ∙ ap (λ (y : Item). inHistory h (itemUpdate y)) is) (a .each);
   strongs =
-      says-next (m .strong) (m₀ .strong) (λ (h : ℕ) (x : Item). strongIn h (itemUpdate x)) (e .items) noItem i at b
-      (strong (getD (e .items) i noItem .rule))
-      (omega (arith, u .few, u .long)) (u .each i lt .history) q (λ h. refl) (a .strongs);
+      says-next (m .strong) (m₀ .strong) (λ (h : ℕ) (y : Item). strongIn h (itemUpdate y)) (e .items) noItem i (x .history) b
+      (strong (x .rule))
+      (omega (arith, u .few, u .long)) low q (λ h. ap (λ (y : Item). strongIn h (itemUpdate y)) is) (a .strongs);
 }
   where
-    at : ℕ
-    at = getD (e .items) i noItem .history
+    low : x .history < 16
+    low = omega (arith, u .each i lt .history, ap (λ (y : Item). y .history) is)
 
 pub marking-end : (i : ℕ) (e : Entry) (m₀ m : Marks) → i ≡ e .count → Marking i e m₀ m → More m m₀ (entryUpdates e)
 unfolding operationOf
@@ -94,7 +94,7 @@ marking-end i e m₀ m q a = record {
         ∙ sym (any-map itemUpdate p (take (e .count) (e .items)))
 
 -- nothing more
-pub more-none : (m : Marks) → length (m .any) ≡ 16 → length (m .strong) ≡ 16 → More m m []
+pub more-none : (m : Marks) → length (m .any) ≡ historyLimit → length (m .strong) ≡ historyLimit → More m m []
 more-none m p q = record {
   each = record { long = p; each = λ h l. sym (or-false (getD (m .any) h false)) };
   strongs = record { long = q; each = λ h l. sym (or-false (getD (m .strong) h false)) };
@@ -102,7 +102,7 @@ more-none m p q = record {
 
 -- ### The marks of many
 
-pub marked-none : MarksOf (record { any = replicate 16 false; strong = replicate 16 false }) []
+pub marked-none : MarksOf (record { any = replicate historyLimit false; strong = replicate historyLimit false }) []
 marked-none = record { each = says-nothing; strongs = says-nothing }
 
 -- marks of the same updates in another order
@@ -128,7 +128,7 @@ marked-next f o ws m r from i h l a b =
     (marked-more m r (gather f (rowsIn o ws from i)) (f (rowAt ws (getD o i 0))) a b)
 
 pub marked-start : (f : Entry → List Update) (o ws : List ℕ) (from : ℕ)
-    → MarksOf (record { any = replicate 16 false; strong = replicate 16 false }) (gather f (rowsIn o ws from from))
+    → MarksOf (record { any = replicate historyLimit false; strong = replicate historyLimit false }) (gather f (rowsIn o ws from from))
 unfolding gather
 marked-start f o ws from = subst (MarksOf _) (ap (gather f) (sym (range-none o ws from))) marked-none
 
@@ -160,7 +160,7 @@ conflict-rule Not h us = refl
 conflict-rule Unk h us = ap (λ (p : Update → Bool). any p us) (fun-ext (λ w. and-true (eqb (w .history) h)))
 
 -- One look at the marks answers whether an update is blocked.
-pub free-is : (m : Marks) (xs : List Operation) (u : Update) → MarksOf m (gather held xs) → u .history < 16
+pub free-is : (m : Marks) (xs : List Operation) (u : Update) → MarksOf m (gather held xs) → u .history < historyLimit
     → freeBy m u ≡ not (blocked xs u)
 unfolding freeBy
 free-is m xs u a l = ap not (go (strong (u .rule)) ∙ sym (blocked-all u xs ∙ conflict-rule (u .rule) (u .history) (gather held xs)))

@@ -12,6 +12,7 @@ use lib.Seq.{split-at, take-all, take-at, length-take-le}
 use Rattle.forms.specs.Lists.{any, keep, sum}
 use Rattle.forms.specs.ListLaws.{keep-append, sum-mid}
 use Rattle.forms.specs.Write.{Wrote}
+use Rattle.forms.specs.Limits.{historyLimit, liveLimit}
 use Rattle.history.specs.declared.Entry.{Entry}
 use Rattle.history.specs.declared.History.{History}
 use Rattle.history.specs.BusyLaws.{counts-none, counts-then}
@@ -87,13 +88,13 @@ module _ {A : Type 0} (d : A) (l : List A) (i : ℕ) (lt : i < length l) where
 -- ### The busy numbers
 
 -- a history that is not there has none
-none-past : (book : List ℕ) (h : ℕ) → 16 ≤ h → getD (busyIn book) h 0 ≡ 0
+none-past : (book : List ℕ) (h : ℕ) → historyLimit ≤ h → getD (busyIn book) h 0 ≡ 0
 none-past book h le = List·getD-eq-default (busyIn book) 0 {n = h} (omega (arith, column-long 5 book, le))
 
 -- what is left in a list of entries is covered after one has left
 covers-less : (book book′ : List ℕ) (l : List Entry) (i : ℕ) → i < length l → Covers book l
     → CountsMore (getD l i pastEntry ∷ []) book′ book → Covers book′ (take i l ++ drop (i + 1) l)
-covers-less book book′ l i lt enough less h some = go (ltb h 16) refl
+covers-less book book′ l i lt enough less h some = go (ltb h historyLimit) refl
   where
     rest : List Entry
     rest = take i l ++ drop (i + 1) l
@@ -104,9 +105,9 @@ covers-less book book′ l i lt enough less h some = go (ltb h 16) refl
     covered : sum (entryIn h) l ≤ getD (busyIn book) h 0
     covered = enough h (omega (arith, whole, some))
 
-    go : (b : Bool) → ltb h 16 ≡ b → sum (entryIn h) rest ≤ getD (busyIn book′) h 0
-    go true e = omega (arith, whole, covered, less .numbers h (ltb-true h 16 e))
-    go false e = absurd (omega (arith, whole, some, covered, none-past book h (ltb-false h 16 e)))
+    go : (b : Bool) → ltb h historyLimit ≡ b → sum (entryIn h) rest ≤ getD (busyIn book′) h 0
+    go true e = omega (arith, whole, covered, less .numbers h (ltb-true h historyLimit e))
+    go false e = absurd (omega (arith, whole, some, covered, none-past book h (ltb-false h historyLimit e)))
 
 -- ### The walk
 
@@ -313,7 +314,7 @@ module _ (t : Table) (o ws book lists : List ℕ) (at : ℕ) (d : Dropped) (p bo
 
 -- All were examined.
 pub dropping-all : (t : Table) (o ws book lists : List ℕ) (at : ℕ) (d : Dropped) (p book′ lists′ : List ℕ) (i : ℕ) → i ≡ d .table .queue
-    → t .queue ≤ 64 → Dropping t o ws book lists at d p book′ lists′ i → Drops t o ws book lists at d p book′ lists′
+    → t .queue ≤ liveLimit → Dropping t o ws book lists at d p book′ lists′ i → Drops t o ws book lists at d p book′ lists′
 dropping-all t o ws book lists at d p book′ lists′ i end few s =
     record {
       becomes =

@@ -14,6 +14,7 @@ use Rattle.forms.specs.ListLaws.{mem-at}
 use Rattle.forms.specs.Held.{Numbers, listed}
 use Rattle.forms.specs.Forms.{Update}
 use Rattle.forms.specs.Write.{Wrote}
+use Rattle.forms.specs.Limits.{liveLimit}
 use Rattle.rules.specs.Book.{Cell}
 use Rattle.rules.specs.State.{Operation}
 use Rattle.rules.specs.Calls.{madeReady}
@@ -219,7 +220,7 @@ module _ (cells : ℕ → Cell) (l k : List Entry) (m : Marks) (old : List ℕ) 
       ∙ sym (done (operationsOf (take i k)) (operationsOf (drop i k)) (ap operationsOf (drop-of-length-le k h)))
       ∙ p .tries
 
-  pub ready-all : start + i ≤ 68 → i ≤ 64
+  pub ready-all : start + i ≤ 68 → i ≤ liveLimit
       → Lists old start (madeReady (operationsOf l) (tryAllIn cells (operationsOf l))) (ready .count) (ready .values)
   ready-all early few = record {
     few = omega (arith, p .few);

@@ -2,10 +2,10 @@
 use Prim.Native.Nat.{ℕ, zero, suc, _+_, _-_, _≤_, _<_}
 use native.Mathlib.Omega.{arith}
 use mathlib.Core.Path.{_≡_, refl, sym, ap, subst, _∙_}
-use mathlib.Core.Bool.{Bool, true, false}
+use mathlib.Core.Bool.{Bool, true, false, _||_, or-true}
 use mathlib.Core.List.{List, [], _∷_, _++_, map, map-append}
 use mathlib.Core.List.{List·Memᴰ as Mem}
-use lib.ListN.{length, getD, take, drop, length-map, length-drop}
+use lib.ListN.{length, getD, take, drop, length-map, length-drop, take-append-drop}
 use lib.Seq.{getD-drop, getD-take, length-take-le, drop-append-le, take-take}
 use Rattle.forms.specs.Lists.{any}
 use Rattle.history.specs.declared.Entry.{Entry}
@@ -15,7 +15,7 @@ use Rattle.table.specs.declared.Found.the-variants.{At, Nothing}
 use Rattle.table.specs.Lists.{firstAt}
 use Rattle.table.specs.Rows.{rowAt}
 use Rattle.table.specs.Tables.{rowsOf, rowsIn, Usable}
-use Rattle.table.specs.LoopLaws.{slice-next, drop-past, first-none, first-snoc, first-mid}
+use Rattle.table.specs.LoopLaws.{any-append, slice-next, drop-past, first-none, first-snoc, first-mid}
 
 -- what stands past the end of a list of entries
 abbrev pub pastEntry : Entry
@@ -65,6 +65,15 @@ module _ (o ws : List ℕ) where
       ∙ drop-append-le from (take i o) (getD o i 0 ∷ drop (suc i) (take to o)) (omega (arith, length-take-le i o (omega arith))))
       ∙ map-append (rowAt ws) (drop from (take i o)) (getD o i 0 ∷ drop (suc i) (take to o))
 
+  -- two ranges that meet
+  pub range-join : (from mid to : ℕ) → from ≤ mid → mid ≤ to → to ≤ length o →
+      rowsIn o ws from to ≡ rowsIn o ws from mid ++ rowsIn o ws mid to
+  range-join from mid to h l g =
+      ap (rowsOf ws)
+      (ap (drop from) (sym (take-append-drop mid (take to o)) ∙ ap (λ (x : List ℕ). x ++ drop mid (take to o)) (take-take mid to o l))
+      ∙ drop-append-le from (take mid o) (drop mid (take to o)) (omega (arith, length-take-le mid o (omega arith))))
+      ∙ map-append (rowAt ws) (drop from (take mid o)) (drop mid (take to o))
+
   -- a range within the first n
   pub range-part : (from to n : ℕ) → to ≤ n → rowsIn o ws from to ≡ drop from (take to (rowsIn o ws 0 n))
   range-part from to n h =
@@ -76,6 +85,26 @@ usable-range o ws from to u h =
     mem-each UsableEntry (rowsIn o ws from to) pastEntry
     (λ k l. let n : from + k < to = omega (arith, range-long o ws from to h (u .few)) in
     subst UsableEntry (sym (range-at o ws from to k n (u .few))) (u .each (from + k) n))
+
+-- ### Tests over ranges that meet
+
+module _ (p : Entry → Bool) (o ws : List ℕ) where
+  any-join : (from mid to : ℕ) → from ≤ mid → mid ≤ to → to ≤ length o →
+      any p (rowsIn o ws from to) ≡ (any p (rowsIn o ws from mid) || any p (rowsIn o ws mid to))
+  any-join from mid to h l g = ap (any p) (range-join o ws from mid to h l g) ∙ any-append p (rowsIn o ws from mid) (rowsIn o ws mid to)
+
+  -- none in the first range: the second has the answer
+  pub none-join : (from mid to : ℕ) → from ≤ mid → mid ≤ to → to ≤ length o → any p (rowsIn o ws from mid) ≡ false →
+      (b : Bool) → any p (rowsIn o ws mid to) ≡ b → any p (rowsIn o ws from to) ≡ b
+  none-join from mid to h l g e b q = any-join from mid to h l g ∙ ap (λ (x : Bool). x || any p (rowsIn o ws mid to)) e ∙ q
+
+  -- one in a range within
+  pub some-join : (from at end to : ℕ) → from ≤ at → at ≤ end → end ≤ to → to ≤ length o → any p (rowsIn o ws at end) ≡ true →
+      any p (rowsIn o ws from to) ≡ true
+  some-join from at end to h l k g q =
+      any-join from at to h (omega arith) g
+      ∙ ap (_||_ (any p (rowsIn o ws from at))) (any-join at end to l k g ∙ ap (λ (x : Bool). x || any p (rowsIn o ws end to)) q)
+      ∙ or-true (any p (rowsIn o ws from at))
 
 -- ### Tests over the entries passed so far
 

@@ -10,6 +10,7 @@ use lib.ListN.{length, getD, take, drop, set, length-drop}
 use lib.Seq.{getD-drop, getD-take, length-take-le}
 use Rattle.forms.specs.Held.{listed}
 use Rattle.forms.specs.Write.{Wrote}
+use Rattle.forms.specs.Limits.{liveLimit}
 use Rattle.rules.specs.Book.{Cell}
 use Rattle.history.specs.declared.Entry.{Entry}
 use Rattle.history.specs.Entries.{UsableEntry, operationOf}
@@ -31,7 +32,7 @@ pub begun-usable : (e : Entry) → UsableEntry e → UsableEntry (begun e)
 begun-usable e u = record { few = u .few; long = u .long; each = u .each }
 
 -- A row started: the row at place i of an order that has no number twice.
-module _ (o old new : List ℕ) (i : ℕ) (long : length o ≤ 64) (once : (e : ℕ) → tally e o ≤ 1) (low : i < length o)
+module _ (o old new : List ℕ) (i : ℕ) (long : length o ≤ liveLimit) (once : (e : ℕ) → tally e o ≤ 1) (low : i < length o)
     (put : PutRow (getD o i 0) (begun (rowAt old (getD o i 0))) old new) where
   abbrev number : ℕ
   number = getD o i 0
@@ -148,14 +149,11 @@ module _ (cells : ℕ → Cell) (o old new : List ℕ) (from to : ℕ) (m : Mark
   next : i - from + 1 ≡ i + 1 - from
   next = omega arith
 
-  pub passing-usable : UsableEntry x
-  passing-usable = subst UsableEntry (sym read) (p .usable .each i l)
-
   pub passing-yes : (r : Marks) (words vs : List ℕ) → startsBy cells m (operationOf x) ≡ true → More r m (entryUpdates x)
       → PutRow (getD o i 0) (begun (rowAt new (getD o i 0))) new words
-      → Wrote lists (start + ready) (x .id ∷ []) (start + ready + 1) vs → start + ready < 68
+      → (n : ℕ) → n ≡ x .id → Wrote lists (start + ready) (n ∷ []) (start + ready + 1) vs → start + ready < 68
       → Passing cells o old words from to r first start (ready + 1) vs (i + 1)
-  passing-yes r words vs s more put w room = record {
+  passing-yes r words vs s more put n same w room = record {
     usable = usable-begun o new words i (p .usable .long) (p .once) small put to l (p .usable);
     within = λ k g. begun-within o new words i (p .usable .long) (p .once) small put (getD o k 0) (p .within k g);
     once = p .once;
@@ -170,7 +168,8 @@ module _ (cells : ℕ → Cell) (o old new : List ℕ) (from to : ℕ) (m : Mark
         (listed (ready + 1) vs)
         (ap (λ (y : Entry). startsBy cells m (operationOf y)) at ∙ s)
         (subst (λ (y : Entry). More r m (entryUpdates y)) (sym at) more)
-        (numbers-next first start ready lists (x .id) _ _ vs (p .tried .ready) w room
+        (numbers-next first start ready lists (x .id) _ _ vs (p .tried .ready)
+        (subst (λ (k : ℕ). Wrote lists (start + ready) (k ∷ []) (start + ready + 1) vs) same w) room
         (ap (λ (y : Entry). ids cells (rowsIn o old from to) now m first start (listed ready lists) (i - from) (p .tried) inside-range ++
         (y .id ∷ [])) at))
         refl));

@@ -11,6 +11,7 @@ use lib.Dec.{eqb, ltb}
 use lib.ListN.{length, getD, set, length-set}
 use lib.Seq.{ext-getD, getD-set-same}
 use Rattle.forms.specs.Held.{firstFour}
+use Rattle.forms.specs.Limits.{updateLimit}
 use Rattle.forms.specs.declared.Rule.{Rule}
 use Rattle.forms.specs.declared.Rule.the-variants.{Inc, Set, Not, Unk}
 use Rattle.history.specs.declared.Item.{Item}
@@ -57,7 +58,7 @@ module _ (ws : List ℕ) (e : ℕ) where
   unfolding entryFrom
   row-count = refl
 
-pub row-item : (ws : List ℕ) (e j : ℕ) → j < 4 → itemAt ws (e * rowWidth + 3 + j * 5) ≡ getD (rowAt ws e .items) j noItem
+pub row-item : (ws : List ℕ) (e j : ℕ) → j < updateLimit → itemAt ws (e * rowWidth + 3 + j * 5) ≡ getD (rowAt ws e .items) j noItem
 unfolding entryFrom
 row-item ws e zero h = ap (itemAt ws) (omega arith)
 row-item ws e (suc zero) h = ap (itemAt ws) (omega arith)
@@ -176,11 +177,11 @@ item-put ws at x r room low e =
     }
 
 -- a list of four, element by element
-pub four-whole : {A : Type 0} (d : A) (l : List A) → length l ≡ 4 → getD l 0 d ∷ getD l 1 d ∷ getD l 2 d ∷ getD l 3 d ∷ [] ≡ l
+pub four-whole : {A : Type 0} (d : A) (l : List A) → length l ≡ updateLimit → getD l 0 d ∷ getD l 1 d ∷ getD l 2 d ∷ getD l 3 d ∷ [] ≡ l
 four-whole {A} d l n = ext-getD d (firstFour (λ (x : A). x) d l) l (sym n) (λ i h. four-at (λ (x : A). x) d l i d h)
 
 -- The stores of an entry: its first three words, and then its items.
-module _ (ws : List ℕ) (at : ℕ) (e : Entry) (b : ℕ) (room : at + rowWidth ≤ length ws) (long : length (e .items) ≡ 4)
+module _ (ws : List ℕ) (at : ℕ) (e : Entry) (b : ℕ) (room : at + rowWidth ≤ length ws) (long : length (e .items) ≡ updateLimit)
     (bit : eqb b 1 ≡ e .running) (w x y z : List ℕ)
     (one : PutItem (at + 3) (getD (e .items) 0 noItem) (puts (set ws at (e .id)) at 1 (b ∷ e .count ∷ [])) w)
     (two : PutItem (at + 8) (getD (e .items) 1 noItem) w x) (three : PutItem (at + 13) (getD (e .items) 2 noItem) x y)

@@ -9,6 +9,7 @@ use lib.Dec.{eqb, ltb}
 use lib.ListN.{length, getD, take, drop, set, length-append, length-map, length-drop, take-append-drop, List·getD-map}
 use lib.Seq.{append-snoc, drop-cons, take-at, drop-at, length-take-le, getD-take, getD-drop}
 use Rattle.forms.specs.Lists.{below}
+use Rattle.forms.specs.Limits.{liveLimit}
 use Rattle.history.specs.declared.Entry.{Entry}
 use Rattle.history.specs.Entries.{UsableEntry}
 use Rattle.history.specs.WordLaws.{below-long, getD-any}
@@ -39,7 +40,7 @@ module _ (t : Table) (o ws : List ℕ) (own : Owns t o ws) where
       subst (λ (x : ℕ). UsableEntry (rowAt ws x)) (sym (getD-take n o (s .place) 0 low) ∙ s .is) (own .usable .each (s .place) low)
 
 -- The invariant, by how often a number stands where.
-pub owns-of : (t : Table) (o ws : List ℕ) → length o ≤ 64 → liveCount t ≤ length o → ((e : ℕ) → 1 ≤ tally e o → HasRow ws e)
+pub owns-of : (t : Table) (o ws : List ℕ) → length o ≤ liveLimit → liveCount t ≤ length o → ((e : ℕ) → 1 ≤ tally e o → HasRow ws e)
     → ((e : ℕ) → 1 ≤ tally e (liveNumbers t o) → UsableEntry (rowAt ws e)) → ((e : ℕ) → tally e o ≤ 1) → Owns t o ws
 owns-of t o ws long few rows usable once =
     record {
@@ -125,12 +126,6 @@ module _ (t : Table) (o ws : List ℕ) (own : Owns t o ws) where
       getD-any (queueRows t o ws) i d (rowAt ws 0) (omega (arith, h, queue-length))
       ∙ List·getD-map (rowAt ws) (queueNumbers t o) i 0
       ∙ ap (rowAt ws) (queue-number t o i h)
-
-  pub finished-at : (i : ℕ) (d : Entry) → i < t .finished → getD (finishedRows t o ws) i d ≡ rowAt ws (getD o i 0)
-  finished-at i d h =
-      getD-any (finishedRows t o ws) i d (rowAt ws 0) (omega (arith, h, finished-length))
-      ∙ List·getD-map (rowAt ws) (doneNumbers t o) i 0
-      ∙ ap (rowAt ws) (getD-take (t .finished) o i 0 h)
 
   -- each of them can be used
   pub queue-usable : (i : ℕ) → i < t .queue → UsableEntry (rowAt ws (getD o (t .finished + i) 0))
@@ -298,7 +293,7 @@ one-usable x e old new put good k others = go (eqb x k) refl
         subst UsableEntry (sym (row-other x e old new put k (λ s. ne (sym s)))) (others ne)
 
 module _ (t : Table) (o ws : List ℕ) (own : Owns t o ws) (e : Entry) (new : List ℕ) (good : UsableEntry e) where
-  long : length o ≤ 64
+  long : length o ≤ liveLimit
   long = own .usable .long
 
   abbrev done : List ℕ
@@ -402,28 +397,28 @@ pub neighbours : (live old new es : List ℕ) → Frame live old new → ((e : �
 neighbours live old new es f apart = rows-same old new es (λ e l. row-same old new e (λ j k. f .rest e j k (apart e l)))
 
 -- A table with no operations, all of its 64 entries free.
-pub numbered : (o ws : List ℕ) → o ≡ below 64 → length ws ≡ 64 * rowWidth → Owns (record { finished = 0; queue = 0 }) o ws
+pub numbered : (o ws : List ℕ) → o ≡ below liveLimit → length ws ≡ liveLimit * rowWidth → Owns (record { finished = 0; queue = 0 }) o ws
 unfolding tally
 numbered o ws e long =
     owns-of (record { finished = 0; queue = 0 }) o ws (omega (arith, count-all)) (omega arith) rows
     (λ k l. absurd (let z : 1 ≤ 0 = l in omega arith)) once
   where
-    count-all : length o ≡ 64
-    count-all = ap (λ (l : List ℕ). length l) e ∙ below-long 64
+    count-all : length o ≡ liveLimit
+    count-all = ap (λ (l : List ℕ). length l) e ∙ below-long liveLimit
 
-    count : (k : ℕ) → tally k o ≡ cond (ltb k 64) 1 0
-    count k = ap (tally k) e ∙ tally-below k 64
+    count : (k : ℕ) → tally k o ≡ cond (ltb k liveLimit) 1 0
+    count k = ap (tally k) e ∙ tally-below k liveLimit
 
     once : (k : ℕ) → tally k o ≤ 1
-    once k = go (ltb k 64) (count k)
+    once k = go (ltb k liveLimit) (count k)
       where
         go : (b : Bool) → tally k o ≡ cond b 1 0 → tally k o ≤ 1
         go true q = omega (arith, q)
         go false q = omega (arith, q)
 
     rows : (k : ℕ) → 1 ≤ tally k o → HasRow ws k
-    rows k h = go (ltb k 64) refl (count k)
+    rows k h = go (ltb k liveLimit) refl (count k)
       where
-        go : (b : Bool) → ltb k 64 ≡ b → tally k o ≡ cond b 1 0 → HasRow ws k
-        go true q c = omega (arith, ltb-true k 64 q, long)
+        go : (b : Bool) → ltb k liveLimit ≡ b → tally k o ≡ cond b 1 0 → HasRow ws k
+        go true q c = omega (arith, ltb-true k liveLimit q, long)
         go false q c = absurd (omega (arith, c, h))

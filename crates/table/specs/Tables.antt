@@ -5,6 +5,7 @@ use mathlib.Core.Bool.{Bool, cond, not, _&&_}
 use mathlib.Core.List.{List, [], _∷_, map}
 use lib.Dec.{eqb}
 use lib.ListN.{length, getD, take, drop}
+use Rattle.forms.specs.Limits.{liveLimit}
 use Rattle.rules.specs.Book.{Cell}
 use Rattle.history.specs.declared.Item.{Item}
 use Rattle.history.specs.declared.Entry.{Entry}
@@ -77,9 +78,10 @@ entryOf ws id (e ∷ es) = cond (eqb (rowAt ws e .id) id) (At (record { 0 = e })
 
 -- ### What is kept
 
--- An order has at most 64 numbers: those of the entries that a site may use. Its first n entries have rows in the words, and each can be used.
+-- An order has at most 64 numbers: those of the entries that a site may use. Its first n entries have rows in the words, and each can be
+-- used.
 pub record Usable (o ws : List ℕ) (n : ℕ) : Type 0 where
-  pub long : length o ≤ 64
+  pub long : length o ≤ liveLimit
   pub few : n ≤ length o
   pub within : (i : ℕ) → i < n → HasRow ws (getD o i 0)
   pub each : (i : ℕ) → i < n → UsableEntry (rowAt ws (getD o i 0))

@@ -6,6 +6,7 @@ use mathlib.Core.List.{List, [], _∷_, _++_}
 use mathlib.Core.List.{List·Memᴰ as Mem, List·Memᴰ·head as here, List·Memᴰ·tail as there}
 use Rattle.forms.specs.Lists.{all}
 use Rattle.forms.specs.Forms.{Base, Update, Did}
+use Rattle.forms.specs.Limits.{historyLimit}
 use Rattle.rules.specs.Rules.{mayRun}
 use Rattle.rules.specs.Book.{Cell}
 use Rattle.rules.specs.State.{Operation}
@@ -54,7 +55,7 @@ try-all-is σ n log hs xs same low = try-agree n (cellsOf hs) (logCells σ log) 
 -- ### One try, by the marks
 
 module _ (cells : ℕ → Cell) (m : Marks) (tried : List Operation) (x : Operation) (xs : List Operation)
-    (marks : MarksOf m (gather held (tried ++ x ∷ xs))) (low : (u : Update) → Mem u (x .updates) → u .history < 16) where
+    (marks : MarksOf m (gather held (tried ++ x ∷ xs))) (low : (u : Update) → Mem u (x .updates) → u .history < historyLimit) where
   -- an operation that is not in progress blocks nothing
   idle : x .running ≡ false → gather held (tried ++ x ∷ xs) ≡ gather held (tried ++ xs)
   unfolding gather

@@ -6,6 +6,7 @@ use mathlib.Core.Bool.{cond}
 use mathlib.Core.List.{List, [], _∷_, _++_}
 use lib.Dec.{eqb}
 use lib.ListN.{length, getD, take, set}
+use Rattle.forms.specs.Limits.{historyLimit}
 use Rattle.history.specs.declared.Item.{Item}
 use Rattle.history.specs.declared.Entry.{Entry}
 use Rattle.history.specs.Entries.{noItem, itemsOf, UsableEntry}
@@ -23,7 +24,8 @@ unfolding versionBy
 by-snoc h v [] x = refl
 by-snoc h v (y ∷ l) x = by-snoc h (cond (eqb (y .history) h) (y .version .0) v) l x
 
-pub stamp-start : (t : List ℕ) (e : Entry) → length t ≡ 16 → Tabulates 0 t (λ (h : ℕ). versionBy h (getD t h 0) (take 0 (e .items)))
+pub stamp-start : (t : List ℕ) (e : Entry) → length t ≡ historyLimit →
+    Tabulates 0 t (λ (h : ℕ). versionBy h (getD t h 0) (take 0 (e .items)))
 unfolding versionBy
 stamp-start t e n = record { long = n; each = λ h k. ap (versionBy h (getD t h 0)) (sym (take-none 0 (e .items) refl)) }
 
@@ -31,7 +33,7 @@ pub stamp-next : (r r₀ : List ℕ) (e : Entry) (j : ℕ) (x : Item) → Usable
     → Tabulates 0 r (λ (h : ℕ). versionBy h (getD r₀ h 0) (take j (e .items)))
     → Tabulates 0 (set r (x .history) (x .version .0)) (λ (h : ℕ). versionBy h (getD r₀ h 0) (take (j + 1) (e .items)))
 stamp-next r r₀ e j x u lt q s =
-    let low : x .history < 16 = omega (arith, u .each j lt .history, ap (λ (y : Item). y .history) q) in
+    let low : x .history < historyLimit = omega (arith, u .each j lt .history, ap (λ (y : Item). y .history) q) in
     says-like 0 _ _ _ (says-store 0 r _ (x .history) (x .version .0) s low)
     (λ h k. sym (ap (versionBy h (getD r₀ h 0)) (take-next (e .items) noItem j (omega (arith, u .few, u .long))
     ∙ ap (λ (y : Item). take j (e .items) ++ (y ∷ [])) (sym q))
@@ -51,7 +53,7 @@ from-snoc h v [] e = refl
 from-snoc h v (x ∷ l) e = from-snoc h (versionBy h v (itemsOf x)) l e
 
 module _ (o ws : List ℕ) (from : ℕ) where
-  pub advance-start : (t : List ℕ) → length t ≡ 16 → Tabulates 0 t (λ (h : ℕ). versionFrom h (getD t h 0) (rowsIn o ws from from))
+  pub advance-start : (t : List ℕ) → length t ≡ historyLimit → Tabulates 0 t (λ (h : ℕ). versionFrom h (getD t h 0) (rowsIn o ws from from))
   unfolding versionFrom
   advance-start t n = record { long = n; each = λ h k. ap (versionFrom h (getD t h 0)) (sym (range-none o ws from)) }
 

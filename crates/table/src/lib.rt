@@ -3,10 +3,12 @@
 ghost use mathlib.Core.Path.{_≡_};
 ghost use Prim.Native.Nat.{_+_, _-_, _≤_, _<_};
 ghost use lib.ListN.{length, getD};
+ghost use Rattle.forms.specs.Limits.{liveLimit};
 ghost use Rattle.table.specs.Ends.{was, left};
 ghost use Rattle.table.specs.Order.{moved, turned};
 ghost use Rattle.table.specs.Rows.{HasRow, rowAt, PutRow, PutMark, PutNoted};
 ghost use Rattle.table.specs.Tables.{liveCount};
+use forms::limits::HISTORIES;
 use history::Entry;
 use order::move_back;
 use order::move_forward;
@@ -41,8 +43,8 @@ pub enum Lookup {
 
 // Of each history: whether an update of those counted is in it, and whether a strong one is.
 pub struct Marks {
-    pub any: [bool; 16],
-    pub strong: [bool; 16],
+    pub any: [bool; HISTORIES],
+    pub strong: [bool; HISTORIES],
 }
 
 // The table by value: how many entries are done and have not left it, and how many are not done (or wait).
@@ -93,7 +95,8 @@ impl Table {
 
     // The last of the done ones has the row e from now on.
     pub fn rewrite_last(self, order: &[u8], rows: &mut [u64], e: Entry)
-        requires { ⌜ (0 < self .finished) × (self .finished ≤ length (now order)) × HasRow (now rows) (getD (now order) (self .finished - 1) 0) ⌝ }
+        requires { ⌜ (0 < self .finished) × (self .finished ≤ length (now order))
+            × HasRow (now rows) (getD (now order) (self .finished - 1) 0) ⌝ }
         ensures { λ r. ⌜ PutRow (getD (was order) (self .finished - 1) 0) e (was rows) (left rows) ⌝ }
     {
         let number = order[self.finished - 1];
@@ -117,7 +120,8 @@ impl Table {
     // The operation at place i of those not done is done, the stable mark being m: it keeps its entry, whose number is the last of the done
     // ones, and the mark is noted in its row.
     pub fn finish(self, order: &mut [u8], rows: &mut [u64], i: usize, m: u64) -> Table
-        requires { ⌜ (i < self .queue) × (liveCount self ≤ length (now order)) × HasRow (now rows) (getD (now order) (self .finished + i) 0) ⌝ }
+        requires { ⌜ (i < self .queue) × (liveCount self ≤ length (now order))
+            × HasRow (now rows) (getD (now order) (self .finished + i) 0) ⌝ }
         ensures { λ r. ⌜ (r ≡ record { finished = self .finished + 1; queue = self .queue - 1 }) ×
             (left order ≡ moved (self .finished + i) (self .finished) (was order)) ×
             PutMark (getD (was order) (self .finished + i) 0) m (was rows) (left rows) ⌝ }
@@ -150,7 +154,7 @@ impl Table {
 
     // The first k done operations leave the table: their entries are free.
     pub fn drop_first(self, order: &mut [u8], k: usize) -> Table
-        requires { ⌜ (k ≤ self .finished) × (liveCount self ≤ length (now order)) × (length (now order) ≤ 64) ⌝ }
+        requires { ⌜ (k ≤ self .finished) × (liveCount self ≤ length (now order)) × (length (now order) ≤ liveLimit) ⌝ }
         ensures { λ r. ⌜ (r ≡ record { finished = self .finished - k; queue = self .queue }) ×
             (left order ≡ turned k (liveCount self) (was order)) ⌝ }
     {

@@ -2,6 +2,7 @@
 ghost use mathlib.Core.Path.{_≡_};
 ghost use Prim.Native.Nat.{_+_, _*_, _≤_, _<_};
 ghost use lib.ListN.{length, getD};
+ghost use Rattle.forms.specs.Limits.{updateLimit};
 ghost use Rattle.history.specs.Entries.{noItem};
 ghost use Rattle.history.specs.Words.{within};
 ghost use Rattle.table.specs.Ends.{was, left};
@@ -9,6 +10,7 @@ ghost use Rattle.table.specs.Rows.{ruleNumber, ruleNamed, itemAt, PutIte
 use forms::Place;
 use forms::Rule;
 use forms::Version;
+use forms::limits::LIVE;
 use history::Entry;
 use history::Item;
 
@@ -17,7 +19,7 @@ use history::Item;
 pub const ROW: usize = 24;
 
 // The rows of a table of one site.
-pub type Rows = [u64; 64 * ROW];
+pub type Rows = [u64; LIVE * ROW];
 
 // The number of a rule.
 fn rule_number(rule: Rule) -> u64
@@ -109,7 +111,7 @@ pub fn count_at(words: &[u64], e: usize) -> usize
 
 // Item j of the row of entry e.
 pub fn item_in(words: &[u64], e: usize, j: usize) -> Item
-    requires { ⌜ HasRow (now words) e × (j < 4) ⌝ }
+    requires { ⌜ HasRow (now words) e × (j < updateLimit) ⌝ }
     ensures { λ r. ⌜ r ≡ getD (rowAt (was words) e .items) j noItem ⌝ }
 {
     let at = e * ROW + 3;

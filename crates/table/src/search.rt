@@ -5,6 +5,7 @@ ghost use Prim.Native.Nat.{_+_, _≤_, _<_};
 ghost use lib.ListN.{take};
 ghost use Rattle.forms.specs.Lists.{any};
 ghost use Rattle.forms.specs.Write.{Wrote};
+ghost use Rattle.forms.specs.Limits.{updateLimit};
 ghost use Rattle.history.specs.Entries.{UsableEntry, cellsOf};
 ghost use Rattle.history.specs.Lists.{Lists};
 ghost use Rattle.history.specs.Words.{historiesIn};
@@ -66,8 +67,8 @@ fn can_run_at(rows: &[u64], e: usize, book: &BookWords) -> bool
     true
 }
 
-// Whether an entry has this id.
-pub fn has_id(order: &[u8], rows: &[u64], from: usize, to: usize, id: u64) -> bool
+// Whether an entry has this id, one after the other.
+fn some_has(order: &[u8], rows: &[u64], from: usize, to: usize, id: u64) -> bool
     requires { ⌜ Usable (now order) (now rows) to × (from ≤ to) ⌝ }
     ensures { λ r. ⌜ r ≡ any (hasId id) (rowsIn (was order) (was rows) from to) ⌝ }
 {
@@ -79,6 +80,41 @@ pub fn has_id(order: &[u8], rows: &[u64], from: usize, to: usize, id: u64) -> bo
         i += 1;
     }
     false
+}
+
+// Whether one of the four entries from place `at` on has this id.
+fn four_have(order: &[u8], rows: &[u64], at: usize, id: u64) -> bool
+    requires { ⌜ Usable (now order) (now rows) (at + 4) ⌝ }
+    ensures { λ r. ⌜ r ≡ any (hasId id) (rowsIn (was order) (was rows) at (at + 4)) ⌝ }
+{
+    if id_at(rows, order[at] as usize) == id {
+        return true;
+    }
+    if id_at(rows, order[at + 1] as usize) == id {
+        return true;
+    }
+    if id_at(rows, order[at + 2] as usize) == id {
+        return true;
+    }
+    if id_at(rows, order[at + 3] as usize) == id {
+        return true;
+    }
+    false
+}
+
+// Whether an entry has this id: four at a time, as long as there are four.
+pub fn has_id(order: &[u8], rows: &[u64], from: usize, to: usize, id: u64) -> bool
+    requires { ⌜ Usable (now order) (now rows) to × (from ≤ to) ⌝ }
+    ensures { λ r. ⌜ r ≡ any (hasId id) (rowsIn (was order) (was rows) from to) ⌝ }
+{
+    let mut i = from;
+    while 3 < to - i {
+        if four_have(order, rows, i, id) {
+            return true;
+        }
+        i += 4;
+    }
+    some_has(order, rows, i, to, id)
 }
 
 // The first entry with this id that is in progress (or future, as asked).
@@ -126,7 +162,7 @@ pub fn ids(
     lists: &mut ReplyNumbers,
     at: usize,
 ) -> usize
-    requires { ⌜ Usable (now order) (now rows) to × (from ≤ to) × (at ≤ 4) ⌝ }
+    requires { ⌜ Usable (now order) (now rows) to × (from ≤ to) × (at ≤ updateLimit) ⌝ }
     ensures { λ r. ⌜ Lists (was lists) at (map idOf (rowsIn (was order) (was rows) from to)) r (left lists) ⌝ }
 {
     known_length(lists);

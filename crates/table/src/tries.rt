@@ -5,6 +5,7 @@ ghost use Rattle.forms.specs.Lists.{all};
 ghost use Rattle.history.specs.Entries.{UsableEntry, cellsOf, operationOf};
 ghost use Rattle.history.specs.Words.{historiesIn};
 ghost use Rattle.table.specs.Ends.{was, left};
+ghost use Rattle.table.specs.Rows.{HasRow, rowAt};
 ghost use Rattle.table.specs.Tables.{Owns};
 ghost use Rattle.table.specs.Tries.{entryUpdates, readyBy, startsBy, Tries};
 use super::Marks;
@@ -12,25 +13,27 @@ use super::Table;
 use super::blocking::in_progress;
 use super::blocking::is_free;
 use super::blocking::marked;
-use super::rows::row_at;
+use super::rows::count_at;
+use super::rows::id_at;
+use super::rows::item_in;
+use super::rows::runs_at;
 use super::rows::start_row;
 use super::search::push_number;
 use forms::ReplyNumbers;
-use history::Entry;
 use history::book::BookWords;
 use history::book::history_at;
 use history::book::known_length;
 use history::update_rules::may_run;
 
-// Whether each update of an operation may run and is not blocked.
-fn all_ready(book: &BookWords, m: Marks, e: Entry) -> bool
-    requires { ⌜ UsableEntry e ⌝ }
-    ensures { λ r. ⌜ r ≡ all (readyBy (cellsOf (historiesIn (was book))) m) (entryUpdates e) ⌝ }
+// Whether each update of the operation in the row of entry e may run and is not blocked.
+fn all_ready(book: &BookWords, m: Marks, rows: &[u64], e: usize) -> bool
+    requires { ⌜ HasRow (now rows) e × UsableEntry (rowAt (now rows) e) ⌝ }
+    ensures { λ r. ⌜ r ≡ all (readyBy (cellsOf (historiesIn (was book))) m) (entryUpdates (rowAt (was rows) e)) ⌝ }
 {
-    let n = e.count;
-    let mut i = 0;
-    while i < n {
-        let x = e.items[i];
+    let n = count_at(rows, e);
+    let mut j: usize = 0;
+    while j < n {
+        let x = item_in(rows, e, j);
         let at = x.history as usize;
         let h = history_at(book, at);
         let rule = x.rule;
@@ -42,20 +45,20 @@ fn all_ready(book: &BookWords, m: Marks, e: Entry) -> bool
         if !is_free(m, x) {
             return false;
         }
-        i += 1;
+        j += 1;
     }
     true
 }
 
-// Whether an entry is a future operation that is ready.
-fn may_start(book: &BookWords, m: Marks, e: Entry) -> bool
-    requires { ⌜ UsableEntry e ⌝ }
-    ensures { λ r. ⌜ r ≡ startsBy (cellsOf (historiesIn (was book))) m (operationOf e) ⌝ }
+// Whether the row of entry e is a future operation that is ready.
+fn may_start(book: &BookWords, m: Marks, rows: &[u64], e: usize) -> bool
+    requires { ⌜ HasRow (now rows) e × UsableEntry (rowAt (now rows) e) ⌝ }
+    ensures { λ r. ⌜ r ≡ startsBy (cellsOf (historiesIn (was book))) m (operationOf (rowAt (was rows) e)) ⌝ }
 {
-    if e.running {
+    if runs_at(rows, e) {
         false
     } else {
-        all_ready(book, m, e)
+        all_ready(book, m, rows, e)
     }
 }
 
@@ -81,11 +84,10 @@ impl Table {
         let mut i = from;
         while i < to {
             let number = order[i] as usize;
-            let e = row_at(rows, number);
-            if may_start(book, m, e) {
-                m = marked(m, e);
+            if may_start(book, m, rows, number) {
+                m = marked(m, rows, number);
+                push_number(lists, at + ready, id_at(rows, number));
                 start_row(rows, number);
-                push_number(lists, at + ready, e.id);
                 ready += 1;
             }
             i += 1;

@@ -3,7 +3,7 @@ use Prim.Native.Nat.{ℕ, _<_}
 use mathlib.Core.Path.{sym, ap, _∙_}
 use lib.Dec.{leb}
 use Rattle.rules.specs.Records.{counts, fullReports}
-use Rattle.rules.specs.RecordMasks.{mask-reports}
+use Rattle.rule_laws.specs.RecordMasks.{mask-reports}
 use Rattle.records.specs.Model.{recordOf}
 use borrow.Author.Needs.{needs}
 use Rattle.records.proofs.is_persistent.Statement.{statement}

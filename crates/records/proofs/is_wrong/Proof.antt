@@ -4,7 +4,7 @@ use mathlib.Core.Path.{sym, ap, _∙_}
 use lib.Dec.{ltb}
 use borrow.Author.Tests.{eq-eqb, ne-eqb}
 use Rattle.rules.specs.Records.{wrongThreshold}
-use Rattle.rules.specs.RecordMasks.{mask-ones}
+use Rattle.rule_laws.specs.RecordMasks.{mask-ones}
 use borrow.Author.Needs.{needs}
 use Rattle.records.proofs.is_wrong.Statement.{statement}
 use Rattle.records.proofs.is_wrong.Tie as tie

@@ -19,18 +19,6 @@ enum-told c = search needs
 operand-fits-requires : tie.Need-operand-fits-requires
 operand-fits-requires c κs = search needs
 
-enum-told-2 : tie.Need-enum-told-2
-enum-told-2 c = search needs
-
-is-strong-requires : tie.Need-is-strong-requires
-is-strong-requires c κs = search needs
-
-enum-told-3 : tie.Need-enum-told-3
-enum-told-3 c = search needs
-
-orders-requires : tie.Need-orders-requires
-orders-requires c κs = search needs
-
 returns : tie.Need-returns
 unfolding askedTest
 returns c = rw (c .before .before .t .given .1)
@@ -43,28 +31,6 @@ returns-3 : tie.Need-returns-3
 unfolding askedTest updateMisfits
 returns-3 c = rw (c .before .enum-told .given .1) (ap not (c .operand-fits .ensures))
 
-returns-4 : tie.Need-returns-4
-unfolding askedTest
-returns-4 c = rw (c .before .enum-told2 .given .1) (c .is-strong .ensures)
-
-returns-5 : tie.Need-returns-5
-unfolding askedTest
-returns-5 c = rw (c .before .enum-told3 .given .1) (c .orders .ensures)
-
 pub asked-test-spec : {M : Type 1} → statement M
 asked-test-spec =
-    tie.close
-    (tie.spec
-    enum-known-t
-    enum-known-t-2
-    enum-told
-    operand-fits-requires
-    enum-told-2
-    is-strong-requires
-    enum-told-3
-    orders-requires
-    returns
-    returns-2
-    returns-3
-    returns-4
-    returns-5)
+    tie.close (tie.spec enum-known-t enum-known-t-2 enum-told operand-fits-requires returns returns-2 returns-3)

@@ -1,5 +1,5 @@
 -- The record that is found is left out, and those behind it move up; where there is none it is 19.
-use Prim.Native.Nat.{_-_}
+use Prim.Native.Nat.{_-_, _<_}
 use native.Mathlib.Omega.{arith}
 use denote.Ref.{now}
 use mathlib.Core.Path.{sym, _∙_}
@@ -7,6 +7,13 @@ use Rattle.records.specs.CallLaws.{not-sent, forget-gone, found-low, for
 use borrow.Author.Needs.{needs}
 use Rattle.records.proofs.Records.forget.Statement.{statement}
 use Rattle.records.proofs.Records.forget.Tie as tie
+
+-- the record that was found is one of those in use
+low : (c : tie.After-known-told) → c .before .i .given .0 .0 < c .before .before .before .before .before .before .args .self .count
+low c =
+    let f = c .before .before .before in
+    let s = f .before .before .before in
+    found-low (s .args .self) (now (s .args .words)) (s .pre) (s .args .id) (c .before .i .given .0 .0) (sym (f .find .ensures) ∙ c .before .i .given .1)
 
 find-requires : tie.Need-find-requires
 find-requires c κs = search needs
@@ -33,34 +40,18 @@ returns c =
     (c .refused .result) (c .refused .ensures)
 
 sub-last : tie.Need-sub-last
-sub-last c =
-    let k = c .before .before in
-    let f = k .before .before in
-    let s = f .before .before .before in
-    let a = s .args in
-    let low = found-low (a .self) (now (a .words)) (s .pre) (a .id) (k .i .given .0 .0) (sym (f .find .ensures) ∙ k .i .given .1) in
-    omega (arith, low)
+sub-last c = omega (arith, low (c .before))
 
 mul-close-gap : tie.Need-mul-close-gap
-mul-close-gap c =
-    let k = c .before .before .before in
-    let f = k .before .before in
-    let s = f .before .before .before in
-    let a = s .args in
-    let low = found-low (a .self) (now (a .words)) (s .pre) (a .id) (k .i .given .0 .0) (sym (f .find .ensures) ∙ k .i .given .1) in
-    omega (arith, low, s .pre .few)
+mul-close-gap c = omega (arith, low (c .before .before), c .before .before .before .before .before .before .before .before .pre .few)
 
 mul-close-gap-2 : tie.Need-mul-close-gap-2
 mul-close-gap-2 c = search needs
 
 close-gap-requires : tie.Need-close-gap-requires
 close-gap-requires c κs =
-    let k = c .before .before .before in
-    let f = k .before .before in
-    let s = f .before .before .before in
-    let a = s .args in
-    let low = found-low (a .self) (now (a .words)) (s .pre) (a .id) (k .i .given .0 .0) (sym (f .find .ensures) ∙ k .i .given .1) in
-    (omega (arith, low), omega (arith, low, s .pre .few, s .pre .long))
+    let s = c .before .before .before .before .before .before .before .before in
+    (omega (arith, low (c .before .before)), omega (arith, low (c .before .before), s .pre .few, s .pre .long))
 
 same-length-2 : tie.Need-same-length-2
 same-length-2 c = search needs
@@ -72,10 +63,8 @@ returns-2 c =
     let f = k .before .before in
     let s = f .before .before .before in
     let a = s .args in
-    let place = sym (f .find .ensures) ∙ k .i .given .1 in
-    let low = found-low (a .self) (now (a .words)) (s .pre) (a .id) (k .i .given .0 .0) place in
-    forgets (a .self) (now (a .words)) (s .pre) (a .id) (k .i .given .0 .0) place (a .self .count - 1) (gap .close-gap .last .0)
-    (omega (arith, low)) (gap .close-gap .ensures)
+    forgets (a .self) (now (a .words)) (s .pre) (a .id) (k .i .given .0 .0) (sym (f .find .ensures) ∙ k .i .given .1) (a .self .count - 1) (gap .close-gap .last .0)
+    (omega (arith, low (gap .before .before .before))) (gap .close-gap .ensures)
 
 pub forget-spec : {M : Type 1} → statement M
 forget-spec =

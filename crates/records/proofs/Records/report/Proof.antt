@@ -1,7 +1,7 @@
 -- The record that is found gets the bit of the site, if it was sent there; what it then comes to is the reply. Else it is 19.
 use denote.Ref.{now}
 use mathlib.Core.Path.{sym, _∙_}
-use Rattle.rules.specs.RecordMasks.{site-low}
+use Rattle.rule_laws.specs.RecordMasks.{site-low}
 use Rattle.records.specs.CallLaws.{not-sent, report-gone, report-outside, reports-as, found-fits}
 use borrow.Author.Needs.{needs}
 use Rattle.records.proofs.Records.report.Statement.{statement}

@@ -1,6 +1,6 @@
 -- A shift by less than eight leaves a power of two below 256, so nothing is cut off.
 use native.Mathlib.Omega.{arith}
-use Rattle.rules.specs.RecordMasks.{bit-small}
+use Rattle.rule_laws.specs.RecordMasks.{bit-small}
 use borrow.Author.Needs.{needs}
 use Rattle.records.proofs.masks.bit.Statement.{statement}
 use Rattle.records.proofs.masks.bit.Tie as tie

@@ -5,7 +5,7 @@ use Prim.Native.Nat.{ℕ, _/_, _^_}
 use lib.Dec.{eqb}
 use lib.Bits.{and-mask}
 use Rattle.forms.specs.ListLaws.{T-true, T-false}
-use Rattle.rules.specs.RecordMasks.{mask-site, site-low}
+use Rattle.rule_laws.specs.RecordMasks.{mask-site, site-low}
 use borrow.Author.Needs.{needs}
 use Rattle.records.proofs.masks.has_site.Statement.{statement}
 use Rattle.records.proofs.masks.has_site.Tie as tie

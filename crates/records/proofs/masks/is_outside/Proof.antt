@@ -2,7 +2,7 @@
 use Prim.Native.Nat.{_<_}
 use mathlib.Core.Path.{sym}
 use borrow.Author.Needs.{needs}
-use Rattle.rules.specs.RecordMasks.{mask-outside}
+use Rattle.rule_laws.specs.RecordMasks.{mask-outside}
 use Rattle.records.proofs.masks.is_outside.Statement.{statement}
 use Rattle.records.proofs.masks.is_outside.Tie as tie
 

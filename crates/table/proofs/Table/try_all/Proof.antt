@@ -5,12 +5,13 @@ use denote.Ref.{now}
 use borrow.Author.Needs.{needs}
 use Prim.Native.Nat.{_+_, _≤_, _-_}
 use native.Mathlib.Omega.{arith}
-use mathlib.Core.Path.{_≡_, sym, _∙_}
+use mathlib.Core.Path.{_≡_, refl, sym, _∙_}
 use mathlib.Core.Logic.{⊎-elim}
-use lib.ListN.{length}
+use lib.ListN.{length, getD}
 use Rattle.history.specs.Entries.{cellsOf}
 use Rattle.history.specs.Words.{historiesIn}
-use Rattle.table.specs.RoundLaws.{Passing, passing-none, passing-usable, passing-yes, passing-no, passing-at, passing-all}
+use Rattle.table.specs.Rows.{rowAt}
+use Rattle.table.specs.RoundLaws.{Passing, passing-none, passing-yes, passing-no, passing-at, passing-all}
 use Rattle.table.proofs.Table.try_all.Statement.{statement}
 use Rattle.table.proofs.Table.try_all.Tie as tie
 
@@ -55,38 +56,29 @@ cast-number c =
     let w = p .usable .within (c .before .before .loop .i) (omega arith) in
     record { fits = omega (arith, w, p .frame .long, good) }
 
-row-at-requires : tie.Need-row-at-requires Inv-loop μ-loop
-row-at-requires c κs = c .before .before .before .loop .inv .5 .usable .within (c .before .before .before .loop .i) (omega arith)
-
 may-start-requires : tie.Need-may-start-requires Inv-loop μ-loop
 may-start-requires c κs =
-    let a = c .before .before .before .before .before .before .before .before .before .before .before .before .before .args in
-    let l = c .before .before .before .before .loop in
-    passing-usable (cellsOf (historiesIn (a .book .now))) (a .order .now) (now (a .rows)) (l .rows) (a .self .finished) _ (l .m)
-    (now (a .lists)) (a .at)
-    (l .ready) (l .lists) (l .i) _ (c .row-at .ensures) (l .inv .5) (l .inv .0) (c .before .before .before .loop-test .taken)
+    let l = c .before .before .before .loop in
+    (l .inv .5 .usable .within (l .i) (omega arith), l .inv .5 .usable .each (l .i) (omega arith))
 
 marked-requires : tie.Need-marked-requires Inv-loop μ-loop
 marked-requires c κs =
-    let a = c .before .before .before .before .before .before .before .before .before .before .before .before .before .before .before .args in
     let l = c .before .before .before .before .before .before .loop in (
-      passing-usable (cellsOf (historiesIn (a .book .now))) (a .order .now) (now (a .rows)) (l .rows) (a .self .finished) _ (l .m)
-          (now (a .lists)) (a .at)
-          (l .ready) (l .lists) (l .i) _ (c .before .before .row-at .ensures) (l .inv .5) (l .inv .0)
-          (c .before .before .before .before .before .loop-test .taken),
+      (l .inv .5 .usable .within (l .i) (omega arith), l .inv .5 .usable .each (l .i) (omega arith)),
       (l .inv .5 .tried .marks .each .long, l .inv .5 .tried .marks .strongs .long),
     )
 
-start-row-requires : tie.Need-start-row-requires Inv-loop μ-loop
-start-row-requires c κs =
-    c .before .before .before .before .before .before .before .before .loop .inv .5 .usable .within
-    (c .before .before .before .before .before .before .before .before .loop .i) (omega arith)
+id-at-requires : tie.Need-id-at-requires Inv-loop μ-loop
+id-at-requires c κs = let l = c .before .before .before .before .before .before .before .before .before .loop in l .inv .5 .usable .within (l .i) (omega arith)
 
 add-push-number : tie.Need-add-push-number Inv-loop μ-loop
 add-push-number c = omega arith
 
 push-number-requires : tie.Need-push-number-requires Inv-loop μ-loop
 push-number-requires c κs = omega arith
+
+start-row-requires : tie.Need-start-row-requires Inv-loop μ-loop
+start-row-requires c κs = let l = c .before .before .before .before .before .before .before .before .before .before .before .before .loop in l .inv .5 .usable .within (l .i) (omega arith)
 
 add-ready : tie.Need-add-ready Inv-loop μ-loop
 add-ready c = omega arith
@@ -99,29 +91,29 @@ loop-less c = omega arith
 
 loop-again : tie.Need-loop-again Inv-loop μ-loop
 loop-again c =
-    let a = c .before .before .before .before .before .before .before .before .before .before .before .before .before .before .before .args in
-    let l = c .before .before .before .before .before .before .loop in
+    let a = c .before .before .before .before .before .before .before .before .before .before .before .before .before .before .args in
+    let l = c .before .before .before .before .before .loop in
     let cells = cellsOf (historiesIn (a .book .now)) in
     let o = a .order .now in
     let old = now (a .rows) in
     let from = a .self .finished in
     let first = now (a .lists) in
-    let e = c .before .before .row-at .result in
-    let read = c .before .before .row-at .ensures in
-    let low = c .before .before .before .before .before .loop-test .taken in
+    let e = rowAt (l .rows) (getD o (l .i) 0) in
+    let low = c .before .before .before .before .loop-test .taken in
     ⊎-elim
     (λ w.
     let next =
-    passing-at cells o old _ _ from _ _ _ first (a .at) (l .ready + 1) _ _ _ (l .i + 1) (w .10) (w .8) (w .11) (w .9)
-    (passing-yes cells o old (l .rows) from _ (l .m) first (a .at) (l .ready) (l .lists) (l .i) e read (l .inv .5) (l .inv .0) low
-    (w .1 .result) _ _
-    (sym (c .before .may-start .ensures) ∙ w .0 .taken) (w .1 .ensures) (w .3 .ensures) (w .7 .ensures) (omega arith))
+    passing-at cells o old _ _ from _ _ _ first (a .at) (l .ready + 1) _ _ _ (l .i + 1) (w .13) (w .11) (w .14) (w .12)
+    (passing-yes cells o old (l .rows) from _ (l .m) first (a .at) (l .ready) (l .lists) (l .i) e refl (l .inv .5) (l .inv .0) low
+    (w .2 .result) _ _
+    (sym (c .before .may-start .ensures) ∙ w .0 .taken) (w .2 .ensures) (w .8 .ensures) (w .5 .result) (w .5 .ensures) (w .6 .ensures)
+    (omega arith))
     in
     (omega arith, omega arith, l .inv .2, l .inv .3, next .tried .few, next))
     (λ w.
     let next =
     passing-at cells o old (l .rows) _ from _ (l .m) _ first (a .at) (l .ready) _ (l .lists) _ (l .i + 1) (w .3) (w .1) (w .4) (w .2)
-    (passing-no cells o old (l .rows) from _ (l .m) first (a .at) (l .ready) (l .lists) (l .i) e read (l .inv .5) (l .inv .0) low
+    (passing-no cells o old (l .rows) from _ (l .m) first (a .at) (l .ready) (l .lists) (l .i) e refl (l .inv .5) (l .inv .0) low
     (sym (c .before .may-start .ensures) ∙ w .0 .left))
     in
     (omega arith, omega arith, l .inv .2, l .inv .3, next .tried .few, next))
@@ -149,12 +141,12 @@ try-all-spec =
     loop-holds
     shared-slice-read-number
     cast-number
-    row-at-requires
     may-start-requires
     marked-requires
-    start-row-requires
     add-push-number
+    id-at-requires
     push-number-requires
+    start-row-requires
     add-ready
     add-i
     loop-less

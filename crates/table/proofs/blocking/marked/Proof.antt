@@ -1,54 +1,54 @@
--- After i updates the marks are those of the first i: each round sets the marks of one.
-use Prim.Native.Nat.{_≤_, _-_}
+-- After j updates the marks are those of the first j: each round sets the marks of one.
+use borrow.Author.Needs.{needs}
+use Prim.Native.Nat.{_≤_, _<_, _-_}
 use native.Mathlib.Omega.{arith}
-use mathlib.Core.Path.{_≡_, ap, refl, _∙_}
+use mathlib.Core.Path.{_≡_, sym, ap, subst, _∙_}
 use mathlib.Core.Bool.{Bool, false, _||_}
 use lib.ListN.{getD}
-use Rattle.history.specs.Entries.{noItem}
+use Rattle.history.specs.declared.Item.{Item}
+use Rattle.table.specs.Rows.{rowAt}
 use Rattle.table.specs.MarkLaws.{Marking, marking-start, marking-next, marking-end}
 use Rattle.table.proofs.blocking.marked.Statement.{statement}
 use Rattle.table.proofs.blocking.marked.Tie as tie
 
 abbrev Inv-loop : tie.InvT-loop
-Inv-loop e any₀ strong₀ n i₀ any strong i =
-    (i ≤ n) × (n ≡ e .count) × Marking i e (record { any = any₀; strong = strong₀ }) (record { any = any; strong = strong })
+Inv-loop rows e any₀ strong₀ n j₀ any strong j =
+    (j ≤ n) × (n ≡ rowAt rows e .count)
+    × Marking j (rowAt rows e) (record { any = any₀; strong = strong₀ }) (record { any = any; strong = strong })
 
 abbrev μ-loop : tie.MeasureT-loop
-μ-loop e any₀ strong₀ n i₀ any strong i = n - i
+μ-loop rows e any₀ strong₀ n j₀ any strong j = n - j
+
+-- the history of the update that is read
+low : (c : tie.After-struct-known Inv-loop μ-loop) → c .before .item-in .result .history < 16
+low c =
+    let l = c .before .before .before .loop in
+    subst (λ (x : Item). x .history < 16) (sym (c .before .item-in .ensures))
+    (c .before .before .before .before .before .before .before .before .pre .0 .1 .each (l .j) (omega (arith, l .inv .1)) .history)
+
+count-at-requires : tie.Need-count-at-requires Inv-loop μ-loop
+count-at-requires c κs = search needs
 
 loop-holds : tie.Need-loop-holds Inv-loop μ-loop
-loop-holds c = (
-  omega arith,
-  refl,
-  marking-start (c .before .before .args .t2) (c .before .before .args .m) (c .before .before .pre .1 .0)
-      (c .before .before .pre .1 .1),
-)
+loop-holds c =
+    let p = c .before .before .before .before in (
+      omega arith,
+      c .count-at .ensures,
+      marking-start (rowAt (p .args .rows .now) (p .args .e)) (p .args .m) (p .pre .1 .0) (p .pre .1 .1),
+    )
 
-mul-x : tie.Need-mul-x Inv-loop μ-loop
-mul-x c = omega (arith, c .before .before .before .before .pre .0 .few)
-
-element-copy-out-x : tie.Need-element-copy-out-x Inv-loop μ-loop
-element-copy-out-x c = omega (arith, c .before .before .before .before .pre .0 .few)
+item-in-requires : tie.Need-item-in-requires Inv-loop μ-loop
+item-in-requires c κs =
+    (c .before .before .before .before .before .before .pre .0 .0, omega (arith, c .before .loop .inv .1, c .before .before .before .before .before .before .pre .0 .1 .few))
 
 cast-at : tie.Need-cast-at Inv-loop μ-loop
-cast-at c =
-    record {
-      fits = omega (
-        arith,
-        c .before .before .before .before .before .before .pre .0 .each (c .before .before .before .loop .i)
-            (omega arith) .history,
-      );
-    }
+cast-at c = search needs
 
 array-write-any : tie.Need-array-write-any Inv-loop μ-loop
-array-write-any c =
-    omega
-    (arith, c .before .before .before .before .before .before .pre .0 .each (c .before .before .before .loop .i) (omega arith) .history)
+array-write-any c = low c
 
 array-read-either : tie.Need-array-read-either Inv-loop μ-loop
-array-read-either c =
-    omega
-    (arith, c .before .before .before .before .before .before .pre .0 .each (c .before .before .before .loop .i) (omega arith) .history)
+array-read-either c = low c
 
 is-strong-requires : tie.Need-is-strong-requires Inv-loop μ-loop
 is-strong-requires c κs = tt
@@ -57,15 +57,10 @@ either-requires : tie.Need-either-requires Inv-loop μ-loop
 either-requires c κs = tt
 
 array-write-strong : tie.Need-array-write-strong Inv-loop μ-loop
-array-write-strong c =
-    omega (
-      arith,
-      c .before .before .before .before .before .before .before .before .pre .0 .each
-          (c .before .before .before .before .before .loop .i) (omega arith) .history,
-    )
+array-write-strong c = low (c .before .before)
 
-add-i : tie.Need-add-i Inv-loop μ-loop
-add-i c = omega (arith, c .before .before .before .before .before .before .before .before .pre .0 .few)
+add-j : tie.Need-add-j Inv-loop μ-loop
+add-j c = omega (arith, c .before .before .before .before .before .loop .inv .1, c .before .before .before .before .before .before .before .before .before .before .pre .0 .1 .few)
 
 loop-less : tie.Need-loop-less Inv-loop μ-loop
 loop-less c = omega arith
@@ -73,17 +68,20 @@ loop-less c = omega arith
 loop-again : tie.Need-loop-again Inv-loop μ-loop
 loop-again c =
     let l = c .before .before .before .before .before .loop in
-    let e = c .before .before .before .before .before .before .before .before .args .t2 in
-    let x = getD (e .items) (l .i) noItem in (
+    let a = c .before .before .before .before .before .before .before .before .before .before .args in
+    let x = c .before .before .before .item-in in (
       omega arith,
-      refl,
-      marking-next (l .i) e _ (record { any = l .any; strong = l .strong }) _
-          (c .before .before .before .before .before .before .before .before .pre .0) (omega arith) (l .inv .2)
-          (c .either .ensures ∙ ap (λ (b : Bool). getD (l .strong) (x .history) false || b) (c .before .is-strong .ensures)),
+      l .inv .1,
+      marking-next (l .j) (rowAt (a .rows .now) (a .e)) _ (record { any = l .any; strong = l .strong }) _ (x .result)
+          (c .before .before .before .before .before .before .before .before .before .before .pre .0 .1) (omega (arith, l .inv .1)) (x .ensures) (l .inv .2)
+          (c .either .ensures ∙ ap (λ (b : Bool). getD (l .strong) (x .result .history) false || b) (c .before .is-strong .ensures)),
     )
 
 returns : tie.Need-returns Inv-loop μ-loop
-returns c = marking-end (c .before .loop .i) (c .before .before .before .before .args .t2) _ _ (omega arith) (c .before .loop .inv .2)
+returns c =
+    let a = c .before .before .before .before .before .before .args in
+    let l = c .before .loop in
+    marking-end (l .j) (rowAt (a .rows .now) (a .e)) _ _ (omega (arith, l .inv .1)) (l .inv .2)
 
 pub marked-spec : {M : Type 1} → statement M
 marked-spec =
@@ -91,16 +89,16 @@ marked-spec =
     (tie.spec
     Inv-loop
     μ-loop
+    count-at-requires
     loop-holds
-    mul-x
-    element-copy-out-x
+    item-in-requires
     cast-at
     array-write-any
     array-read-either
     is-strong-requires
     either-requires
     array-write-strong
-    add-i
+    add-j
     loop-less
     loop-again
     returns)

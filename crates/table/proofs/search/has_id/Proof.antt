@@ -1,13 +1,12 @@
--- None of the entries from `from` to i has the id; the first that has it decides, and after all of them none has.
-use Prim.Native.Nat.{_≤_, _-_}
-use lib.ListN.{length}
+-- None of the entries from `from` to i has the id; the first four of which one has it decide, and of the last three the search one by one.
+use Prim.Native.Nat.{_+_, _≤_, _-_}
 use native.Mathlib.Omega.{arith}
 use mathlib.Core.Path.{_≡_, sym, _∙_}
 use mathlib.Core.Bool.{false}
-use borrow.Author.Tests.{eq-eqb, ne-eqb}
+use lib.ListN.{length}
 use Rattle.forms.specs.Lists.{any}
 use Rattle.table.specs.Tables.{hasId, rowsIn}
-use Rattle.table.specs.RangeLaws.{none-start, none-next, some-hit}
+use Rattle.table.specs.RangeLaws.{none-start, none-join, some-join}
 use Rattle.table.proofs.search.has_id.Statement.{statement}
 use Rattle.table.proofs.search.has_id.Tie as tie
 
@@ -26,49 +25,56 @@ loop-holds c = (
       (c .before .before .args .from),
 )
 
-shared-slice-read-id-at : tie.Need-shared-slice-read-id-at Inv-loop μ-loop
-shared-slice-read-id-at c = omega arith
+sub-loop : tie.Need-sub-loop Inv-loop μ-loop
+sub-loop c = omega (arith, c .loop .inv .1)
 
-cast-id-at : tie.Need-cast-id-at Inv-loop μ-loop
-cast-id-at c =
-    let w = c .before .before .before .before .before .pre .0 .within (c .before .before .loop .i) (omega arith) in
-    record { fits = omega arith }
-
-id-at-requires : tie.Need-id-at-requires Inv-loop μ-loop
-id-at-requires c κs = c .before .before .before .before .before .pre .0 .within (c .before .before .loop .i) (omega arith)
+four-have-requires : tie.Need-four-have-requires Inv-loop μ-loop
+four-have-requires c κs =
+    let u = c .before .before .before .before .pre .0 in
+    let m : c .before .loop .i + 4 ≤ c .before .before .before .before .args .to = omega (arith, c .loop-test .taken, c .before .loop .inv .1) in
+    record {
+      long = u .long;
+      few = omega (arith, u .few, m);
+      within = λ k h. u .within k (omega (arith, h, m));
+      each = λ k h. u .each k (omega (arith, h, m));
+    }
 
 returns : tie.Need-returns Inv-loop μ-loop
 returns c =
-    let a = c .before .before .before .before .before .before .before .args in
-    let u = c .before .before .before .before .before .before .before .pre .0 in
-    let l = c .before .before .before .before .loop in
+    let a = c .before .before .before .before .before .before .args in
+    let l = c .before .before .before .loop in
     sym
-    (some-hit (hasId (a .id)) (a .order .now) (a .rows .now) (a .from) (l .i) (a .to) (l .inv .0) (omega arith)
-    (omega (arith, u .few))
-    (eq-eqb _ _ (sym (c .before .id-at .ensures) ∙ c .if1 .taken)))
+    (some-join (hasId (a .id)) (a .order .now) (a .rows .now) (a .from) (l .i) (l .i + 4) (a .to) (l .inv .0) (omega arith)
+    (omega (arith, c .before .before .loop-test .taken, l .inv .1)) (l .inv .2) (sym (c .before .four-have .ensures) ∙ c .if1 .taken))
 
 add-i : tie.Need-add-i Inv-loop μ-loop
-add-i c = omega arith
+add-i c = omega (arith, c .before .before .loop-test .taken, c .before .before .before .loop .inv .1)
 
 loop-less : tie.Need-loop-less Inv-loop μ-loop
 loop-less c = omega arith
 
 loop-again : tie.Need-loop-again Inv-loop μ-loop
 loop-again c =
-    let a = c .before .before .before .before .before .before .before .args in
-    let u = c .before .before .before .before .before .before .before .pre .0 in
-    let l = c .before .before .before .before .loop in (
+    let a = c .before .before .before .before .before .before .args in
+    let l = c .before .before .before .loop in
+    let m : l .i + 4 ≤ a .to = omega (arith, c .before .before .loop-test .taken, l .inv .1) in (
       omega arith,
-      omega arith,
+      m,
       l .inv .2,
-      none-next (hasId (a .id)) (a .order .now) (a .rows .now) (a .from) (l .i) (l .inv .0) (omega (arith, u .few)) (l .inv .3)
-          (ne-eqb _ _ (λ e. c .if1 .left (c .before .id-at .ensures ∙ e))),
+      none-join (hasId (a .id)) (a .order .now) (a .rows .now) (a .from) (l .i) (l .i + 4) (l .inv .0) (omega arith)
+          (omega (arith, m, l .inv .2)) (l .inv .3) false (sym (c .before .four-have .ensures) ∙ c .if1 .left),
     )
+
+some-has-requires : tie.Need-some-has-requires Inv-loop μ-loop
+some-has-requires c κs = (c .before .before .before .before .pre .0, c .before .loop .inv .1)
 
 returns-2 : tie.Need-returns-2 Inv-loop μ-loop
 returns-2 c =
-    let e : c .before .loop .i ≡ c .before .before .before .before .args .to = omega arith in
-    sym (rw e at (c .before .loop .inv .3))
+    let a = c .before .before .before .before .before .args in
+    let l = c .before .before .loop in
+    sym
+    (none-join (hasId (a .id)) (a .order .now) (a .rows .now) (a .from) (l .i) (a .to) (l .inv .0) (l .inv .1) (l .inv .2) (l .inv .3) _
+    (sym (c .some-has .ensures)))
 
 pub has-id-spec : {M : Type 1} → statement M
 has-id-spec =
@@ -77,11 +83,11 @@ has-id-spec =
     Inv-loop
     μ-loop
     loop-holds
-    shared-slice-read-id-at
-    cast-id-at
-    id-at-requires
+    sub-loop
+    four-have-requires
     returns
     add-i
     loop-less
     loop-again
+    some-has-requires
     returns-2)

@@ -32,13 +32,13 @@ shared-slice-read-stamp c = omega arith
 
 cast-stamp : tie.Need-cast-stamp Inv-loop μ-loop
 cast-stamp c =
-    let w = c .before .before .before .before .before .pre .0 .within (c .before .before .loop .i) (omega arith) in
+    let w = c .before .before .before .before .before .before .pre .0 .within (c .before .before .before .loop .i) (omega arith) in
     record { fits = omega arith }
 
 stamp-requires : tie.Need-stamp-requires Inv-loop μ-loop
 stamp-requires c κs =
-    let u = c .before .before .before .before .before .pre .0 in
-    (u .within (c .before .before .loop .i) (omega arith), u .each (c .before .before .loop .i) (omega arith))
+    let u = c .before .before .before .before .before .before .pre .0 in
+    (u .within (c .before .before .before .loop .i) (omega arith), u .each (c .before .before .before .loop .i) (omega arith))
 
 add-i : tie.Need-add-i Inv-loop μ-loop
 add-i c = omega arith
@@ -48,9 +48,9 @@ loop-less c = omega arith
 
 loop-again : tie.Need-loop-again Inv-loop μ-loop
 loop-again c =
-    let a = c .before .before .before .before .before .before .args in
-    let u = c .before .before .before .before .before .before .pre .0 in
-    let l = c .before .before .before .loop in (
+    let a = c .before .before .before .before .before .before .before .args in
+    let u = c .before .before .before .before .before .before .before .pre .0 in
+    let l = c .before .before .before .before .loop in (
       omega arith,
       omega arith,
       l .inv .2,

@@ -1,0 +1,1 @@
+// No code: laws about the specification stand in specs/.
