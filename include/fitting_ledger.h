@@ -1,16 +1,17 @@
 /*
- * The fitting ledger for controllers and stations: a site, a keeper and records that live on from call to call, in memory that their owner
- * lends.
+ * The fitting ledger for controllers and stations: a site, a card beside it, a keeper and records that live on from call to call, in memory
+ * that their owner lends.
  *
- * Link with libfitting_ledger.a for a site, with libfitting_station.a for a keeper and records (`rt staticlib NAME`), x86-64 Linux. C11 and
- * C++17. docs/LIBRARY.md is the page to begin with.
+ * Link with libfitting_ledger.a for a site, with libfitting_card.a too for a card, with libfitting_station.a for a keeper, records and the
+ * report of what falls with lost lines (`rt staticlib NAME`), x86-64 Linux. C11 and C++17. docs/LIBRARY.md is the page to begin with.
  *
- * What is proved of the calls holds for a state that `fl_start` or `fl_restart` has filled (a keeper: `fl_keeper_start`, `fl_keeper_resume`;
- * records: `fl_records_start`, `fl_records_resume`) and that nobody but these calls has changed since, neither the state nor the bytes of its
- * log (the keeper's lines) in use: that is all they ask. Each call is then what documents 01 and 02 say of a session (a keeper, records).
+ * What is proved of the calls holds for a state that `fl_start` or `fl_restart` has filled (a card: `fl_card_afresh`; a keeper:
+ * `fl_keeper_start`, `fl_keeper_resume`; records: `fl_records_start`, `fl_records_resume`) and that nobody but these calls has changed since,
+ * neither the state nor the bytes of its log (the keeper's lines) in use: that is all they ask. Each call is then what documents 01 and 02 say
+ * of a session (a card, a keeper, records).
  *
  * - The library has no memory of its own, allocates nothing, opens nothing and keeps no pointer beyond a call. It uses the stack alone: fewer
- *   than FL_STACK_BYTES.
+ *   than FL_STACK_BYTES; fl_removals, fewer than FL_REMOVALS_STACK_BYTES.
  * - Calls on different states may run at the same time. Calls on one state may not.
  * - What is lent to one call must not overlap.
  */
@@ -25,7 +26,7 @@ extern "C" {
 #endif
 
 /* The version of this header. `fl_fits` compares it with the library. */
-#define FL_VERSION 2
+#define FL_VERSION 3
 
 /* "A site has 1 to 16 histories": the greatest number that fl_start takes. */
 #define FL_HISTORIES 16
@@ -37,9 +38,11 @@ extern "C" {
 #define FL_LINE_BYTES 1024
 /* The longest reply, its end among them: the room that fl_line asks for. */
 #define FL_REPLY_BYTES 2741
-/* More than any call was seen to need of the stack (examples/c/stack.c): fl_line, which may be a cut, some 16,200, a restart 14,900, a
- * changeover 11,600, most calls below 5,000, those of a station below 2,000. */
+/* More than any call was seen to need of the stack (examples/c/stack.c): fl_line, which may be a cut, some 15,800, a restart 14,400, finding
+ * a cut 13,700, a changeover 11,300, most calls below 5,500, those of a card and of a station below 2,000. */
 #define FL_STACK_BYTES 20480
+/* The same of fl_removals, which calls itself as deep as lines fall one by one: some 720,000 with a full log, all of whose lines fall. */
+#define FL_REMOVALS_STACK_BYTES 1048576
 
 /* "1 to 4 updates": as many as fl_add can be given. */
 #define FL_UPDATES 4
@@ -71,18 +74,17 @@ enum {
     FL_ABOVE_LIMIT = 13,
     FL_OUT_OF_TURN = 14,
     FL_BAD_LOG = 15,
+    FL_NOT_AMONG = 16,
     FL_HIGHEST_VERSION = 17,
     FL_WRONG_THRESHOLD = 18,
     FL_NOT_SENT = 19,
     FL_CONFLICT = 20,
-    FL_NO_LENGTH_FITS = 21
+    FL_NO_LENGTH_FITS = 21,
+    FL_WINDOW_RANGE = 22
 };
 
 /* What fl_poll returns in place of FL_OK: the history is not dry, or it is. */
 enum { FL_BUSY = 1000, FL_DRY = 1001 };
-
-/* What fl_find_cut returns in place of FL_OK: this and the number of kept bytes. */
-enum { FL_FOUND = 1000 };
 
 /*
  * A site's state. The owner lends it, and the buffer of its log beside it; both must stay where they are and as they are between calls.
@@ -172,7 +174,7 @@ uint64_t fl_poll_parts(const uint64_t *counters, const uint8_t *log, size_t log_
 uint64_t fl_trim_parts(const uint64_t *counters, const uint8_t *log, size_t log_bytes, const uint64_t *rows, const uint8_t *order,
                        const uint64_t *histories, uint64_t n, uint8_t *fresh, size_t fresh_bytes, size_t *used);
 uint64_t fl_find_cut_parts(const uint64_t *counters, const uint8_t *log, size_t log_bytes, const uint64_t *rows, const uint8_t *order,
-                           const uint64_t *histories, const uint64_t *places, size_t count);
+                           const uint64_t *histories, const uint64_t *places, size_t count, size_t *kept);
 
 /* Whether the library that was linked is the one that this header speaks of: 1 or 0. Ask once, first. */
 static inline int fl_fits(void) {
@@ -323,7 +325,7 @@ static inline uint64_t fl_poll(const fl_site *site, uint64_t history) {
  * are the copy. Bytes behind them are as they were; so are the state, the log and, after a refusal, the fresh buffer and `*used`. While
  * restoring too.
  * FL_ABOVE_LIMIT: n is above the stable mark, above 2^63 or below the log's own base, or fresh_bytes is above FL_LOG_BYTES. Only after
- * these FL_NO_ROOM: the copy does not fit. FL_OUT_OF_TURN without a site.
+ * these FL_NO_ROOM: the copy does not fit; FL_LOG_BYTES are the most that can be lent. FL_OUT_OF_TURN without a site.
  * The changeover is fl_restart from all bytes of the copy, in its buffer, once they are stored; from then on the old log is not needed.
  */
 static inline uint64_t fl_trim(const fl_site *site, uint64_t n, uint8_t *fresh, size_t fresh_bytes, size_t *used) {
@@ -332,17 +334,80 @@ static inline uint64_t fl_trim(const fl_site *site, uint64_t n, uint8_t *fresh, 
 
 /*
  * Names the smallest number of bytes of the log that fl_cut can keep so that the histories have these places, one for each history in
- * rising number: FL_FOUND and that number. While restoring too. Nothing changes.
- * FL_NO_LENGTH_FITS: no cut leaves them; also where there are more or fewer places than histories. FL_OUT_OF_TURN without a site.
+ * rising number: FL_OK, and `*kept` is that number. While restoring too. Nothing else changes.
+ * FL_NO_LENGTH_FITS: no cut leaves them; also where there are more or fewer places than histories. FL_OUT_OF_TURN without a site. A refusal
+ * leaves `*kept` as it was.
  */
-static inline uint64_t fl_find_cut(const fl_site *site, const uint64_t *places, size_t count) {
-    return fl_find_cut_parts(site->counters, site->log, site->log_bytes, site->rows, site->order, site->histories, places, count);
+static inline uint64_t fl_find_cut(const fl_site *site, const uint64_t *places, size_t count, size_t *kept) {
+    return fl_find_cut_parts(site->counters, site->log, site->log_bytes, site->rows, site->order, site->histories, places, count, kept);
 }
 
 /* The lists of a reply: fl_first has answer[FL_FIRST_COUNT] numbers, fl_second has answer[FL_SECOND_COUNT]. */
 static inline const uint64_t *fl_first(const fl_reply *reply) { return reply->numbers; }
 
 static inline const uint64_t *fl_second(const fl_reply *reply) { return reply->numbers + reply->answer[FL_FIRST_COUNT]; }
+
+/*
+ * A card: over the last W did lines of a site's log, how many updates of each rule each history had. Link with libfitting_card.a beside
+ * libfitting_ledger.a.
+ */
+
+/* "W is chosen from 1 to 1,024". */
+#define FL_WINDOW 1024
+/* Words of a card's head, and counts of a history: inc, set, not. */
+#define FL_CARD_HEAD 4
+#define FL_CARD_RULES 3
+
+/* Where a card's head has what: its W, 0 where there is no card; and how many lines count: W, or all that the log has where it has fewer. */
+enum { FL_CARD_WINDOW = 0, FL_CARD_LINES = 1 };
+
+/*
+ * A card beside a site. The owner lends it, and it must stay as it is between calls; fl_card_count reads it. It needs no storing: counted afresh
+ * from the stored log it is the same.
+ */
+typedef struct fl_card {
+    uint64_t head[FL_CARD_HEAD];
+    uint64_t counts[FL_HISTORIES * FL_CARD_RULES];
+} fl_card;
+
+/* What the library exports: the calls below hand it the parts. */
+uint64_t fl_card_version(void);
+size_t fl_card_words(void);
+uint64_t fl_card_afresh_parts(const uint64_t *counters, const uint8_t *log, size_t log_bytes, const uint64_t *rows, const uint8_t *order,
+                              const uint64_t *histories, uint64_t window, uint64_t *head, uint64_t *counts);
+uint64_t fl_card_follow_parts(const uint64_t *counters, const uint8_t *log, size_t log_bytes, const uint64_t *rows, const uint8_t *order,
+                              const uint64_t *histories, uint64_t *head, uint64_t *counts);
+
+/* Whether the library for cards that was linked is the one that this header speaks of: 1 or 0. Ask once, first. */
+static inline int fl_card_fits(void) {
+    return fl_card_version() == FL_VERSION && fl_card_words() == FL_CARD_HEAD + FL_HISTORIES * FL_CARD_RULES;
+}
+
+/*
+ * Counts the card of the last `window` did lines of a site's log afresh, whatever the card holds. It reads the whole log.
+ * FL_OK: head and counts say it. FL_WINDOW_RANGE: not 1 to FL_WINDOW. FL_OUT_OF_TURN without a site. A refusal leaves the counts as they were,
+ * and there is no card. Counts past those of the site's histories are as they were, always. While restoring too. The site does not change.
+ */
+static inline uint64_t fl_card_afresh(const fl_site *site, uint64_t window, fl_card *card) {
+    return fl_card_afresh_parts(site->counters, site->log, site->log_bytes, site->rows, site->order, site->histories, window, card->head,
+                                card->counts);
+}
+
+/*
+ * Lets a card follow its site: FL_OK, and it is the one that fl_card_afresh would count now. It reads the lines that came since, and those that
+ * leave, once more; to be called after each accepted call, or after several.
+ * It asks for a card of this site, counted since the last fl_start, fl_restart and cut (fl_cut, or a line `(cut K)`): behind these, lines are
+ * gone or come back into view, and the card is to be counted afresh.
+ * FL_WINDOW_RANGE: there is no card. FL_OUT_OF_TURN without a site. A refusal changes nothing. The site does not change.
+ */
+static inline uint64_t fl_card_follow(const fl_site *site, fl_card *card) {
+    return fl_card_follow_parts(site->counters, site->log, site->log_bytes, site->rows, site->order, site->histories, card->head, card->counts);
+}
+
+/* How many updates of a rule, FL_INC, FL_SET or FL_NOT, a history had; an FL_UNK is logged as an inc. */
+static inline uint64_t fl_card_count(const fl_card *card, uint64_t history, uint64_t rule) {
+    return history < FL_HISTORIES && rule < FL_CARD_RULES ? card->counts[history * FL_CARD_RULES + rule] : 0;
+}
 
 /*
  * A station. Link with libfitting_station.a; a program that holds a site too links both archives.
@@ -354,6 +419,8 @@ static inline const uint64_t *fl_second(const fl_reply *reply) { return reply->n
 #define FL_RECORDS 64
 /* Words of a record. */
 #define FL_RECORD_WORDS 5
+/* No log has more did lines, so no report of fl_removals names more. */
+#define FL_LOG_LINES 2978
 
 /* What the two resume calls return for what is not stored by a keeper, or not by records. */
 enum { FL_NOT_RESUMED = 999 };
@@ -398,10 +465,12 @@ uint64_t fl_records_record_parts(size_t *count, uint64_t *words, uint64_t id, ui
 uint64_t fl_records_report_parts(size_t *count, uint64_t *words, uint64_t id, uint64_t site);
 uint64_t fl_records_question_parts(const size_t *count, const uint64_t *words, uint64_t id);
 uint64_t fl_records_forget_parts(size_t *count, uint64_t *words, uint64_t id);
+size_t fl_log_lines(void);
 
 /* Whether the library for stations that was linked is the one that this header speaks of: 1 or 0. Ask once, first. */
 static inline int fl_station_fits(void) {
-    return fl_station_version() == FL_VERSION && fl_record_words() == FL_RECORDS * FL_RECORD_WORDS && fl_place_words() == FL_PLACES;
+    return fl_station_version() == FL_VERSION && fl_record_words() == FL_RECORDS * FL_RECORD_WORDS && fl_place_words() == FL_PLACES &&
+           fl_log_lines() == FL_LOG_LINES;
 }
 
 /* Begins a keeper that keeps nothing, whatever the keeper and the buffer hold. A buffer above FL_LOG_BYTES is refused by the calls below. */
@@ -487,6 +556,19 @@ static inline uint64_t fl_records_question(const fl_records *records, uint64_t i
 static inline uint64_t fl_records_forget(fl_records *records, uint64_t id) {
     return fl_records_forget_parts(&records->count, records->words, id);
 }
+
+/*
+ * Names the lines of a log that fall with lines lost for good: all later lines that share a history with one that falls, and all lines of its
+ * transactions, by their log numbers, which count from 1, or behind a base line of N from N + 1. No state is lent; `log` is a whole log, and a
+ * last line without its end is none.
+ * `pairs` are log number and transaction number in turn, pair_numbers numbers in all; a last one without a partner is no pair. `lost` are the
+ * log numbers lost. FL_OK: `*count` numbers, rising, stand at the front of `out`; those behind are as they were.
+ * FL_ABOVE_LIMIT: log_bytes is above FL_LOG_BYTES. FL_BAD_LOG: these bytes are no log. FL_NOT_AMONG: a number of a pair or a line lost is no did
+ * line's. FL_NO_ROOM: the answer does not fit `room` numbers; room for FL_LOG_LINES is always enough. In this order. A refusal changes neither
+ * `out` nor `*count`. It needs FL_REMOVALS_STACK_BYTES of stack.
+ */
+uint64_t fl_removals(const uint8_t *log, size_t log_bytes, const uint64_t *pairs, size_t pair_numbers, const uint64_t *lost, size_t lost_numbers,
+                     uint64_t *out, size_t room, size_t *count);
 
 #ifdef __cplusplus
 }

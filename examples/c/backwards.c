@@ -54,11 +54,12 @@ int main(int count, char **words) {
         fprintf(stderr, "backwards: %s can't be read\n", words[1]);
         return 2;
     }
-    uint64_t code = fl_find_cut(&site, places, asked);
-    if (code < FL_FOUND) {
+    size_t kept;
+    uint64_t code = fl_find_cut(&site, places, asked, &kept);
+    if (code != FL_OK) {
         printf("(refused %" PRIu64 ")\n", code);
         return 1;
     }
-    printf("(cut %" PRIu64 ")\n", code - FL_FOUND);
+    printf("(cut %zu)\n", kept);
     return 0;
 }

@@ -67,11 +67,12 @@ static void show(uint64_t history) {
 }
 
 static void find(const uint64_t *places, size_t count) {
-    uint64_t code = fl_find_cut(&site, places, count);
-    if (code < FL_FOUND)
+    size_t kept;
+    uint64_t code = fl_find_cut(&site, places, count, &kept);
+    if (code != FL_OK)
         say(code, 0, NULL, NULL);
     else
-        printf("keep %" PRIu64 "\n", code - FL_FOUND);
+        printf("keep %zu\n", kept);
 }
 
 int main(void) {

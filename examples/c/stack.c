@@ -1,6 +1,7 @@
 /*
  * How much of the stack each call uses: it is run on a stack of its own that was painted before, and what is painted no longer was used. The
- * calls are given much to do: a log, a table, a keeper and records that are full. More than FL_STACK_BYTES is a failure.
+ * calls are given much to do: a log, a table, a keeper and records that are full. More than FL_STACK_BYTES is a failure; of fl_removals, more
+ * than FL_REMOVALS_STACK_BYTES.
  *
  * usage: stack
  */
@@ -12,15 +13,15 @@
 #include <string.h>
 #include <ucontext.h>
 
-enum { STACK = 1 << 16, PAINT = 0xA5 };
+enum { STACK = 1 << 22, PAINT = 0xA5 };
 
 static uint8_t painted[STACK], log_buffer[FL_LOG_BYTES], fresh[FL_LOG_BYTES], lines[FL_LOG_BYTES], text[FL_REPLY_BYTES];
 static ucontext_t here, there;
 static fl_site site;
 static fl_keeper keeper;
 static fl_records records;
+static fl_card card;
 static fl_reply reply;
-static size_t most;
 
 /* The stack that a function uses. */
 static size_t used_by(void (*call)(void)) {
@@ -36,11 +37,16 @@ static size_t used_by(void (*call)(void)) {
     return sizeof painted - at;
 }
 
-static void measure(const char *name, void (*call)(void)) {
+/* Measures a call, and keeps the most that one used. */
+static void measure_in(const char *name, void (*call)(void), size_t *most) {
     size_t bytes = used_by(call);
-    if (bytes > most) most = bytes;
+    if (bytes > *most) *most = bytes;
     fprintf(stderr, "%8zu %s\n", bytes, name);
 }
+
+static size_t most, most_removals;
+
+static void measure(const char *name, void (*call)(void)) { measure_in(name, call, &most); }
 
 static void line(const char *s) { fl_line(&site, (const uint8_t *)s, strlen(s), text, sizeof text); }
 
@@ -75,6 +81,17 @@ static void poll(void) { fl_poll(&site, 0); }
 static void trim(void) {
     size_t used = 0;
     fl_trim(&site, 100, fresh, sizeof fresh, &used);
+}
+static void find_cut(void) {
+    const uint64_t places[16] = {1};
+    size_t kept = 0;
+    fl_find_cut(&site, places, 16, &kept);
+}
+static void card_afresh(void) { fl_card_afresh(&site, 100, &card); }
+static void card_follow(void) { fl_card_follow(&site, &card); }
+static void one_more(void) {
+    const fl_update update = {FL_SET, 0, 99999, 7};
+    if (fl_add(&site, 2, &update, 1, &reply) != FL_OK || fl_finish(&site, 2, &reply) != FL_OK) exit(1);
 }
 static void upgrade(void) {
     size_t used = 0;
@@ -112,14 +129,43 @@ static void report(void) { fl_records_report(&records, 63, 7); }
 static void question(void) { fl_records_question(&records, 63); }
 static void forget(void) { fl_records_forget(&records, 0); }
 
+/* The most short lines that fit, in one history; each is of one visit with the line before it. */
+static uint64_t visits[4 * FL_LOG_LINES], fallen[FL_LOG_LINES];
+static size_t long_bytes, long_lines, count;
+
+static void fill_log(void) {
+    long_lines = 0;
+    long_bytes = (size_t)sprintf((char *)fresh, "(site 1)\n");
+    while (long_bytes + 40 < sizeof fresh && long_lines < FL_LOG_LINES) {
+        long_lines++;
+        long_bytes += (size_t)sprintf((char *)fresh + long_bytes, "(did 1 (not 0 0 %zu 0))\n", long_lines);
+        long_bytes += long_lines % 64 ? 0 : (size_t)sprintf((char *)fresh + long_bytes, "(stable %zu)\n", long_lines);
+        visits[4 * long_lines - 4] = long_lines;
+        visits[4 * long_lines - 3] = long_lines;
+        visits[4 * long_lines - 2] = long_lines > 1 ? long_lines - 1 : 1;
+        visits[4 * long_lines - 1] = long_lines;
+    }
+    long_bytes += (size_t)sprintf((char *)fresh + long_bytes, "(stable %zu)\n", long_lines);
+}
+static void removals_from(uint64_t lost, size_t numbers) {
+    count = 0;
+    if (fl_removals(fresh, long_bytes, visits, numbers, &lost, 1, fallen, FL_LOG_LINES, &count) != FL_OK) exit(1);
+}
+static void fall_forward(void) { removals_from(1, 0); }
+static void fall_back(void) { removals_from(long_lines, 4 * long_lines); }
+
 int main(void) {
-    if (!fl_fits() || !fl_station_fits()) return 1;
+    if (!fl_fits() || !fl_card_fits() || !fl_station_fits()) return 1;
     measure("nothing", nothing);
     measure("fl_start", start);
     measure("fl_add, fl_finish, fl_persistent, fl_stable", fill);
     if (fl_log_used(&site) < 60000) return 1;
     measure("fl_poll", poll);
     measure("fl_trim", trim);
+    measure("fl_find_cut", find_cut);
+    measure("fl_card_afresh", card_afresh);
+    one_more();
+    measure("fl_card_follow", card_follow);
     measure("show, as a line", show_line);
     measure("add, as a line", add_line);
     measure("finish, as a line", finish_line);
@@ -141,6 +187,12 @@ int main(void) {
     measure("fl_records_report", report);
     measure("fl_records_question", question);
     measure("fl_records_forget", forget);
-    printf("%s\n", most < FL_STACK_BYTES ? "every call below FL_STACK_BYTES" : "above FL_STACK_BYTES");
-    return most < FL_STACK_BYTES ? 0 : 1;
+    fill_log();
+    measure_in("fl_removals, all lines of a history", fall_forward, &most_removals);
+    if (count != long_lines || count < 2500) return 1;
+    measure_in("fl_removals, line by line through visits", fall_back, &most_removals);
+    if (count != long_lines) return 1;
+    int fits = most < FL_STACK_BYTES && most_removals < FL_REMOVALS_STACK_BYTES;
+    printf("%s\n", fits ? "every call below FL_STACK_BYTES, fl_removals below FL_REMOVALS_STACK_BYTES" : "above FL_STACK_BYTES");
+    return fits ? 0 : 1;
 }

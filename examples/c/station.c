@@ -1,6 +1,7 @@
 /*
  * A controller and its station, on numbers. Each did line goes to the station at once, a keeper over a file; the controller stores its log only
- * every few operations. It can be killed at any moment: it goes on from what its file holds, and takes back from the station what it lost.
+ * every few operations. It can be killed at any moment: it goes on from what its file holds, and takes back from the station what it lost. At
+ * the end the station asks what would fall with a line that nobody has any more.
  *
  * usage: station LOG KEPT [BYTES]     with BYTES it kills itself once it has written that many to both files, in the middle of a line too
  */
@@ -114,6 +115,22 @@ static void operate(uint64_t i) {
     if (i % BATCH == BATCH - 1) settle();
 }
 
+/* Which fittings must be taken back if line 20 is lost for good. Two operations each were one visit, and fall together. */
+static void show_falls(void) {
+    static uint64_t fallen[FL_LOG_LINES];
+    uint64_t visits[2 * OPERATIONS];
+    const uint64_t lost[] = {20};
+    size_t count;
+    for (uint64_t i = 0; i < OPERATIONS; i++) {
+        visits[2 * i] = i + 1;
+        visits[2 * i + 1] = i / 2;
+    }
+    must(fl_removals(log_buffer, fl_log_used(&site), visits, 2 * OPERATIONS, lost, 1, fallen, FL_LOG_LINES, &count), "removals");
+    printf("(falls");
+    for (size_t i = 0; i < count; i++) printf(" %" PRIu64, fallen[i]);
+    printf(")\n");
+}
+
 int main(int argc, char **argv) {
     if (argc < 3) fail("usage: station LOG KEPT [BYTES]");
     if (!fl_fits() || !fl_station_fits()) fail("header and library differ");
@@ -128,5 +145,6 @@ int main(int argc, char **argv) {
         for (unsigned i = FL_HISTORY; i <= FL_PROFILE; i++) printf(" %" PRIu64, reply.answer[i]);
         printf(")\n");
     }
+    show_falls();
     return close(log_file.file) | close(kept_file.file);
 }

@@ -8,6 +8,7 @@ use lib.Dec.{eqb}
 use lib.ListN.{length}
 use Rattle.forms.specs.Forms.{Refused, Accepted}
 use Rattle.forms.specs.Refusals.{numberOf}
+use Rattle.forms.specs.Limits.{liveLimit}
 use Rattle.forms.specs.declared.Refusal.the-variants.{OutOfTurn}
 use Rattle.forms.specs.declared.ReplyForm.{ReplyForm}
 use Rattle.forms.specs.declared.ReplyLine.{ReplyLine}
@@ -120,7 +121,7 @@ performs s ws old c r new n after head said is o v h p =
 
 -- .. of one that takes entries: the site is lent an order of 64
 pub performs-alone : (s : Session) (ws : List ℕ) (old : Lent) (c : Call) (r : CallResult) (new : Lent) (n : ℕ) (after head said : List ℕ) →
-    length (old .order) ≡ 64 → s ≡ sessionAt ws → s .opened ≡ true → ValidState ws old → StepsWithin (s .site) old c r new →
+    length (old .order) ≡ liveLimit → s ≡ sessionAt ws → s .opened ≡ true → ValidState ws old → StepsWithin (s .site) old c r new →
     PutsCall r n after head said → PerformsCall ws old c n after new head said
 performs-alone s ws old c r new n after head said long is o v h p =
     performs s ws old c r new n after head said is o v (steps-alone (s .site) old c r new long h) p

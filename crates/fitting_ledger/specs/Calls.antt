@@ -47,8 +47,8 @@ pub record SaysNot (q : Refusal) (n : ℕ) (old new : List ℕ) : Type 0 where
   pub number : n ≡ numberOf q
   pub kept : new ≡ old
 
--- The reply a of the specification, in words; its lists stand at the front of `numbers`, the second behind the first, and what stands behind
--- them is as it was in `before`.
+-- The reply a of the specification, in words; its lists stand at the front of `numbers`, the second behind the first, and what stands
+-- behind them is as it was in `before`.
 pub record SaysIn (a : Answer) (n : ℕ) (before numbers new : List ℕ) : Type 0 where
   pub number : n ≡ 0
   pub reply : ReplyLine

@@ -13,3 +13,4 @@ pub mod ChangeoverLaws
 pub mod Trims
 pub mod TrimLaws
 pub mod Finds
+pub mod FindLaws

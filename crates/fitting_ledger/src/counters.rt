@@ -9,8 +9,8 @@ use site::Site;
 use table::Table;
 
 // How many words there are: whether a site is open; its histories, bytes of the log in use, and of these those of its head; operations that
-// its base line stands for, and those done, persistent, stable and left; whether it is restoring; the bytes that its waiting lines will take;
-// operations done and still in the table, and not done (or waiting).
+// its base line stands for, and those done, persistent, stable and left; whether it is restoring; the bytes that its waiting lines will
+// take; operations done and still in the table, and not done (or waiting).
 pub const COUNTERS: usize = 13;
 
 pub type Counters = [u64; COUNTERS];
@@ -23,7 +23,7 @@ fn bit(b: bool) -> u64
 }
 
 // The session whose counters these are.
-pub(crate) fn session_at(words: &Counters) -> Session
+pub fn session_at(words: &Counters) -> Session
     ensures { λ r. ⌜ r ≡ sessionAt (was words) ⌝ }
 {
     let table = Table {

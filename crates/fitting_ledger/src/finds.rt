@@ -3,18 +3,33 @@ ghost use mathlib.Core.Path.{_≡_};
 ghost use mathlib.Core.List.{[]};
 ghost use Rattle.table.specs.Ends.{was};
 ghost use Rattle.site.specs.Model.{received, oldWith};
-ghost use Rattle.fitting_ledger.specs.Model.{ValidState, stateAt};
-ghost use Rattle.fitting_ledger.specs.Finds.{findOf};
+ghost use Rattle.fitting_ledger.specs.Model.{ValidState};
+ghost use Rattle.fitting_ledger.specs.Finds.{foundNumber, foundKept, FindsState};
 use super::counters::Counters;
 use super::counters::session_at;
 use super::start::OUT_OF_TURN;
-use find_cut::cut_number;
+use find_cut::Found;
+use find_cut::find_cut;
+use forms::writer::refusal_number;
 use history::book::BookWords;
 use table::order::Order;
 use table::rows::Rows;
 
-// Names the smallest number of bytes of the log whose cut leaves these places: 1,000 more than it, or the number of the refusal. Nothing
-// changes.
+// 0 for a cut that is named, and `kept` is the bytes that it keeps; or the number of the refusal.
+fn put_kept(kept: &mut usize, r: Found) -> u64
+    ensures { λ n. ⌜ (n ≡ foundNumber r) × (now (kept .exit) ≡ foundKept r (now (kept .entry))) ⌝ }
+{
+    match r {
+        Found::Keep(n) => {
+            *kept = n;
+            0
+        }
+        Found::Refused(q) => refusal_number(q),
+    }
+}
+
+// Names the smallest number of bytes of the log whose cut leaves these places: 0, and `kept` is that number; or the number of the refusal.
+// Nothing else changes.
 #[no_mangle]
 pub extern "C" fn fl_find_cut_parts(
     counters: &Counters,
@@ -23,14 +38,16 @@ pub extern "C" fn fl_find_cut_parts(
     order: &Order,
     book: &BookWords,
     places: &[u64],
+    kept: &mut usize,
 ) -> u64
     requires { ⌜ ValidState (now counters) (received log rows order book) ⌝ }
-    ensures { λ n. ⌜ n ≡ findOf (stateAt (was counters) (oldWith [] log rows order book)) (was places) ⌝ }
+    ensures { λ r. ⌜ FindsState (was counters) (oldWith [] log rows order book) (was places) r (now (kept .entry)) (now (kept .exit)) ⌝ }
 {
     let s = session_at(counters);
     if s.opened {
         let site = s.site;
-        return cut_number(site, log, places);
+        let f = find_cut(site, log, places);
+        return put_kept(kept, f);
     }
     OUT_OF_TURN
 }

@@ -22,7 +22,7 @@ use table::rows::Rows;
 pub(crate) const UNREADABLE: u64 = 1;
 
 // 14: "before site".
-pub(crate) const OUT_OF_TURN: u64 = 14;
+pub const OUT_OF_TURN: u64 = 14;
 
 // 0 for a reply that accepts, and a refusal's number.
 pub(crate) fn reply_number(form: ReplyForm) -> u64

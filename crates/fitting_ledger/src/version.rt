@@ -20,9 +20,9 @@ use table::rows::ROW;
 // The version of the calls and of what is lent to them.
 #[no_mangle]
 pub extern "C" fn fl_version() -> u64
-    ensures { λ n. ⌜ n ≡ 2 ⌝ }
+    ensures { λ n. ⌜ n ≡ 3 ⌝ }
 {
-    2
+    3
 }
 
 // The bytes of a state: its counters, its table's rows and the numbers of its histories, of eight bytes each, and the order of its entries.

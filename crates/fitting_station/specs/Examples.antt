@@ -13,7 +13,7 @@ use Rattle.forms.specs.Reading as reading
 use Rattle.forms.specs.Reading.{readDid, readWhole}
 use Rattle.rules.specs.Checks.{check, andThen, wrongCount, noSuchHistory, historyTwice, formRefusal, changeMisfitsWith, changesRefusalWith}
 use Rattle.rules.specs.Log.{ended, linesFrom, restFrom}
-use Rattle.rules.specs.LineSplitLaws.{endedAll}
+use Rattle.rule_laws.specs.LineSplitLaws.{endedAll}
 use Rattle.keeper.specs.Model.{resumable, areLines, lineFits, formCheck}
 use Rattle.fitting_station.specs.Keepers.{wholeEnd, keepable}
 

@@ -18,10 +18,10 @@ use Rattle.forms.specs.Limits.{historyLimit}
 use Rattle.forms.specs.Writable.{Each}
 use Rattle.rules.specs.State.{lineBytes, bytesOf}
 use Rattle.rules.specs.Log.{ended, didsText, linesText, linesOf}
-use Rattle.rules.specs.Good.{FormedDid}
-use Rattle.rules.specs.LineSplitLaws.{NoEnd, lines-open, lines-ended, endedAll}
-use Rattle.rules.specs.FitLaws.{fit, fit-in, fit-out, fit-nil}
-use Rattle.rules.specs.CutLaws.{take-lines}
+use Rattle.rule_laws.specs.Good.{FormedDid}
+use Rattle.rule_laws.specs.LineSplitLaws.{NoEnd, lines-open, lines-ended, endedAll}
+use Rattle.rule_laws.specs.FitLaws.{fit, fit-in, fit-out, fit-nil}
+use Rattle.rule_laws.specs.CutLaws.{take-lines}
 use Rattle.keeper.specs.declared.Keeper.{Keeper}
 use Rattle.keeper.specs.Model.{keeperView, KeeperHolds, ValidKeeper, resumable}
 use Rattle.keeper.specs.WalkLaws.{holds-now, view-is, valid-is}

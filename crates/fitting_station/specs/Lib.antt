@@ -5,3 +5,5 @@ pub mod Killed
 pub mod Examples
 pub mod RecordCalls
 pub mod RecordCallLaws
+pub mod Removals
+pub mod RoomLaws

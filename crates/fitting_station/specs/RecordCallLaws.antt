@@ -5,7 +5,8 @@ use mathlib.Core.List.{List}
 use native.Mathlib.Omega.{arith}
 use lib.ListN.{length}
 use borrow.Author.Tests.{le-leb, lt-leb}
-use Rattle.rules.specs.Records.{recordLimit, RecordReply}
+use Rattle.forms.specs.Limits.{recordLimit}
+use Rattle.rules.specs.Records.{RecordReply}
 use Rattle.records.specs.declared.Records.{Records}
 use Rattle.records.specs.declared.RecordsResult.{RecordsResult}
 use Rattle.records.specs.Model.{width, NoRecords, RecordsDo}

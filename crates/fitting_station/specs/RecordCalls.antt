@@ -6,7 +6,8 @@ use mathlib.Core.List.{List, []}
 use lib.Dec.{leb}
 use Rattle.forms.specs.Refusals.{numberOf}
 use Rattle.rules.specs.Records as book
-use Rattle.rules.specs.Records.{recordLimit, RecordReply}
+use Rattle.forms.specs.Limits.{recordLimit}
+use Rattle.rules.specs.Records.{RecordReply}
 use Rattle.records.specs.declared.Records.{Records}
 use Rattle.records.specs.declared.Answer.{Answer}
 use Rattle.records.specs.declared.Answer.the-variants.{Refused, Done, Persistent, NotPersistent}

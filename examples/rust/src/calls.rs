@@ -1,10 +1,9 @@
 //! A site's calls on numbers.
 
-use super::{accepted, blank_reply, linked, Refusal, Reply, Site, Update, UPDATES};
+use super::{accepted, blank_reply, linked, Card, Refusal, Reply, Site, Update, UPDATES};
 
 const BUSY: u64 = 1_000;
 const DRY: u64 = 1_001;
-const FOUND: u64 = 1_000;
 
 // Each call lends the library parts of a site, as in the calls beside it.
 impl Site<'_> {
@@ -158,6 +157,7 @@ impl Site<'_> {
     /// the log.
     pub fn cut(&mut self, kept: u64) -> Result<Reply, Refusal> {
         let mut reply = blank_reply();
+        self.card = Card::none();
         // SAFETY: see above.
         let code = unsafe {
             linked::fl_cut_parts(
@@ -239,6 +239,7 @@ impl Site<'_> {
 
     /// The smallest number of bytes of the log that a cut can keep so that the histories have these places, one for each of them.
     pub fn find_cut(&self, places: &[u64]) -> Result<usize, Refusal> {
+        let mut kept = 0;
         // SAFETY: see above.
         let code = unsafe {
             linked::fl_find_cut_parts(
@@ -250,11 +251,9 @@ impl Site<'_> {
                 &self.histories,
                 places.as_ptr(),
                 places.len(),
+                &mut kept,
             )
         };
-        match code.checked_sub(FOUND) {
-            Some(kept) => Ok(kept as usize),
-            None => Err(Refusal(code)),
-        }
+        accepted(code, kept)
     }
 }

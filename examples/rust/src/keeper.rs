@@ -1,7 +1,7 @@
 //! A keeper of did lines, at a station.
 
 use super::records::WORDS;
-use super::{accepted, linked, Refusal, VERSION};
+use super::{accepted, linked, Refusal, LOG_LINES, VERSION};
 
 /// One place for each history that a keeper knows.
 pub const PLACES: usize = 16;
@@ -15,13 +15,19 @@ pub struct Keeper<'lines> {
 // Each call lends the library parts of a keeper, which `start` or `resume` has filled and only the library has changed since. They are
 // borrowed by nobody else until it returns, and it keeps none of them.
 impl<'lines> Keeper<'lines> {
-    /// Whether the library for stations that was linked is the one that this type and [`Records`](super::Records) speak of.
+    /// Whether the library for stations that was linked is the one that this type, [`Records`](super::Records) and
+    /// [`removals`](super::removals) speak of.
     pub fn fits() -> bool {
         // SAFETY: these are lent nothing.
-        let (version, words, places) = unsafe {
-            (linked::fl_station_version(), linked::fl_record_words(), linked::fl_place_words())
+        let (version, words, places, lines) = unsafe {
+            (
+                linked::fl_station_version(),
+                linked::fl_record_words(),
+                linked::fl_place_words(),
+                linked::fl_log_lines(),
+            )
         };
-        (version, words, places) == (VERSION, WORDS, PLACES)
+        (version, words, places, lines) == (VERSION, WORDS, PLACES, LOG_LINES)
     }
 
     /// Begins a keeper that keeps nothing.

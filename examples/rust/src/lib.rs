@@ -1,20 +1,24 @@
 //! The library for controllers and stations behind safe types: a [`Site`] can only be had from [`Site::start`] or [`Site::restart`], and its
-//! words and the log that was lent to it can only be changed by its calls. That is what these ask for. So it is with a [`Keeper`] and its
-//! lines, and with [`Records`].
+//! words and the log that was lent to it can only be changed by its calls. That is what these ask for. So it is with the [`Card`] that a site
+//! keeps, with a [`Keeper`] and its lines, and with [`Records`].
 
 mod calls;
+mod card;
 mod keeper;
 mod linked;
 mod records;
+mod removals;
 
+pub use card::Card;
 pub use keeper::Keeper;
 pub use records::Records;
+pub use removals::{removals, LOG_LINES};
 
 /// The greatest log buffer.
 pub const LOG_BYTES: usize = 65_536;
 /// The longest reply.
 pub const REPLY_BYTES: usize = 2_741;
-const VERSION: u64 = 2;
+const VERSION: u64 = 3;
 const COUNTERS: usize = 13;
 const ROWS: usize = 64 * 24;
 const HISTORIES: usize = 16 * 6;
@@ -85,6 +89,7 @@ pub struct Site<'log> {
     histories: [u64; HISTORIES],
     order: [u8; ORDER],
     log: &'log mut [u8],
+    card: Card,
 }
 
 // Each call lends the library parts of a site, which `start` or `restart` has filled and only the library has changed since. They are
@@ -114,6 +119,7 @@ impl<'log> Site<'log> {
             histories: [0; HISTORIES],
             order: [0; ORDER],
             log,
+            card: Card::none(),
         }
     }
 
@@ -175,6 +181,9 @@ impl<'log> Site<'log> {
         line: &[u8],
         reply: &'reply mut [u8; REPLY_BYTES],
     ) -> &'reply [u8] {
+        if line.starts_with(b"(cut ") {
+            self.card = Card::none();
+        }
         // SAFETY: see above.
         let bytes = unsafe {
             linked::fl_line_parts(

@@ -1,5 +1,6 @@
 //! The library's functions. A slice passes as its address and its length, an array as its address.
 
+use super::card::{COUNTS, HEAD};
 use super::keeper::PLACES;
 use super::records::WORDS;
 use super::{ANSWER, COUNTERS, HISTORIES, NUMBERS, ORDER, ROWS, UPDATES};
@@ -192,13 +193,41 @@ extern "C" {
         histories: &[u64; HISTORIES],
         places: *const u64,
         count: usize,
+        kept: &mut usize,
     ) -> u64;
 
     pub fn fl_upgrade(log: *mut u8, log_bytes: usize, kept: usize, used: &mut usize) -> u64;
 
+    pub fn fl_card_version() -> u64;
+    pub fn fl_card_words() -> usize;
+
+    pub fn fl_card_afresh_parts(
+        counters: &[u64; COUNTERS],
+        log: *const u8,
+        log_bytes: usize,
+        rows: &[u64; ROWS],
+        order: &[u8; ORDER],
+        histories: &[u64; HISTORIES],
+        window: u64,
+        head: &mut [u64; HEAD],
+        counts: &mut [u64; COUNTS],
+    ) -> u64;
+
+    pub fn fl_card_follow_parts(
+        counters: &[u64; COUNTERS],
+        log: *const u8,
+        log_bytes: usize,
+        rows: &[u64; ROWS],
+        order: &[u8; ORDER],
+        histories: &[u64; HISTORIES],
+        head: &mut [u64; HEAD],
+        counts: &mut [u64; COUNTS],
+    ) -> u64;
+
     pub fn fl_station_version() -> u64;
     pub fn fl_record_words() -> usize;
     pub fn fl_place_words() -> usize;
+    pub fn fl_log_lines() -> usize;
 
     pub fn fl_keeper_start_parts(used: &mut usize, lines: *const u8, lines_bytes: usize);
 
@@ -258,4 +287,16 @@ extern "C" {
     pub fn fl_records_question_parts(count: &usize, words: &[u64; WORDS], id: u64) -> u64;
 
     pub fn fl_records_forget_parts(count: &mut usize, words: &mut [u64; WORDS], id: u64) -> u64;
+
+    pub fn fl_removals(
+        log: *const u8,
+        log_bytes: usize,
+        pairs: *const u64,
+        pair_numbers: usize,
+        lost: *const u64,
+        lost_numbers: usize,
+        out: *mut u64,
+        room: usize,
+        count: &mut usize,
+    ) -> u64;
 }

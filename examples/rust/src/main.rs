@@ -1,11 +1,11 @@
 //! The controller of examples/c in Rust, on numbers: it keeps its site's log in a file, can be killed at any moment, and goes on from what
-//! the file holds.
+//! the file holds. At the end it shows its histories, and the card of its last lines.
 //!
 //! usage: controller FILE [BYTES]     with BYTES it ends itself once it has written that many, in the middle of a line too
 
 mod store;
 
-use fitting_ledger::{Refusal, Rule, Site, Update, LOG_BYTES, REPLY_BYTES};
+use fitting_ledger::{Card, Refusal, Rule, Site, Update, LOG_BYTES, REPLY_BYTES};
 use std::cell::Cell;
 use std::env;
 use std::io::{self, Write};
@@ -13,6 +13,8 @@ use store::{acknowledge, salt, Left, Store};
 
 const HISTORIES: u64 = 4;
 const OPERATIONS: u64 = 24;
+/// How many lines its card counts.
+const WINDOW: u64 = 10;
 
 fn refused(Refusal(number): Refusal) -> io::Error {
     io::Error::other(format!("refused {number}"))
@@ -37,12 +39,13 @@ fn operate(site: &mut Site, store: &mut Store, i: u64) -> io::Result<()> {
     site.finish(i).map_err(refused)?;
     store.grow(site.log())?;
     acknowledge(&site.log()[before..])?;
+    site.card(WINDOW).map_err(refused)?;
     settle(site, store, i + 1)
 }
 
 fn main() -> io::Result<()> {
     let arguments: Vec<String> = env::args().collect();
-    if !Site::fits() || arguments.len() < 2 {
+    if !Site::fits() || !Card::fits() || arguments.len() < 2 {
         return Err(io::Error::other("usage: controller FILE [BYTES]"));
     }
     let bytes_left = arguments.get(2).and_then(|n| n.parse().ok()).unwrap_or(usize::MAX);
@@ -70,6 +73,12 @@ fn main() -> io::Result<()> {
     for history in 0..HISTORIES {
         let line = format!("(show {history})");
         io::stdout().write_all(site.line(line.as_bytes(), &mut reply))?;
+    }
+    let card = site.card(WINDOW).map_err(refused)?;
+    for history in 0..HISTORIES {
+        let [incs, sets, nots] =
+            [Rule::Inc, Rule::Set, Rule::Not].map(|rule| card.count(history, rule));
+        println!("(card {history} {incs} {sets} {nots})");
     }
     Ok(())
 }

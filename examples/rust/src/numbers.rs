@@ -3,7 +3,9 @@
 //!
 //! usage: numbers
 
-use fitting_ledger::{upgrade, Keeper, Records, Refusal, Rule, Site, Update, LOG_BYTES};
+use fitting_ledger::{
+    removals, upgrade, Card, Keeper, Records, Refusal, Rule, Site, Update, LOG_BYTES,
+};
 
 fn update(rule: Rule, history: u64, version: u64, operand: u64) -> Update {
     Update { rule, history, version, operand }
@@ -24,12 +26,23 @@ fn session() -> Result<(), Refusal> {
     assert_eq!((reply.first(), reply.second()), (&[0][..], &[0][..]));
     assert_eq!((site.dry(0), site.dry(1), site.dry(2)), (Ok(true), Ok(false), Err(Refusal(3))));
     assert_eq!(site.show(0)?.single(), [0, 1, 1, 0, 1, 65536]);
+    assert_eq!(site.find_cut(&[1, 1]), Ok(46));
+    assert_eq!(site.find_cut(&[1]), Err(Refusal(21)));
+    assert_eq!(
+        (site.card(0).err(), site.card(1_025).err()),
+        (Some(Refusal(22)), Some(Refusal(22)))
+    );
+    let card = site.card(1)?;
+    assert_eq!((card.lines(), card.row(0), card.count(1, Rule::Set)), (1, Some(&[0, 0, 0][..]), 1));
+    assert_eq!((site.card(2)?.lines(), site.card(2)?.count(0, Rule::Inc)), (2, 1));
     assert_eq!(site.cut(72).err(), Some(Refusal(13)));
     assert_eq!(site.cut(60)?.single()[..2], [1, 46]);
+    assert_eq!((site.card(2)?.lines(), site.card(2)?.row(1)), (1, Some(&[0, 0, 1][..])));
     assert_eq!(site.show(1)?.single(), [1, 0, 0, 0, 1, 0]);
     assert_eq!(site.redo(b"(did 6 (set 1 4 2 1000))")?.single()[..2], [1, 1]);
     assert_eq!(site.redo(b"(did 6 (set 1 4 2 1000))").err(), Some(Refusal(8)));
     assert!(site.end()?.first().is_empty());
+    assert_eq!((site.card(2)?.lines(), site.card(2)?.row(1)), (2, Some(&[0, 1, 1][..])));
     assert_eq!(site.show(1)?.single(), [1, 4, 0, 0, 2, 1000]);
     assert!(site.add(8, &[update(Rule::Inc, 1, 6, 0)])?.first().is_empty());
     assert_eq!(site.persistent(2)?.second(), []);
@@ -45,6 +58,19 @@ fn session() -> Result<(), Refusal> {
     let mut older = *b"(site 1)\n(did 5 (inc 0 1 1 513))\n.............";
     let used = upgrade(&mut older, 33)?;
     assert_eq!(&older[..used], b"(site 1)\n(did 5 (inc 0 1 1 513))\n(stable 1)\n");
+    Ok(())
+}
+
+/// The lines that fall with the first of three, by a history and by a transaction.
+fn falling() -> Result<(), Refusal> {
+    let log = b"(site 3)\n(did 5 (inc 0 1 1 7))\n(did 6 (inc 1 1 1 7))\n(did 7 (inc 0 2 2 7))\n(did 8 (inc 2";
+    let mut out = [9; 4];
+    assert_eq!((removals(log, &[], &[1], &mut out)?, out), (2, [1, 3, 9, 9]));
+    assert_eq!((removals(log, &[[3, 40], [2, 40]], &[1], &mut out)?, out), (3, [1, 2, 3, 9]));
+    assert_eq!(removals(log, &[], &[4], &mut out), Err(Refusal(16)));
+    assert_eq!(removals(log, &[], &[1], &mut out[..1]), Err(Refusal(12)));
+    assert_eq!(removals(&log[1..], &[], &[1], &mut out), Err(Refusal(15)));
+    assert_eq!(removals(&[0; LOG_BYTES + 1], &[], &[], &mut out), Err(Refusal(13)));
     Ok(())
 }
 
@@ -100,12 +126,15 @@ fn recording() -> Result<(), Refusal> {
 
 fn main() {
     assert!(
-        Site::fits() && Keeper::fits(),
+        Site::fits() && Card::fits() && Keeper::fits(),
         "the libraries are the ones that this program speaks of"
     );
-    for (name, part) in
-        [("session", session as fn() -> _), ("keeping", keeping), ("recording", recording)]
-    {
+    for (name, part) in [
+        ("session", session as fn() -> _),
+        ("falling", falling),
+        ("keeping", keeping),
+        ("recording", recording),
+    ] {
         match part() {
             Ok(()) => println!("{name}: as printed"),
             Err(Refusal(number)) => panic!("{name}: refused {number}"),

@@ -1,7 +1,7 @@
 //! Full service: a chair in daily use, a hundred thousand operations on a log of 65,536 bytes. Each day it works until its log is full,
 //! with supply cuts between, after which the lost lines come again in any order. Each evening it changes over to a shorter log in the
 //! other of its two buffers. Beside it stands an account of all its did lines, never trimmed, in plain arithmetic: what the chair shows
-//! and copies is what the account says.
+//! and copies is what the account says, and so is the card of the log's last lines.
 
 use crate::account::{Account, HISTORIES};
 
@@ -10,6 +10,8 @@ pub const LOG_BYTES: usize = 65_536;
 const OPERATIONS: u64 = 100_000;
 /// The most operations between two reports: so fewer than 64 are live.
 const BATCH: u64 = 20;
+/// The lines that its card counts.
+const WINDOW: u64 = 40;
 /// What a fresh buffer holds before a copy.
 const FRESH: u8 = 0xAA;
 
@@ -21,6 +23,8 @@ pub trait Calls {
     fn log(&self) -> &[u8];
     /// Copies the log from n on into a fresh buffer; gives the bytes used there, or the refusal's number.
     fn trim(&self, n: u64, fresh: &mut [u8]) -> Result<usize, u64>;
+    /// The card of the last did lines of the log: inc, set and not of each history.
+    fn card(&mut self, window: u64) -> Result<Vec<u64>, u64>;
 }
 
 /// What opens sites over a log buffer.
@@ -167,6 +171,7 @@ impl Service {
         if self.random.below(2) == 0 {
             self.report(site);
         }
+        assert_eq!(site.card(WINDOW), Ok(self.account.card(WINDOW)));
     }
 
     /// A report of every line done: all of the log counts as persistent.
@@ -257,7 +262,7 @@ impl Service {
         copy.len()
     }
 
-    /// Each history shows what the account says.
+    /// Each history, and the card, shows what the account says.
     fn check_shows(&self, site: &mut impl Calls) {
         for history in 0..HISTORIES {
             let fields: Vec<u64> = numbers(&site.line(&format!("(show {history})")));
@@ -267,6 +272,7 @@ impl Service {
                 "history {history}"
             );
         }
+        assert_eq!(site.card(WINDOW), Ok(self.account.card(WINDOW)));
     }
 
     /// All did lines once more from the first on, and what the chair shows at the end.
@@ -276,8 +282,12 @@ impl Service {
         self.check_shows(site);
         let shows: String =
             (0..HISTORIES).map(|history| site.line(&format!("(show {history})")) + "\n").collect();
+        let counts = site.card(WINDOW).expect("a card");
+        let rows = counts.chunks(3).zip(0..HISTORIES);
+        let card: String =
+            rows.map(|(row, h)| format!("(card {h} {} {} {})\n", row[0], row[1], row[2])).collect();
         let Service { operations, trims, cuts, redone, gone, .. } = self;
-        format!("{operations} operations, {trims} trims, {cuts} cuts, {redone} lines redone, {gone} lost for good\n{shows}")
+        format!("{operations} operations, {trims} trims, {cuts} cuts, {redone} lines redone, {gone} lost for good\n{shows}{card}")
     }
 }
 

@@ -1,11 +1,12 @@
 //! The controller and the station of examples/c in Rust: each did line goes to the station at once, a keeper over a file; the controller
-//! stores its log only every few operations, and takes back from the station what it lost.
+//! stores its log only every few operations, and takes back from the station what it lost. At the end the station asks what would fall with a
+//! line that nobody has any more.
 //!
 //! usage: station LOG KEPT [BYTES]     with BYTES it ends itself once it has written that many to both files, in the middle of a line too
 
 mod store;
 
-use fitting_ledger::{Keeper, Refusal, Rule, Site, Update, LOG_BYTES};
+use fitting_ledger::{removals, Keeper, Refusal, Rule, Site, Update, LOG_BYTES, LOG_LINES};
 use std::cell::Cell;
 use std::{env, io};
 use store::{acknowledge, salt, Left, Store};
@@ -129,5 +130,11 @@ fn main() -> io::Result<()> {
         let numbers: Vec<String> = reply.single().iter().map(u64::to_string).collect();
         println!("(history {})", numbers.join(" "));
     }
+    // what would fall with line 20; two operations each were one visit, and fall together
+    let visits: Vec<[u64; 2]> = (0..OPERATIONS).map(|i| [i + 1, i / 2]).collect();
+    let mut fallen = [0; LOG_LINES];
+    let count = removals(controller.site.log(), &visits, &[20], &mut fallen).map_err(refused)?;
+    let fallen: Vec<String> = fallen[..count].iter().map(u64::to_string).collect();
+    println!("(falls {})", fallen.join(" "));
     Ok(())
 }
