@@ -208,16 +208,44 @@ overtakes =
     (bytes "(ok 1 1)\n(ok 0 1)\n(ok 1 3)\n(ok (waiting 2))\n")
     ∷ []
 
--- Finish refused with 12: a log of 30 bytes is too short for the line of 1, and what it would have overtaken is still there.
-abbrev fullLog : Row
-fullLog =
+-- A session whose log buffer has so many bytes.
+pub record Short : Type 0 where
+  pub room : ℕ
+  pub row : Row
+
+abbrev short : ℕ → Row → Short
+short room r = record { room = room; row = r }
+
+-- A finish of 1, whose line has 22 bytes, with an operation that it overtakes.
+abbrev finishing : List ℕ → Row
+finishing answers =
     row
     (bytes "(site 1)\n(add 1 (set 0 4 0))\n(add 2 (set 0 4 7))\n(finish 1)\n(withdraw 2)\n")
-    (bytes "(ok)\n(ok (ready 1))\n(ok (ready))\n(refused 12)\n(ok (dry))\n")
+    (bytes "(ok)\n(ok (ready 1))\n(ok (ready))\n" ++ answers)
+
+-- Two redos whose lines have 22 bytes each; the first waits.
+abbrev redoing : List ℕ → Row
+redoing answer =
+    bare (bytes "(redo (did 1 (inc 0 2 2 0)))\n(redo (did 2 (inc 1 1 1 0)))\n") (bytes "(ok 0 1)\n" ++ answer)
+
+-- 12, "log .. full; redo counts all waiting lines and this one", on both sides.
+abbrev pub fullLogs : List Short
+fullLogs =
+    -- a finish that is refused drops nothing
+    short 30 (finishing (bytes "(refused 12)\n(ok (dry))\n"))
+    ∷ short 31 (finishing (bytes "(ok 1 (values 0)(ready)(overtaken 2))\n(refused 11)\n"))
+    -- the line that waits counts
+    ∷ short 52 (redoing (bytes "(refused 12)\n"))
+    ∷ short 53 (redoing (bytes "(ok 1 3)\n"))
+    ∷ []
 
 -- The test of a row: the replies are these, byte for byte.
 unfoldable holds : Row → Bool
 holds r = sameBytes (session (r .input)) (r .replies)
+
+-- .. in a log buffer of so many bytes
+unfoldable holdsIn : Short → Bool
+holdsIn s = sameBytes (sessionIn (s .room) (s .row .input)) (s .row .replies)
 
 pub same-bytes : (a b : List ℕ) → T (sameBytes a b) → a ≡ b
 unfolding sameBytes
@@ -225,7 +253,8 @@ same-bytes [] [] t = refl
 same-bytes [] (y ∷ b) t = absurd t
 same-bytes (x ∷ a) [] t = absurd t
 same-bytes (x ∷ a) (y ∷ b) t =
-    ap₂ (λ (z : ℕ) (l : List ℕ). z ∷ l) (eqb→eq x y (and-left (eqb x y) (sameBytes a b) t)) (same-bytes a b (and-right (eqb x y) (sameBytes a b) t))
+    ap₂ (λ (z : ℕ) (l : List ℕ). z ∷ l) (eqb→eq x y (and-left (eqb x y) (sameBytes a b) t))
+    (same-bytes a b (and-right (eqb x y) (sameBytes a b) t))
 
 holds-is : (r : Row) → T (holds r) → session (r .input) ≡ r .replies
 unfolding holds
@@ -235,12 +264,14 @@ holds-is r t = same-bytes (session (r .input)) (r .replies) t
 abbrev rows : List Row
 rows = whole ∷ edges ++ (looks ++ overtakes)
 
--- The one computed test, over all rows, and the session with the short log.
-computed : T (all holds rows && sameBytes (sessionIn 30 (fullLog .input)) (fullLog .replies))
+-- The one computed test, over all rows, and the sessions with a short log.
+computed : T (all holds rows && all holdsIn fullLogs)
 computed =
-    unfold holds sameBytes below word digitsWithin digits more number numberOf in
-    unfold fieldText fieldsText itemsText tailText listText updateText changeText oneText siteText didText stableText lineText redoText numbersText answerText outcomeText in
-    unfold reading.field reading.rule reading.doneRule reading.update reading.change reading.one reading.items reading.tail reading.did reading.addForm in
+    unfold holds holdsIn sameBytes below word digitsWithin digits more number numberOf in
+    unfold fieldText fieldsText itemsText tailText listText updateText changeText oneText in
+    unfold siteText didText stableText lineText redoText numbersText answerText outcomeText in
+    unfold reading.field reading.rule reading.doneRule reading.update reading.change in
+    unfold reading.one reading.items reading.tail reading.did reading.addForm in
     unfold reading.redoForm reading.numbered reading.command reading.line readDid readLine reading.baseCell reading.base readBase in
     unfold readSite readCommand readWhole in
     unfold replacedWith profileOf startCell enteredWith enterWith enterAllWith cellFromWith cellWith touches runsAt canRunWith in
@@ -279,9 +310,12 @@ looks-hold r m = row-holds r (there (Memᴰ·append-right edges (Memᴰ·append-
 pub overtakes-hold : (r : Row) → Mem r overtakes → session (r .input) ≡ r .replies
 overtakes-hold r m = row-holds r (there (Memᴰ·append-right edges (Memᴰ·append-right looks m)))
 
--- "a refused finish drops nothing", on a log of 30 bytes
-pub full-log-holds : sessionIn 30 (fullLog .input) ≡ fullLog .replies
-full-log-holds = same-bytes (sessionIn 30 (fullLog .input)) (fullLog .replies) (and-right (all holds rows) _ computed)
+-- .. and when a log is full.
+pub full-logs-hold : (s : Short) → Mem s fullLogs → sessionIn (s .room) (s .row .input) ≡ s .row .replies
+unfolding holdsIn
+full-logs-hold s m =
+    same-bytes (sessionIn (s .room) (s .row .input)) (s .row .replies)
+    (all-at holdsIn fullLogs (and-right (all holds rows) _ computed) s m)
 
 -- ### What no short session shows
 
