@@ -1,4 +1,4 @@
-//! Says where the proved library is linked from, when it is asked for.
+//! Says where the proved libraries are linked from, when they are asked for.
 
 use std::env;
 use std::path::Path;
@@ -15,4 +15,8 @@ fn main() {
     println!("cargo:rerun-if-changed={}", folder.join("libc_api.a").display());
     println!("cargo:rustc-link-search=native={}", folder.display());
     println!("cargo:rustc-link-lib=static=c_api");
+    if env::var_os("CARGO_FEATURE_MODULE").is_some() {
+        println!("cargo:rerun-if-changed={}", folder.join("libfitting_module.a").display());
+        println!("cargo:rustc-link-lib=static=fitting_module");
+    }
 }

@@ -13,6 +13,8 @@ pub mod forms;
 pub mod keeper;
 #[cfg(feature = "library")]
 pub mod library;
+#[cfg(feature = "module")]
+pub mod linked_module;
 pub mod module;
 pub mod program;
 pub mod reader;
@@ -22,4 +24,5 @@ pub mod removal;
 pub mod rules;
 pub mod session;
 pub mod site;
+pub mod slots;
 pub mod writer;

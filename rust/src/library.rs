@@ -134,6 +134,13 @@ mod linked {
         ) -> u64;
 
         pub fn site_add_and_finish(log: *mut u8, log_length: usize, operations: u64) -> usize;
+
+        pub fn slot_add_and_finish(
+            log: *mut u8,
+            log_length: usize,
+            slot: usize,
+            operations: u64,
+        ) -> usize;
     }
 }
 
@@ -173,6 +180,12 @@ impl Library {
     pub fn add_and_finish(&self, log: &mut [u8], operations: u64) -> usize {
         // SAFETY: see above.
         unsafe { linked::site_add_and_finish(log.as_mut_ptr(), log.len(), operations) }
+    }
+
+    /// The same in a slot of a module whose other slots are not opened.
+    pub fn add_and_finish_in(&self, log: &mut [u8], slot: usize, operations: u64) -> usize {
+        // SAFETY: see above.
+        unsafe { linked::slot_add_and_finish(log.as_mut_ptr(), log.len(), slot, operations) }
     }
 }
 
@@ -302,6 +315,11 @@ impl Program for Library {
                 RecordCall::Forget { id } => linked::records_forget(address, length, count, id),
             }
         })
+    }
+
+    #[cfg(feature = "module")]
+    fn module(&self) -> Option<Box<dyn crate::slots::Slots>> {
+        Some(Box::new(crate::linked_module::LinkedModule::new()))
     }
 }
 

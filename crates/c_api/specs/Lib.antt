@@ -6,6 +6,8 @@ pub mod KeeperCalls
 pub mod KeeperCallLaws
 pub mod Rounds
 pub mod RoundsLaws
+pub mod SlotRounds
+pub mod SlotRoundsLaws
 pub mod RecordCalls
 pub mod RecordCallLaws
 pub mod Polls

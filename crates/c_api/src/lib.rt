@@ -8,5 +8,6 @@ pub mod record_calls;
 pub mod removals;
 pub mod restart;
 pub mod rounds;
+pub mod slot_rounds;
 pub mod trims;
 pub mod upgrade;

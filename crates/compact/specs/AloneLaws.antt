@@ -11,12 +11,16 @@ use lib.ListN.{length}
 use Rattle.forms.specs.ListLaws.{true-T}
 use Rattle.forms.specs.Refusals.{numberOf}
 use Rattle.forms.specs.declared.Refusal.{Refusal}
-use Rattle.forms.specs.declared.Refusal.the-variants.{Unreadable, WrongCount, NoSuchHistory, HistoryTwice, OperandRange, NothingOrders, IdPending, AlreadyDone, ReadOvertaken, TableFull, WrongState, NoRoom, AboveLimit, OutOfTurn, BadLog, HighestVersion, WrongThreshold, NotSent, Conflict, NoLengthFits, WindowRange}
+use Rattle.forms.specs.declared.Refusal.the-variants.{Unreadable, WrongCount, NoSuchHistory, HistoryTwice, OperandRange, NothingOrders}
+use Rattle.forms.specs.declared.Refusal.the-variants.{IdPending, AlreadyDone, ReadOvertaken, TableFull, WrongState, NoRoom, AboveLimit}
+use Rattle.forms.specs.declared.Refusal.the-variants.{OutOfTurn, BadLog, HighestVersion, WrongThreshold, NotSent, Conflict, NoLengthFits}
+use Rattle.forms.specs.declared.Refusal.the-variants.{WindowRange}
 use Rattle.rules.specs.Checks.{check}
 use Rattle.rules.specs.State.{State, Reply, refused, ok}
 use Rattle.rules.specs.Calls.{restart}
-use Rattle.rules.specs.WhenLaws.{TenOr, step-ten, lastly-ten, unless-ten}
-use Rattle.compact.specs.Module.{Slot, Module, slotAt, meetsTen, uncovered, keptLive, Move, At, Open, Restart, slotOf, callAt, replyOf, settleIn, nextOf}
+use Rattle.rule_laws.specs.WhenLaws.{TenOr, step-ten, lastly-ten, unless-ten}
+use Rattle.compact.specs.Module.{Slot, Module, slotAt, meetsTen, uncovered, keptLive, Move, At, Open, Restart, slotOf, callAt}
+use Rattle.compact.specs.Module.{replyOf, settleIn, nextOf}
 use Rattle.compact.specs.Fits.{at-with, length-with}
 use Rattle.compact.specs.ClaimLaws.{next-other, not-eq}
 use Rattle.compact.specs.Alone.{ownCalls, repliesOf, isTen, OnlyThroughTen, unflagged, settleSite, alone, RepliesAlone}
@@ -80,7 +84,8 @@ settle-site : (i : ℕ) (r : Reply) (p : ℕ) (m : Module) → i < length m → 
 settle-site i (refused r) p m lt = refl
 settle-site i (ok after answer) p m lt = ap (λ (s : Slot). s .site) (at-with i (record { site = some after; promise = p }) m lt)
 
-next-site : (x : Move) (m : Module) → slotOf x < length m → slotAt (slotOf x) (nextOf x m) .site ≡ settleSite (replyOf x m) (slotAt (slotOf x) m .site)
+next-site : (x : Move) (m : Module) → slotOf x < length m →
+    slotAt (slotOf x) (nextOf x m) .site ≡ settleSite (replyOf x m) (slotAt (slotOf x) m .site)
 unfolding nextOf
 next-site x m lt = settle-site (slotOf x) (replyOf x m) _ m lt
 
@@ -109,9 +114,11 @@ replies-alone i lt (x ∷ xs) m four = go (eqb (slotOf x) i) refl (replies-alone
         same : replyOf x m ≡ cond (isTen (replyOf x m)) (refused TableFull) (unflagged x (slotAt i m .site))
         same = from-ten (replyOf x m) _ (subst (λ (k : ℕ). TenOr (replyOf x m) (unflagged x (slotAt k m .site))) e (reply-ten x m))
 
-        next : slotAt i (nextOf x m) .site ≡ settleSite (cond (isTen (replyOf x m)) (refused TableFull) (unflagged x (slotAt i m .site))) (slotAt i m .site)
+        next : slotAt i (nextOf x m) .site ≡ settleSite (cond (isTen (replyOf x m)) (refused TableFull) (unflagged x (slotAt i m .site)))
+            (slotAt i m .site)
         next =
-            subst (λ (k : ℕ). slotAt k (nextOf x m) .site ≡ settleSite (replyOf x m) (slotAt k m .site)) e (next-site x m (omega (arith, ap (λ (k : ℕ). k) e)))
+            subst (λ (k : ℕ). slotAt k (nextOf x m) .site ≡ settleSite (replyOf x m) (slotAt k m .site)) e
+            (next-site x m (omega (arith, ap (λ (k : ℕ). k) e)))
             ∙ ap (λ (r : Reply). settleSite r (slotAt i m .site)) same
 
     go : (b : Bool) → eqb (slotOf x) i ≡ b → rest ≡ alone (ownCalls i xs) (map isTen rest) (slotAt i (nextOf x m) .site) →

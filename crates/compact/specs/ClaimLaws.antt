@@ -15,8 +15,8 @@ use Rattle.forms.specs.declared.Refusal.the-variants.{OutOfTurn, TableFull}
 use Rattle.rules.specs.State.{State, Reply, refused, ok, settle, live}
 use Rattle.rules.specs.Calls.{Call, Add, Finish, Withdraw, Persistent, Stable, Show, Cut, Changeover, Redo, End, step}
 use Rattle.rules.specs.When.{stepWhen}
-use Rattle.rules.specs.WhenLaws.{step-ten}
-use Rattle.rules.specs.CheckLaws.{unless-check, or-false-right}
+use Rattle.rule_laws.specs.WhenLaws.{step-ten}
+use Rattle.rule_laws.specs.CheckLaws.{unless-check, or-false-right}
 use Rattle.recovery.specs.Claim.{Start, lostBy}
 use Rattle.recovery.specs.Arrival.{every}
 use Rattle.recovery.specs.ArrivalLaws.{all-three}
@@ -90,7 +90,8 @@ open-refused i n room m (st, at) = go (replyOf (Open i n room) m) refl
     go : (r : Reply) → replyOf (Open i n room) m ≡ r → settleIn i r (promiseOf (Open i n room) (slotAt i m)) m ≡ m
     go (refused r) e = refl
     go (ok after answer) e =
-        absurd (false-T (openedIn (slotAt i m .site)) (or-false-right (ltb 3 i) (openedIn (slotAt i m .site)) (unless-check _ OutOfTurn _ after answer e .0))
+        absurd (false-T (openedIn (slotAt i m .site))
+        (or-false-right (ltb 3 i) (openedIn (slotAt i m .site)) (unless-check _ OutOfTurn _ after answer e .0))
         (true-T (openedIn (slotAt i m .site)) (ap openedIn at)))
 
 pub not-eq : (i j : ℕ) → eqb j i ≡ false → j ≡ i → ⊥
@@ -158,7 +159,8 @@ own-promise i c m F (st, at) out = go (replyOf (At i c) m) refl
         omega (
           arith,
           call-promise c (slotAt i m) (λ p. out after answer p e) (slot-again i m F st at),
-          ap (λ (s : Slot). s .promise) (at-with i (record { site = some after; promise = promiseAfter c (slotAt i m) }) m (opened-below i m st at)),
+          ap (λ (s : Slot). s .promise) (at-with i (record { site = some after; promise = promiseAfter c (slotAt i m) }) m
+              (opened-below i m st at)),
         )
 
 same-promise : (i : ℕ) (m w : Module) → slotAt i w ≡ slotAt i m → slotAt i m .promise ≤ slotAt i w .promise
@@ -173,7 +175,8 @@ next-promise i (At j c) m F o t out = go (eqb j i) refl (λ after answer p e. ou
         ((after : State) (answer : Answer) → cond b (some c) none ≡ some End → replyOf (At j c) m ≡ ok after answer → ⊥) →
         slotAt i m .promise ≤ slotAt i (nextOf (At j c) m) .promise
     go true e h =
-        subst (λ (k : ℕ). ((after : State) (answer : Answer) → some c ≡ some End → replyOf (At k c) m ≡ ok after answer → ⊥) → slotAt i m .promise ≤ slotAt i (nextOf (At k c) m) .promise)
+        subst (λ (k : ℕ). ((after : State) (answer : Answer) → some c ≡ some End → replyOf (At k c) m ≡ ok after answer → ⊥) →
+        slotAt i m .promise ≤ slotAt i (nextOf (At k c) m) .promise)
         (sym (eqb→eq j i (true-T (eqb j i) e))) (λ g. own-promise i c m F o (λ after answer p q. g after answer (ap some p) q)) h
     go false e h = same-promise i m (nextOf (At j c) m) (next-other i (At j c) m (not-eq i j e))
 next-promise i (Open j n room) m F o t out = go (eqb j i) refl
@@ -297,7 +300,8 @@ module _ (i : ℕ) (chosen : Did → Bool) (l : SlotList i chosen) where
         arith,
         promised-first,
         all-promise i a (nextOf (l .x) first) (fits-next (l .x) first first-fits) next-open
-            (all-first (goesOn i) a b (subst (λ (z : List Move). T (all (goesOn i) z)) e (and-right (goesOn i (l .x)) (all (goesOn i) (l .ys)) on-last)))
+            (all-first (goesOn i) a b (subst (λ (z : List Move). T (all (goesOn i) z)) e
+            (and-right (goesOn i (l .x)) (all (goesOn i) (l .ys)) on-last)))
             (λ p y q after answer s own r. l .asked .ends p y (q ++ b) after answer
             (e ∙ ap {B = List Move} (λ z. z ++ b) s ∙ append-assoc p (y ∷ q) b) own (ap (λ (w : Module). replyOf y w) (world-is p) ∙ r)),
       )
@@ -307,7 +311,12 @@ module _ (i : ℕ) (chosen : Did → Bool) (l : SlotList i chosen) where
   unfolding first
   roomy a y b line e own lt ten =
       promise-kept i world fits (isOpen .0) (isOpen .1)
-      (omega (arith, promised-on a (y ∷ b) e, ap (λ (o : Option State). live (siteOr o)) (isOpen .1), ap (λ (w : Module). live (siteOr (slotAt i w .site))) (world-is a)))
+      (omega (
+        arith,
+        promised-on a (y ∷ b) e,
+        ap (λ (o : Option State). live (siteOr o)) (isOpen .1),
+        ap (λ (w : Module). live (siteOr (slotAt i w .site))) (world-is a),
+      ))
       (Redo line) refl
       (ap (λ (x : Move). replyOf x world) (sym (own-at i y (Redo line) own)) ∙ ap (λ (w : Module). replyOf y w) (sym (world-is a)) ∙ ten)
     where
@@ -320,7 +329,8 @@ module _ (i : ℕ) (chosen : Did → Bool) (l : SlotList i chosen) where
       isOpen : Opened i world
       isOpen =
           opened-all i a (nextOf (l .x) first) next-open
-          (all-first (goesOn i) a (y ∷ b) (subst (λ (z : List Move). T (all (goesOn i) z)) e (and-right (goesOn i (l .x)) (all (goesOn i) (l .ys)) on-last)))
+          (all-first (goesOn i) a (y ∷ b) (subst (λ (z : List Move). T (all (goesOn i) z)) e
+          (and-right (goesOn i (l .x)) (all (goesOn i) (l .ys)) on-last)))
 
   pub hosted : ListIn (inSlot i) chosen
   hosted =

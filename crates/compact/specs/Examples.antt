@@ -159,5 +159,17 @@ record Forty : Type 0 where
   whole : answerTo (replyOf (At 0 (Cut 994 65536)) crowded) ≡ some (Restarted 40 994)
 
 forty-cut : Forty
-unfolding replacedWith profileOf enteredWith enterWith enterAllWith cellFromWith cellWith startCell touches runsAt canRunWith unless openFull openRefusal opened openSite blockedBy blocked mayRunNow ready attempt tryFrom madeReady neverNow holdsNever overtaken notOvertaken overtakenIds nothingOrders idPending idDone alreadyDone readOvertaken atHighest tableFull addRefusal arrived add changeOf lineOf valuesAfter inProgress future without logFull finished finishFound finish withdrawRefusal withdraw persistent aboveMark stableFull stableRefusal stabled stable show restarted restartAs restart cutAbove baseCut cut stale redoRefusal behind pick drain delivered redoRead redo end writableUpdate writable perform step check andThen wrongCount noSuchHistory historyTwice updateMisfits changeMisfitsWith formRefusal updatesRefusal changesRefusalWith stablesFrom stablesAt weaveFrom markFrom upToDid reported ended didsText linesText logText headText linesFrom restFrom historiesFit acceptsWith rises follows liveIn tableHolds inOrder baseFits readLines readSecond readFirst readLog logBytes versionAt liveDone live asks dry becameDry rose lineBytes bytesOf settle below digitsWithin digits more number word fieldText fieldsText itemsText tailText listText changeText oneText siteText didText stableText lineText reading.field reading.doneRule reading.change reading.one reading.did reading.items reading.tail reading.line readWhole readDid readLine reading.baseCell reading.base readBase readSite addWhen redoReadWhen redoWhen lastly cutWhen performWhen stepWhen slotAt withSlot others liveOf lacks free taken uncovered meetsTen promisedAgain replyOf promiseOf nextOf operations having dones forty answerTo
+unfolding replacedWith profileOf enteredWith enterWith enterAllWith cellFromWith cellWith startCell touches runsAt canRunWith unless
+    openFull openRefusal opened openSite blockedBy blocked mayRunNow ready attempt tryFrom madeReady neverNow holdsNever overtaken
+    notOvertaken overtakenIds nothingOrders idPending idDone alreadyDone readOvertaken atHighest tableFull addRefusal arrived add changeOf
+    lineOf valuesAfter inProgress future without logFull finished finishFound finish withdrawRefusal withdraw persistent aboveMark
+    stableFull stableRefusal stabled stable show restarted restartAs restart cutAbove baseCut cut stale redoRefusal behind pick drain
+    delivered redoRead redo end writableUpdate writable perform step check andThen wrongCount noSuchHistory historyTwice updateMisfits
+    changeMisfitsWith formRefusal updatesRefusal changesRefusalWith stablesFrom stablesAt weaveFrom markFrom upToDid reported ended didsText
+    linesText logText headText linesFrom restFrom historiesFit acceptsWith rises follows liveIn tableHolds inOrder baseFits readLines
+    readSecond readFirst readLog logBytes versionAt liveDone live asks dry becameDry rose lineBytes bytesOf settle below digitsWithin digits
+    more number word fieldText fieldsText itemsText tailText listText changeText oneText siteText didText stableText lineText reading.field
+    reading.doneRule reading.change reading.one reading.did reading.items reading.tail reading.line readWhole readDid readLine
+    reading.baseCell reading.base readBase readSite addWhen redoReadWhen redoWhen lastly cutWhen performWhen stepWhen slotAt withSlot others
+    liveOf lacks free taken uncovered meetsTen promisedAgain replyOf promiseOf nextOf operations having dones forty answerTo
 forty-cut = record { ten = refl; above = refl; torn = refl; sixteen = refl; seventeen = refl; whole = refl }

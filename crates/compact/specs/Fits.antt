@@ -1,4 +1,5 @@
--- The invariant of modules: what the sites have and are promised fits the table. Its laws: every call keeps it, and what follows for refusal 10.
+-- The invariant of modules: what the sites have and are promised fits the table. Its laws: every call keeps it, and what follows for
+-- refusal 10.
 use mathlib.Core.Path.{_≡_, refl, sym, ap, _∙_, subst}
 use mathlib.Core.Logic.{_⊎_, inl, inr}
 use mathlib.Core.Bool.{false}
@@ -13,9 +14,10 @@ use lib.ListN.{length}
 use Rattle.forms.specs.Lists.{sum}
 use Rattle.forms.specs.Limits.{liveLimit}
 use Rattle.rules.specs.State.{State}
-use Rattle.rules.specs.Good.{Good}
-use Rattle.rules.specs.CheckLaws.{not-lt, not-le}
-use Rattle.compact.specs.Module.{slotLimit, entryLimit, least, Slot, unopened, Module, slotAt, withSlot, others, restoringIn, liveOf, lacks, free, taken, uncovered, made}
+use Rattle.rule_laws.specs.Good.{Good}
+use Rattle.rule_laws.specs.CheckLaws.{not-lt, not-le}
+use Rattle.compact.specs.Module.{slotLimit, entryLimit, least, Slot, unopened, Module, slotAt, withSlot, others, restoringIn, liveOf}
+use Rattle.compact.specs.Module.{lacks, free, taken, uncovered, made}
 
 -- ### Slots in a list
 
@@ -106,7 +108,12 @@ unfolding claims liveOf
 fits-made = record { four = refl; slots = λ s k. fresh s k; enough = omega arith }
   where
     same : (s : Slot) → s ≡ unopened → GoodSlot s
-    same s e = subst GoodSlot (sym e) (record { good = λ st p. absurd (let z : _≡_ {A = ℕ} 0 1 = cc in omega arith); promised = omega arith; mayUse = omega arith; ended = λ p. refl })
+    same s e = subst GoodSlot (sym e) (record {
+      good = λ st p. absurd (let z : _≡_ {A = ℕ} 0 1 = cc in omega arith);
+      promised = omega arith;
+      mayUse = omega arith;
+      ended = λ p. refl;
+    })
 
     fresh : (s : Slot) → Mem s made → GoodSlot s
     fresh s k = go (List·Memᴰ·cases-cons k)
@@ -161,12 +168,24 @@ module _ (i : ℕ) (m : Module) (F : Fits m) (lt : i < slotLimit) where
   pub uncovered-is : (kept : ℕ) → T (uncovered i kept m) → entryLimit < kept + sum claims (others i m)
   unfolding uncovered free
   uncovered-is kept t =
-      omega (arith, ltb→lt (free m + liveOf (slotAt i m)) (kept + sum lacks (others i m)) t, claims-are (others i m), sum-slots liveOf i m inside, live-fits)
+      omega (
+        arith,
+        ltb→lt (free m + liveOf (slotAt i m)) (kept + sum lacks (others i m)) t,
+        claims-are (others i m),
+        sum-slots liveOf i m inside,
+        live-fits,
+      )
 
   pub covered : (kept : ℕ) → uncovered i kept m ≡ false → kept + sum claims (others i m) ≤ entryLimit
   unfolding uncovered free
   covered kept e =
-      omega (arith, not-lt (free m + liveOf (slotAt i m)) (kept + sum lacks (others i m)) e, claims-are (others i m), sum-slots liveOf i m inside, live-fits)
+      omega (
+        arith,
+        not-lt (free m + liveOf (slotAt i m)) (kept + sum lacks (others i m)) e,
+        claims-are (others i m),
+        sum-slots liveOf i m inside,
+        live-fits,
+      )
 
   -- A slot replaced by one whose claim fits.
   pub fits-with : (x : Slot) → GoodSlot x → claims x + sum claims (others i m) ≤ entryLimit → Fits (withSlot i x m)

@@ -20,12 +20,13 @@ use Rattle.rules.specs.State.{State, Reply, refused, ok, live, settle}
 use Rattle.rules.specs.Calls.{unless, tableFull, restart, Call, Add, Finish, Withdraw, Persistent, Stable, Show, Cut, Changeover, Redo, End}
 use Rattle.rules.specs.Calls.{step}
 use Rattle.rules.specs.When.{lastly, stepWhen, meets}
-use Rattle.rules.specs.WhenLaws.{when-ok, ten-why, ten-met, ten-exactly, lastly-ten, lastly-ok, lastly-why, restart-not-ten, unless-over}
-use Rattle.rules.specs.WhenLaws.{unless-not-ten, check-not-ten, none-not-ten, isTenth, differs, refused-same}
-use Rattle.rules.specs.Good.{Good}
-use Rattle.rules.specs.GoodLaws.{good-step, good-open, good-restart}
-use Rattle.rules.specs.CheckLaws.{refused-not-ok, unless-ok, unless-check, not-lt, or-false-left}
-use Rattle.rules.specs.LiveLaws.{takes, live-step, live-changeover, live-opened, restores, restoring-step, restoring-restarted}
+use Rattle.rule_laws.specs.WhenLaws.{when-ok, ten-why, ten-met, ten-exactly, lastly-ten}
+use Rattle.rule_laws.specs.WhenLaws.{lastly-ok, lastly-why, restart-not-ten, unless-over}
+use Rattle.rule_laws.specs.WhenLaws.{unless-not-ten, check-not-ten, none-not-ten, isTenth, differs, refused-same}
+use Rattle.rule_laws.specs.Good.{Good}
+use Rattle.rule_laws.specs.GoodLaws.{good-step, good-open, good-restart}
+use Rattle.rule_laws.specs.CheckLaws.{refused-not-ok, unless-ok, unless-check, not-lt, or-false-left}
+use Rattle.rule_laws.specs.LiveLaws.{takes, live-step, live-changeover, live-opened, restores, restoring-step, restoring-restarted}
 use Rattle.compact.specs.Module.{slotLimit, entryLimit, least, Slot, Module, slotAt, withSlot, others, liveIn, restoringIn, openedIn}
 use Rattle.compact.specs.Module.{liveOf, taken, uncovered, keptLive, meetsTen, restartsSite, promisedAgain, promiseAfter, Move, At}
 use Rattle.compact.specs.Module.{Open, Restart, slotOf, callAt, replyOf, promiseOf, settleIn, nextOf, runAll}
@@ -184,7 +185,12 @@ fits-ok (Open i n room) m F after answer e =
     let le = not-lt 3 i (or-false-left (ltb 3 i) (openedIn (slotAt i m .site)) (q .0)) in
     let lt : i < slotLimit = omega arith in
     fits-with i m F lt _
-    (record { good = λ s p. good-some after s (good-open n room after answer (q .1)) p; promised = omega arith; mayUse = omega arith; ended = λ off. refl })
+    (record {
+      good = λ s p. good-some after s (good-open n room after answer (q .1)) p;
+      promised = omega arith;
+      mayUse = omega arith;
+      ended = λ off. refl;
+    })
     (omega (arith, parted i m F lt, mine i m F lt .promised, live-opened n room after answer (q .1)))
 fits-ok (Restart i buffer k) m F after answer e =
     let q = unless-check _ OutOfTurn _ after answer e in
@@ -300,7 +306,8 @@ module _ (i : ℕ) (m : Module) (F : Fits m) (st : State) (at : slotAt i m .site
       replyOf (At i (Cut k room)) m ≡ refused TableFull ↔ entryLimit < live after + sum claims (others i m)
   unfolding meetsTen
   cut-exactly k room after answer e = (
-    λ ten. let t = uncovered-is i m F (below i m F st at) (keptLive (step (Cut k room) st)) (met .0 (sym (call-is (Cut k room)) ∙ ten)) in omega (arith, kept),
+    λ ten. let t = uncovered-is i m F (below i m F st at) (keptLive (step (Cut k room) st)) (met .0 (sym (call-is (Cut k room)) ∙ ten)) in
+        omega (arith, kept),
     λ lt. call-is (Cut k room) ∙ met .1 (more-than lt (uncovered i (keptLive (step (Cut k room) st)) m) refl),
   )
     where

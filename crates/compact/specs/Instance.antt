@@ -114,7 +114,21 @@ record Computed : Type 0 where
   final : siteOr (slotAt 0 (runIn (inSlot 0) (xs ++ x ∷ ys) start) .site) .log ≡ second ∷ one ∷ []
 
 computed : Computed
-unfolding replacedWith profileOf enteredWith enterWith enterAllWith cellFromWith cellWith startCell touches runsAt canRunWith unless openFull openRefusal opened openSite blockedBy blocked mayRunNow ready attempt tryFrom madeReady neverNow holdsNever overtaken notOvertaken overtakenIds nothingOrders idPending idDone alreadyDone readOvertaken atHighest tableFull addRefusal arrived add changeOf lineOf valuesAfter inProgress future without logFull finished finishFound finish withdrawRefusal withdraw persistent aboveMark stableFull stableRefusal stabled stable show restarted restartAs restart cutAbove baseCut cut baseCellAt trimmedBase trimmedLines trimText trimAbove trimFull trimRefusal changeover closing stale redoRefusal behind pick drain delivered redoRead redo end writableUpdate writable perform step check andThen wrongCount noSuchHistory historyTwice updateMisfits changeMisfitsWith formRefusal updatesRefusal changesRefusalWith stablesFrom stablesAt weaveFrom markFrom upToDid reported ended didsText linesText logText headText linesFrom restFrom historiesFit acceptsWith rises follows liveIn tableHolds inOrder baseFits readLines readSecond readFirst readLog logBytes versionAt liveDone live asks dry becameDry rose lineBytes bytesOf settle below digitsWithin digits more number word fieldText fieldsText itemsText tailText listText changeText oneText siteText didText baseCellText baseText stableText lineText reading.field reading.doneRule reading.change reading.one reading.did reading.items reading.tail reading.line readWhole readDid readLine reading.baseCell reading.base readBase readSite countedAfter comesAfter lostBy addWhen redoReadWhen redoWhen lastly cutWhen changeoverWhen performWhen stepWhen runIn countedIn cameIn slotAt withSlot others liveOf lacks free taken uncovered meetsTen promisedAgain replyOf promiseOf nextOf
+unfolding replacedWith profileOf enteredWith enterWith enterAllWith cellFromWith cellWith startCell touches runsAt canRunWith unless
+    openFull openRefusal opened openSite blockedBy blocked mayRunNow ready attempt tryFrom madeReady neverNow holdsNever overtaken
+    notOvertaken overtakenIds nothingOrders idPending idDone alreadyDone readOvertaken atHighest tableFull addRefusal arrived add changeOf
+    lineOf valuesAfter inProgress future without logFull finished finishFound finish withdrawRefusal withdraw persistent aboveMark
+    stableFull stableRefusal stabled stable show restarted restartAs restart cutAbove baseCut cut baseCellAt trimmedBase trimmedLines
+    trimText trimAbove trimFull trimRefusal changeover closing stale redoRefusal behind pick drain delivered redoRead redo end
+    writableUpdate writable perform step check andThen wrongCount noSuchHistory historyTwice updateMisfits changeMisfitsWith formRefusal
+    updatesRefusal changesRefusalWith stablesFrom stablesAt weaveFrom markFrom upToDid reported ended didsText linesText logText headText
+    linesFrom restFrom historiesFit acceptsWith rises follows liveIn tableHolds inOrder baseFits readLines readSecond readFirst readLog
+    logBytes versionAt liveDone live asks dry becameDry rose lineBytes bytesOf settle below digitsWithin digits more number word fieldText
+    fieldsText itemsText tailText listText changeText oneText siteText didText baseCellText baseText stableText lineText reading.field
+    reading.doneRule reading.change reading.one reading.did reading.items reading.tail reading.line readWhole readDid readLine
+    reading.baseCell reading.base readBase readSite countedAfter comesAfter lostBy addWhen redoReadWhen redoWhen lastly cutWhen
+    changeoverWhen performWhen stepWhen runIn countedIn cameIn slotAt withSlot others liveOf lacks free taken uncovered meetsTen
+    promisedAgain replyOf promiseOf nextOf
 computed = record { opens = refl; isOpen = refl; counts = refl; cuts = refl; room = refl; lost = refl; came = refl; final = refl }
 
 two : (a : List Move) (y : Move) (b : List Move) → ys ≡ a ++ y ∷ b → (y ≡ p) ⊎ (y ≡ q)
@@ -164,9 +178,15 @@ list =
       asked =
           record {
             cuts =
-                λ a y b k room st answer e o r. absurd (let s = own-is a y b (Cut k room) e o in let z : _≡_ {A = ℕ} 0 1 = cc in omega arith);
+                λ a y b k room st answer e o r. absurd
+                (let s = own-is a y b (Cut k room) e o in let z : _≡_ {A = ℕ} 0 1 = cc in omega arith);
             redos =
-                λ a y b line st answer e o r. (one, mem-along (sym (computed .lost)) (here refl), tt, line-is line (own-is a y b (Redo line) e o));
+                λ a y b line st answer e o r. (
+                  one,
+                  mem-along (sym (computed .lost)) (here refl),
+                  tt,
+                  line-is line (own-is a y b (Redo line) e o),
+                );
             changeovers =
                 λ a y b n room st answer e o r.
                 let s = own-is a y b (Changeover n room) e o in let z : _≡_ {A = ℕ} 0 1 = cc in omega arith;

@@ -81,12 +81,13 @@ lacks s = s .promise - liveOf s
 unfoldable pub free : Module → ℕ
 free m = entryLimit - sum liveOf m
 
--- "An add or redo is refused 10 exactly when the site has 64, or when the free entries do not exceed what the others still lack of their promise."
--- (The 64 stands in 01's own test.)
+-- "An add or redo is refused 10 exactly when the site has 64, or when the free entries do not exceed what the others still lack of their
+-- promise." (The 64 stands in 01's own test.)
 unfoldable pub taken : ℕ → Module → Bool
 taken i m = leb (free m) (sum lacks (others i m))
 
--- "A cut or restart is refused 10 .. when the entries free once its own are given back do not cover its kept live lines and what the others lack."
+-- "A cut or restart is refused 10 .. when the entries free once its own are given back do not cover its kept live lines and what the others
+-- lack."
 unfoldable pub uncovered : ℕ → ℕ → Module → Bool
 uncovered i kept m = ltb (free m + liveOf (slotAt i m)) (kept + sum lacks (others i m))
 
@@ -118,7 +119,8 @@ restartsSite End = false
 
 -- ### The promise
 
--- "Until its restoring ends, a cut or restarted site is promised as many as it had live, if more than 16; over further cuts the largest number holds."
+-- "Until its restoring ends, a cut or restarted site is promised as many as it had live, if more than 16; over further cuts the largest
+-- number holds."
 unfoldable pub promisedAgain : Slot → ℕ
 promisedAgain s = max (max least (liveOf s)) (cond (restoringIn (s .site)) (s .promise) least)
 

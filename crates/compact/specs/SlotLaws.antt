@@ -14,9 +14,9 @@ use Rattle.forms.specs.declared.Refusal.the-variants.{OutOfTurn, TableFull}
 use Rattle.rules.specs.State.{State, Reply, refused, ok, linesIn, live}
 use Rattle.rules.specs.Calls.{restart, Cut, step}
 use Rattle.rules.specs.When.{stepWhen}
-use Rattle.rules.specs.WhenLaws.{step-ten}
-use Rattle.rules.specs.Good.{Good}
-use Rattle.rules.specs.CheckLaws.{unless-check, not-lt, or-false-left}
+use Rattle.rule_laws.specs.WhenLaws.{step-ten}
+use Rattle.rule_laws.specs.Good.{Good}
+use Rattle.rule_laws.specs.CheckLaws.{unless-check, not-lt, or-false-left}
 use Rattle.recovery.specs.Claim.{Start, justOpened, justRestarted}
 use Rattle.recovery.specs.Counted.{Counts, counted-start}
 use Rattle.recovery.specs.Recovery.{start-good}
@@ -54,7 +54,8 @@ module _ (i counts : ℕ) (start : Module) (F : Fits start) (site : State) (at :
 
   pub fair-cut : (k room : ℕ) (after : State) (answer : Answer) →
       step (Cut k room) (siteOr (slotAt i (runIn (inSlot i) xs start) .site)) ≡ ok after answer →
-      ((x : Line) → Mem x (take (countedIn (inSlot i) counts xs start) (linesIn (siteOr (slotAt i (runIn (inSlot i) xs start) .site)))) → Mem x (linesIn after)) →
+      ((x : Line) → Mem x (take (countedIn (inSlot i) counts xs start) (linesIn (siteOr (slotAt i (runIn (inSlot i) xs start) .site)))) →
+      Mem x (linesIn after)) →
       replyOf (At i (Cut k room)) (runIn (inSlot i) xs start) ≡ ok after answer
   fair-cut k room after answer e keeps = go (step-ten (meetsTen i (Cut k room) st m) (Cut k room) st)
     where
@@ -75,12 +76,14 @@ module _ (i counts : ℕ) (start : Module) (F : Fits start) (site : State) (at :
           fair-live (inSlot i) (countedIn (inSlot i) counts xs start) k room st after answer
           (subst Good site-is slot-good-after)
           (subst (Counts (countedIn (inSlot i) counts xs start)) site-is slot-counts) accepted
-          (subst (λ (s : State). (x : Line) → Mem x (take (countedIn (inSlot i) counts xs start) (linesIn s)) → Mem x (linesIn after)) site-is keeps)
+          (subst (λ (s : State). (x : Line) → Mem x (take (countedIn (inSlot i) counts xs start) (linesIn s)) →
+          Mem x (linesIn after)) site-is keeps)
 
       not-ten : replyOf (At i (Cut k room)) m ≡ refused TableFull → ⊥
       not-ten = cut-never i m fits st (here-open .1) k room (let z = ap keptLive accepted in omega (arith, few))
 
-      go : (stepWhen (meetsTen i (Cut k room) st m) (Cut k room) st ≡ refused TableFull) ⊎ (stepWhen (meetsTen i (Cut k room) st m) (Cut k room) st ≡ step (Cut k room) st) →
+      go : (stepWhen (meetsTen i (Cut k room) st m) (Cut k room) st ≡ refused TableFull)
+          ⊎ (stepWhen (meetsTen i (Cut k room) st m) (Cut k room) st ≡ step (Cut k room) st) →
           replyOf (At i (Cut k room)) m ≡ ok after answer
       go (inl q) = absurd (not-ten (call-is i m fits st (here-open .1) (Cut k room) ∙ q))
       go (inr q) = call-is i m fits st (here-open .1) (Cut k room) ∙ q ∙ accepted

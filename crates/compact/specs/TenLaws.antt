@@ -19,8 +19,8 @@ use Rattle.forms.specs.Limits.{liveLimit, logLimit}
 use Rattle.rules.specs.State.{State, Reply, refused, ok, logBytes, linesIn, live}
 use Rattle.rules.specs.Calls.{unless, tableFull, restart, Call, Add, Finish, Withdraw, Persistent, Stable, Show, Cut, Changeover, Redo, End}
 use Rattle.rules.specs.When.{lastly, stepWhen}
-use Rattle.rules.specs.WhenExactly.{ComesToTen, takesEntry, entry-exactly}
-use Rattle.rules.specs.CheckLaws.{refused-not-ok, none-check, unless-none, le-not-lt}
+use Rattle.rule_laws.specs.WhenExactly.{ComesToTen, takesEntry, entry-exactly}
+use Rattle.rule_laws.specs.CheckLaws.{refused-not-ok, none-check, unless-none, le-not-lt}
 use Rattle.recovery.specs.Claim.{Start}
 use Rattle.recovery.specs.Fairness.{after, fair-bytes}
 use Rattle.recovery.specs.Host.{runIn, countedIn}
@@ -63,7 +63,8 @@ module _ (i : ℕ) (m : Module) (F : Fits m) (st : State) (at : slotAt i m .site
     where
       both : stepWhen (meetsTen i c st m) c st ≡ refused TableFull ↔ T (taken i m || tableFull st)
       both =
-          subst (λ (b : Bool). stepWhen b c st ≡ refused TableFull ↔ T (taken i m || tableFull st)) (sym (flag-is c t)) (entry-exactly (taken i m) c st t comes)
+          subst (λ (b : Bool). stepWhen b c st ≡ refused TableFull ↔ T (taken i m || tableFull st)) (sym (flag-is c t))
+          (entry-exactly (taken i m) c st t comes)
 
       out : T (taken i m) ⊎ T (tableFull st) → (liveLimit ≤ live st) ⊎ (entryLimit ≤ live st + sum claims (others i m))
       out (inl q) = inr (omega (arith, taken-is i m F (below i m F st at) q, live-is i m F st at))
@@ -138,7 +139,9 @@ module _ (i counts : ℕ) (start : Module) (F : Fits start) (site : State) (at :
     -- did.
     pub safe-cut : (answer : Answer) ×
         (replyOf (At i (Cut k room)) (runIn (inSlot i) xs start) ≡
-        ok (after count k room now (slot-good-after i counts start F site at begins xs on) (slot-counts i counts start F site at begins xs on) enough within fits limit) answer)
+        ok (after count k room now (slot-good-after i counts start F site at begins xs on)
+        (slot-counts i counts start F site at begins xs on) enough within fits limit) answer)
     safe-cut =
-        let f = fair-bytes count k room now (slot-good-after i counts start F site at begins xs on) (slot-counts i counts start F site at begins xs on) enough within fits limit wide in
+        let f = fair-bytes count k room now (slot-good-after i counts start F site at begins xs on)
+        (slot-counts i counts start F site at begins xs on) enough within fits limit wide in
         (f .answer, fair-cut-accepted i counts start F site at begins xs on k room _ f)

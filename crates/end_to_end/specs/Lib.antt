@@ -25,3 +25,4 @@ pub mod OlderExamples
 pub mod BesideLines
 pub mod RecordsCalls
 pub mod RecordsLimit
+pub mod SlotChangeover

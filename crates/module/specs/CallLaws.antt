@@ -1,8 +1,8 @@
 -- A call of a slot, from the contract of its site's call: what the site is lent is valid, its reply is the specification's, and so the call
 -- does what the specification says.
-use Prim.Native.Nat.{ℕ, _+_, _*_, _-_, _≤_, _<_, min}
+use Prim.Native.Nat.{ℕ, _*_, _≤_, _<_}
 use native.Mathlib.Omega.{arith}
-use mathlib.Core.Path.{_≡_, refl, sym, ap, ap₂, subst, _∙_}
+use mathlib.Core.Path.{_≡_, refl, sym, ap, subst, _∙_}
 use mathlib.Core.Bool.{Bool, true, false, not}
 use mathlib.Core.List.{List, [], _++_}
 use mathlib.Core.Option.{Option, none, some}
@@ -10,6 +10,7 @@ use lib.Dec.{T, ltb}
 use lib.ListN.{length, take, drop, take-append-drop, List·getD-eq-default}
 use lib.Seq.{take-take}
 use borrow.Author.Tests.{ltb-true, ltb-false}
+use Rattle.forms.specs.Limits.{liveLimit}
 use Rattle.forms.specs.Forms.{Answer, Outcome, Refused, Accepted}
 use Rattle.forms.specs.Held.{replied, outcomeWith, outcomeOf}
 use Rattle.forms.specs.declared.ReplyForm.{ReplyForm}
@@ -20,7 +21,7 @@ use Rattle.rules.specs.Checks.{check}
 use Rattle.rules.specs.State.{State, Reply, refused, ok}
 use Rattle.rules.specs.Calls.{Call, unless, step}
 use Rattle.rules.specs.When.{stepWhen}
-use Rattle.rules.specs.WhenLaws.{step-off}
+use Rattle.rule_laws.specs.WhenLaws.{step-off}
 use Rattle.compact.specs.Module.{Slot as SlotState, Module as ModuleState, slotAt, withSlot, meetsTen, promiseAfter, Move, At, slotOf}
 use Rattle.compact.specs.Module.{readable, callAt, replyOf, promiseOf, settleIn, nextOf}
 use Rattle.compact.specs.FitsLaws.{call-is, fits-next}
@@ -33,16 +34,16 @@ use Rattle.site.specs.Model.{Lent, lent, view, Valid, Says, RefusedAs, Accepted
 use Rattle.module.specs.declared.Slot.{Slot}
 use Rattle.module.specs.declared.Module.{Module}
 use Rattle.module.specs.declared.ModuleResult.{ModuleResult}
-use Rattle.module.specs.Four.{four, true-false, four-least}
+use Rattle.module.specs.Four.{true-false}
 use Rattle.module.specs.Parts.{partRoom, tableRoom, partOf, Shared}
 use Rattle.module.specs.PartLaws.{part-long, part-fewer, part-within, held-once, held-below, gathers-start, gathered-own}
-use Rattle.module.specs.Model.{noSlot, slotIn, liveIn, heldIn, claimIn, Memory, stateAt, siteIf, viewAt, viewIn, ValidSlots}
+use Rattle.module.specs.Model.{noSlot, slotIn, liveIn, heldIn, Memory, stateAt, siteIf, viewAt, viewIn, ValidSlots}
 use Rattle.module.specs.Model.{ValidModule, ValidWith, viewOf, around, RefusedIn, AcceptedIn, DoesFrom, DoesIn, Moves}
 use Rattle.module.specs.Model.{MovesAnew}
 use Rattle.module.specs.Gather.{GathersIn}
 use Rattle.module.specs.ViewLaws.{slot-at, slot-past}
 use Rattle.module.specs.SiteLaws.{Usables, valid-order, view-order}
-use Rattle.module.specs.Calls.{Claims, refuses, answered, Concludes, ConcludesAs, Turns}
+use Rattle.module.specs.Calls.{refuses, answered, Concludes, ConcludesAs, Turns}
 use Rattle.module.specs.AcceptLaws.{put-own, accepted-in}
 
 -- ### Replies
@@ -78,28 +79,6 @@ says-accepted r ns a s = form-refuses (r .form) _ _ ∙ ap isRefusal (s .outcome
 
 pub past-last : (l : List Slot) (i : ℕ) → length l ≡ 4 → 4 ≤ i → false ≡ slotIn l i .opened
 past-last l i size more = sym (ap (λ (s : Slot). s .opened) (List·getD-eq-default l noSlot (omega (arith, size, more))))
-
-pub claims-most : (l : List Slot) (i : ℕ) → Claims l i → (j : ℕ) → j < 4 → claimIn l j ≤ tableRoom
-claims-most l i c j lj = omega (arith, c .fit, four-least (claimIn l) j lj)
-
--- the sum of the claims as the code has it, and what it leaves
-pub claims-sum : (l : List Slot) (a b c d : ℕ) → a ≡ claimIn l 0 → b ≡ claimIn l 1 → c ≡ claimIn l 2 → d ≡ claimIn l 3 →
-    a + b + c + d ≡ four (claimIn l)
-unfolding four
-claims-sum l a b c d ea eb ec ed = λ t. ea t + eb t + ec t + ed t
-
-pub room-low : (o s p q : ℕ) → o ≡ p → s ≡ q → 128 + o - s < 64 → 128 + o - s ≡ min 64 (128 + p - q)
-room-low o s p q eo es lt = ap₂ (λ (x y : ℕ). 128 + x - y) eo es ∙ low (128 + p - q)
-    (subst (λ (z : ℕ). z < 64) (ap₂ (λ (x y : ℕ). 128 + x - y) eo es) lt)
-  where
-    low : (z : ℕ) → z < 64 → z ≡ min 64 z
-    low z l = omega (arith, l)
-
-pub room-high : (o s p q : ℕ) → o ≡ p → s ≡ q → 64 ≤ 128 + o - s → 64 ≡ min 64 (128 + p - q)
-room-high o s p q eo es le = high (128 + p - q) (subst (λ (z : ℕ). 64 ≤ z) (ap₂ (λ (x y : ℕ). 128 + x - y) eo es) le)
-  where
-    high : (z : ℕ) → 64 ≤ z → 64 ≡ min 64 z
-    high z l = omega (arith, l)
 
 module _ (l : List Slot) (b : Memory) (v : ValidSlots l b) (i : ℕ) where
   pub opened-below : slotIn l i .opened ≡ true → i < 4
@@ -229,7 +208,7 @@ module _ (m : Module) (i : ℕ) (w : Lent) (vw : ValidWith m i w) where
   pub with-long : length (w .order) ≡ 256
   with-long = vw .2 .shared .long
 
-  pub with-few : i < 4 → liveIn (m .slots) i ≤ 64
+  pub with-few : i < 4 → liveIn (m .slots) i ≤ liveLimit
   with-few lt = omega (arith, vw .2 .few i lt, vw .2 .shared .few i lt)
 
   pub with-below : slotIn (m .slots) i .opened ≡ true → i < 4

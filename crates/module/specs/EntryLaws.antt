@@ -5,6 +5,7 @@ use mathlib.Core.Path.{_≡_, refl, sym, ap, subst, _∙_}
 use mathlib.Core.Bool.{Bool, true}
 use mathlib.Core.List.{List, [], _++_}
 use lib.ListN.{length, take, drop}
+use Rattle.forms.specs.Limits.{liveLimit}
 use Rattle.forms.specs.Forms.{Update}
 use mathlib.Core.Option.{none}
 use borrow.Author.Tests.{lt-ltb}
@@ -64,9 +65,6 @@ module _ (m : Module) (i : ℕ) (w : Lent) (vw : ValidWith m i w) (lt : i < 4) w
         (usables (heldIn (loan .slots)) ns (L .gathered .into .gathers .shared) (w .rows) (vw .2 .rows) i k lt
         (omega (arith, L .gathered .reached, ek))
         emptyTable (omega arith))
-
-    pub with-numbers : length ns ≡ 256
-    with-numbers = L .gathered .into .gathers .shared .long
 
 -- ### The calls
 
@@ -194,10 +192,10 @@ module _ (m : Module) (i : ℕ) (came : Lent) (n : ℕ) (loan : Loan) (ns : List
 
 -- ### Numbers
 
-pub may-most : (l : List Slot) (i : ℕ) → mayUse l i ≤ 64
+pub may-most : (l : List Slot) (i : ℕ) → mayUse l i ≤ liveLimit
 may-most l i = low (roomIn l i)
   where
-    low : (x : ℕ) → min 64 x ≤ 64
+    low : (x : ℕ) → min liveLimit x ≤ liveLimit
     low x = omega arith
 
 pub count-may : (n x y : ℕ) → n ≡ min (x + 1) y → n ≤ y

@@ -62,7 +62,8 @@ spare-last l i m e₀ e₁ e₂ = go (spareAt l i 3) refl
         absurd
         (let bound : ℕ → ℕ = boundOf l i in
         let own : bound i ≡ heldIn l i = ap (λ (t : Bool). cond t (heldIn l i) (liveIn l i)) (eq-eqb i i refl) in
-        let most : four (heldIn l) ≤ four bound = omega (arith, not-spare l i 0 e₀, not-spare l i 1 e₁, not-spare l i 2 e₂, not-spare l i 3 e) in
+        let most : four (heldIn l) ≤ four bound =
+        omega (arith, not-spare l i 0 e₀, not-spare l i 1 e₁, not-spare l i 2 e₂, not-spare l i 3 e) in
         omega (
           arith,
           most,

@@ -11,6 +11,7 @@ pub mod Calls
 pub mod Settling
 pub mod AcceptLaws
 pub mod CallLaws
+pub mod HeldLaws
 pub mod Readable
 pub mod LoanLaws
 pub mod EntryLaws
@@ -18,4 +19,5 @@ pub mod OpeningLaws
 pub mod Polls
 pub mod Start
 pub mod Reached
+pub mod Replies
 pub mod Claims

@@ -8,6 +8,7 @@ use mathlib.Core.Option.{none}
 use lib.Dec.{leb, ltb}
 use lib.ListN.{length, take, drop}
 use borrow.Author.Tests.{leb-true, leb-false, le-leb, lt-leb, le-ltb, lt-ltb, ltb-true, ltb-false}
+use Rattle.forms.specs.Limits.{liveLimit}
 use Rattle.forms.specs.Forms.{Update, Answer}
 use Rattle.forms.specs.declared.Refusal.{Refusal}
 use Rattle.forms.specs.declared.Refusal.the-variants.{OutOfTurn}
@@ -16,8 +17,8 @@ use Rattle.rules.specs.State.{State, Reply, refused, ok, live, settle}
 use Rattle.rules.specs.Calls.{Call, unless, step, tableFull, restart}
 use Rattle.rules.specs.When.{lastly, stepWhen}
 use Rattle.rules.specs.Within.{keptLive, stepWithin, restartWithin}
-use Rattle.rules.specs.Good.{Good}
-use Rattle.rules.specs.GoodLaws.{good-step, good-restart}
+use Rattle.rule_laws.specs.Good.{Good}
+use Rattle.rule_laws.specs.GoodLaws.{good-step, good-restart}
 use Rattle.compact.specs.Module.{least, slotAt, restoringIn, liveOf, taken, uncovered, meetsTen, promisedAgain, Move, At, Restart, slotOf}
 use Rattle.compact.specs.Module.{replyOf, promiseOf, nextOf}
 use Rattle.compact.specs.Module as compact
@@ -107,14 +108,14 @@ flag-uses n count room e = go (leb room count) refl (leb 64 count) refl
         ap (λ (t : Bool). t || leb 64 count) (lt-leb n count (omega (arith, e, leb-false room count p, leb-false 64 count q)) ∙ sym p)
 
 -- "a cut or restart exactly when its kept live lines exceed 128 − what the others claim": they are at most 64
-flag-keeps : (kept room : ℕ) → kept ≤ 64 → ltb (min 64 room) kept ≡ ltb room kept
+flag-keeps : (kept room : ℕ) → kept ≤ liveLimit → ltb (min liveLimit room) kept ≡ ltb room kept
 flag-keeps kept room le = go (ltb room kept) refl
   where
-    go : (a : Bool) → ltb room kept ≡ a → ltb (min 64 room) kept ≡ a
-    go true p = lt-ltb (min 64 room) kept (omega (arith, ltb-true room kept p))
-    go false p = le-ltb (min 64 room) kept (omega (arith, ltb-false room kept p, le))
+    go : (a : Bool) → ltb room kept ≡ a → ltb (min liveLimit room) kept ≡ a
+    go true p = lt-ltb (min liveLimit room) kept (omega (arith, ltb-true room kept p))
+    go false p = le-ltb (min liveLimit room) kept (omega (arith, ltb-false room kept p, le))
 
-kept-good : (x : Reply) → ((after : State) (a : Answer) → x ≡ ok after a → Good after) → keptLive x ≤ 64
+kept-good : (x : Reply) → ((after : State) (a : Answer) → x ≡ ok after a → Good after) → keptLive x ≤ liveLimit
 kept-good (refused q) g = omega arith
 kept-good (ok after a) g = g after a refl .few
 

@@ -1,6 +1,5 @@
 -- The numbers of the table's entries in one list: slot j's part of it has 64 places, from place 64 · j on. The first of them are the
--- numbers
--- that the slot holds: those of its live operations, and behind them free ones.
+-- numbers that the slot holds: those of its live operations, and behind them free ones.
 use Prim.Native.Nat.{ℕ, _+_, _*_, _≤_, _<_}
 use mathlib.Core.Path.{_≡_}
 use mathlib.Core.Logic.{_⊎_}

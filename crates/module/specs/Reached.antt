@@ -1,7 +1,5 @@
 -- Every list of the module's calls, each keeping its contract, is a run of the specification: so what is claimed of `runAll` and of a
--- slot's
--- site in it (`slot-recovery`, `slot-arrival`, `slot-orders`, `promise-kept`, `replies-alone` of crates/compact) is so of what the code
--- has.
+-- slot's site in it (crates/compact) is so of what the code has (Claims.antt, Replies.antt).
 use Prim.Native.Nat.{ℕ, _*_}
 use mathlib.Core.Path.{_≡_, refl, sym, ap, subst, _∙_}
 use mathlib.Core.Bool.{Bool, true, false, cond}
@@ -68,7 +66,7 @@ put-same i f = λ t j. at j (eqb j i) refl t
     at j true e = ap (λ (c : Bool). cond c (f i) (f j)) e ∙ ap f (sym (eqb-true j i e))
     at j false e = ap (λ (c : Bool). cond c (f i) (f j)) e
 
-around-same : (w : World) (i : ℕ) (ns : List ℕ) → around i (lentOf w i ns) (w .memory .logs) (w .memory .books) ≡ w .memory
+pub around-same : (w : World) (i : ℕ) (ns : List ℕ) → around i (lentOf w i ns) (w .memory .logs) (w .memory .books) ≡ w .memory
 around-same w i ns =
     let b = w .memory in
     λ t. record { rows = b .rows; numbers = b .numbers; logs = put-same i (b .logs) t; books = put-same i (b .books) t }
@@ -86,7 +84,7 @@ refused-stays : (x : Move) (s : ModuleState) (q : Refusal) → replyOf x s ≡ r
 unfolding nextOf
 refused-stays x s q e = ap (λ (y : Reply). settleIn (slotOf x) y (promiseOf x (slotAt (slotOf x) s)) s) e
 
-step-world : (u : World) {x : Move} {w : World} → ValidWorld u → Transition u x w → StepsTo u x w
+pub step-world : (u : World) {x : Move} {w : World} → ValidWorld u → Transition u x w → StepsTo u x w
 step-world u v (calls x ns r new D) =
     go (replyOf x (viewOf (u .code) here)) refl (D (u .memory .logs) (u .memory .books) v′)
   where

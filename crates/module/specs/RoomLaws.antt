@@ -20,7 +20,7 @@ use Rattle.rules.specs.Calls.{Add, Redo, tableFull, unless, writable}
 use Rattle.rules.specs.When.{stepWhen, performWhen, addWhen, redoWhen, redoReadWhen}
 use Rattle.compact.specs.Module.{others, slotAt, taken, uncovered, liveOf}
 use Rattle.compact.specs.Module as compact
-use Rattle.compact.specs.Fits.{claims, mine, taken-is, not-taken, uncovered-is, covered}
+use Rattle.compact.specs.Fits.{claims, taken-is, not-taken, uncovered-is, covered}
 use Rattle.site.specs.Representation.{Sound}
 use Rattle.site.specs.Model.{represented}
 use Rattle.site.specs.SeenLaws.{live-is}
@@ -81,9 +81,6 @@ module _ (l : List Slot) (b : Memory) (v : ValidSlots l b) where
 
     pub live-few : liveIn l i ≤ partRoom
     live-few = omega (arith, v .few i li, v .shared .few i li)
-
-    pub promise-few : slotIn l i .promise ≤ partRoom
-    promise-few = omega (arith, mine i (viewIn l b) (v .fits) li .mayUse, ap (λ (s : compact.Slot). s .promise) (slot-at (viewAt l b) i li))
 
     -- "An add or redo is refused 10 .. when the free entries do not exceed what the others still lack of their promise."
     pub taken-room : taken i (viewIn l b) ≡ leb (roomIn l i) (liveIn l i)

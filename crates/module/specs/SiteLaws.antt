@@ -5,6 +5,7 @@ use mathlib.Core.Path.{_≡_, sym, ap, subst, _∙_}
 use mathlib.Core.List.{List, [], map}
 use lib.ListN.{length, getD, take, drop}
 use lib.Seq.{length-take-le, take-take, getD-take}
+use Rattle.forms.specs.Limits.{liveLimit}
 use Rattle.history.specs.Entries.{UsableEntry}
 use Rattle.table.specs.declared.Table.{Table}
 use Rattle.table.specs.Order.{tally}
@@ -22,7 +23,7 @@ use Rattle.site.specs.ModelLaws.{withRows}
 
 -- the entries of an order that a site may use, the live ones first
 pub record Usables (t : Table) (o ws : List ℕ) : Type 0 where
-  pub long : length o ≤ 64
+  pub long : length o ≤ liveLimit
   pub few : liveCount t ≤ length o
   pub within : (i : ℕ) → i < length o → HasRow ws (getD o i 0)
   pub once : (e : ℕ) → tally e o ≤ 1

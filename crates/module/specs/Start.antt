@@ -17,7 +17,7 @@ use Rattle.site.specs.OpenLaws.{blankSite}
 use Rattle.module.specs.declared.Slot.{Slot}
 use Rattle.module.specs.declared.Module.{Module}
 use Rattle.module.specs.Four.{four, true-false}
-use Rattle.module.specs.Parts.{tableRoom, partOf}
+use Rattle.module.specs.Parts.{tableRoom, partRoom, partOf}
 use Rattle.module.specs.Model.{slotIn, liveIn, heldIn, Memory, ValidModule, viewOf}
 
 abbrev slotOf : Site → ℕ → Slot
@@ -57,7 +57,7 @@ starts ns long e rows logs books size =
       state = refl;
     }
   where
-    few : (j : ℕ) → j < 4 → heldIn madeSlots j ≤ 64
+    few : (j : ℕ) → j < 4 → heldIn madeSlots j ≤ partRoom
     few zero lt = omega arith
     few (suc zero) lt = omega arith
     few (suc (suc zero)) lt = omega arith

@@ -29,14 +29,19 @@ impl Module {
         ensures { λ r. ⌜ Moves self (Move.At slot (Call.Finish id)) (old log rows numbers book lists) r
             (new log rows numbers book lists) ⌝ }
     {
-        if self.is_open(slot) {
-            let slots = self.slots;
-            let own = slots[slot];
-            let site = own.site;
-            let a = PART * slot;
-            let e = a + own.live();
-            let r = site.finish(log, rows, &mut numbers[a..e], book, lists, id);
-            return self.conclude(slot, r, own.promise);
+        if slot < Module::SLOTS {
+            let mut after = self;
+            let own = after.slots[slot];
+            if own.opened {
+                let site = own.site;
+                let a = PART * slot;
+                let e = a + own.live();
+                let r = site.finish(log, rows, &mut numbers[a..e], book, lists, id);
+                after.slots[slot] = own.with(r.site);
+                let reply = r.reply;
+                return ModuleResult { after, reply };
+            }
+            return self.refuse(Refusal::OutOfTurn);
         }
         self.refuse(Refusal::OutOfTurn)
     }

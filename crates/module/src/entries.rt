@@ -116,16 +116,26 @@ impl Module {
         ensures { λ r. ⌜ Moves self (Move.At slot (Call.Add id (updatesHeld asked))) (old log rows numbers book lists) r
             (new log rows numbers book lists) ⌝ }
     {
-        if self.is_open(slot) {
-            let slots = self.slots;
-            let own = slots[slot];
-            let site = own.site;
-            let n = lesser(own.live() + 1, self.may_use(slot));
-            let loan = self.lend(numbers, slot, n);
-            let a = PART * slot;
-            let e = a + n;
-            let r = site.add(log, rows, &numbers[a..e], book, lists, id, asked);
-            return self.settle(numbers, slot, loan, r, own.promise);
+        if slot < Module::SLOTS {
+            let mut after = self;
+            let own = after.slots[slot];
+            if own.opened {
+                let site = own.site;
+                let n = lesser(own.live() + 1, after.may_use(slot));
+                let a = PART * slot;
+                let e = a + n;
+                if n <= own.held {
+                    let r = site.add(log, rows, &numbers[a..e], book, lists, id, asked);
+                    after.slots[slot] = own.with(r.site);
+                    let reply = r.reply;
+                    return ModuleResult { after, reply };
+                }
+                let loan = after.lend(numbers, slot, n);
+                let r = site.add(log, rows, &numbers[a..e], book, lists, id, asked);
+                return after.settle(numbers, slot, loan, r, own.promise);
+            }
+            trimmed_asked(asked);
+            return self.refuse(Refusal::OutOfTurn);
         }
         trimmed_asked(asked);
         self.refuse(Refusal::OutOfTurn)

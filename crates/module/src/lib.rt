@@ -2,6 +2,8 @@
 // opened, is refused 14. A call requires the invariant, which `Module::new` establishes and every call keeps, and nothing else; a refused
 // one leaves all that is lent as it was.
 ghost use mathlib.Core.Path.{_≡_};
+ghost use mathlib.Core.Bool.{cond};
+ghost use lib.Dec.{eqb};
 ghost use Prim.Native.Nat.{_≤_, _<_, max};
 ghost use lib.ListN.{length};
 ghost use Rattle.table.specs.Ends.{was, left};
@@ -11,10 +13,11 @@ ghost use Rattle.module.specs.Model.{slotIn};
 ghost use Rattle.module.specs.Gather.{MayGather};
 ghost use Rattle.module.specs.RoomLaws.{mayUse};
 ghost use Rattle.module.specs.LoanLaws.{againIn};
-ghost use Rattle.module.specs.Calls.{Claims, refuses, answered, Concludes, Lends, Settles, Turns};
+ghost use Rattle.module.specs.Calls.{Claims, refuses, slotWith, answered, Concludes, Lends, Settles, Turns};
 use forms::Refusal;
 use forms::ReplyForm;
 use forms::ReplyLine;
+use numbers::PART;
 use numbers::gather;
 use numbers::part_of;
 use numbers::put_part;
@@ -54,7 +57,7 @@ pub struct ModuleResult {
 // The slots after one of them was lent free numbers of its neighbours, and its part of the numbers as it was.
 struct Loan {
     slots: [Slot; 4],
-    saved: [u8; 64],
+    saved: [u8; PART],
 }
 
 // Whether a reply is a refusal.
@@ -91,6 +94,29 @@ impl Slot {
         ensures { λ r. ⌜ r ≡ max (liveCount (self .site .table)) (self .promise) ⌝ }
     {
         greater(self.live(), self.promise)
+    }
+
+    // What slot j claims beside another slot: nothing, if it is this one.
+    fn claim_beside(self, j: usize, slot: usize) -> usize
+        requires { ⌜ liveCount (self .site .table) ≤ partRoom ⌝ }
+        ensures { λ r. ⌜ r ≡ cond (eqb j slot) 0 (max (liveCount (self .site .table)) (self .promise)) ⌝ }
+    {
+        if j == slot {
+            return 0;
+        }
+        self.claim()
+    }
+
+    // The slot with the site that a call handed back.
+    fn with(self, site: Site) -> Slot
+        ensures { λ r. ⌜ r ≡ slotWith site (self .promise) (self .held) ⌝ }
+    {
+        Slot {
+            site,
+            opened: true,
+            promise: self.promise,
+            held: self.held,
+        }
     }
 
     // "Until its restoring ends, a cut or restarted site is promised as many as it had live, if more than 16; over further cuts the largest
@@ -137,14 +163,15 @@ impl Module {
         requires { ⌜ Claims (self .slots) slot ⌝ }
         ensures { λ r. ⌜ r ≡ mayUse (self .slots) slot ⌝ }
     {
-        let slots = self.slots;
-        let a = slots[0];
-        let b = slots[1];
-        let c = slots[2];
-        let d = slots[3];
-        let own = slots[slot];
-        let all = a.claim() + b.claim() + c.claim() + d.claim();
-        let room = Module::ENTRIES + own.claim() - all;
+        let a = self.slots[0];
+        let b = self.slots[1];
+        let c = self.slots[2];
+        let d = self.slots[3];
+        let others = a.claim_beside(0, slot)
+            + b.claim_beside(1, slot)
+            + c.claim_beside(2, slot)
+            + d.claim_beside(3, slot);
+        let room = Module::ENTRIES - others;
         if room < Site::LIVE { room } else { Site::LIVE }
     }
 

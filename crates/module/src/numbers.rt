@@ -10,17 +10,17 @@ ghost use Rattle.module.specs.Gather.{MaySpare, spareAt, IsSpare, MayGiv
 use super::Slot;
 
 // The places of a slot's part.
-pub const PART: usize = 64;
+pub const PART: usize = forms::limits::LIVE;
 
 // A slot's part of the numbers.
-pub fn part_of(numbers: &[u8], slot: usize) -> [u8; 64]
+pub fn part_of(numbers: &[u8], slot: usize) -> [u8; PART]
     requires { ⌜ (slot < 4) × (length (now numbers) ≡ 256) ⌝ }
     ensures { λ r. ⌜ r ≡ partOf slot 64 (was numbers) ⌝ }
 {
     let at = PART * slot;
-    let mut part = [0u8; 64];
+    let mut part = [0u8; PART];
     let mut i: usize = 0;
-    while i < 64 {
+    while i < PART {
         part[i] = numbers[at + i];
         i += 1;
     }
@@ -28,13 +28,13 @@ pub fn part_of(numbers: &[u8], slot: usize) -> [u8; 64]
 }
 
 // A slot's part of the numbers becomes this.
-pub fn put_part(numbers: &mut [u8], slot: usize, part: [u8; 64])
+pub fn put_part(numbers: &mut [u8], slot: usize, part: [u8; PART])
     requires { ⌜ (slot < 4) × (length (now numbers) ≡ 256) ⌝ }
     ensures { λ r. ⌜ left numbers ≡ take (64 * slot) (was numbers) ++ (part ++ drop (64 * slot + 64) (was numbers)) ⌝ }
 {
     let at = PART * slot;
     let mut i: usize = 0;
-    while i < 64 {
+    while i < PART {
         numbers[at + i] = part[i];
         i += 1;
     }

@@ -138,6 +138,7 @@ fn figures() -> Vec<Figure> {
         hand_out("keeper, four updates a line", wide),
         removals(),
         find_cut(log),
+        slot_calls(),
     ]
 }
 
@@ -272,6 +273,38 @@ fn site_calls() -> Figure {
         },
     ];
     Figure { name: "the same without text", unit: "calls/s", work: 2.0 * OPERATIONS as f64, runs }
+}
+
+/// The library beside itself: what figure 6 does by a site's own calls, and by those of a
+/// slot of a module. The slot is the last, which holds no entry at first.
+fn slot_calls() -> Figure {
+    Figure {
+        name: "in a slot of a module",
+        unit: "calls/s",
+        work: 2.0 * OPERATIONS as f64,
+        runs: library_serves(),
+    }
+}
+
+#[cfg(feature = "library")]
+fn library_serves() -> Vec<Run> {
+    use second::library::Library;
+    let (mut log, mut own) = (vec![0; Site::LONGEST_LOG], vec![0; Site::LONGEST_LOG]);
+    vec![
+        Box::new(move || {
+            let used = Library.add_and_finish(&mut log, OPERATIONS as u64);
+            assert!(black_box(used) <= log.len());
+        }),
+        Box::new(move || {
+            let used = Library.add_and_finish_in(&mut own, black_box(3), OPERATIONS as u64);
+            assert!(black_box(used) <= own.len());
+        }),
+    ]
+}
+
+#[cfg(not(feature = "library"))]
+fn library_serves() -> Vec<Run> {
+    Vec::new()
 }
 
 /// `(add ..)` of the operation with this number, in one of four histories.

@@ -1,7 +1,8 @@
-//! The compact module by itself: its laws on random lists of calls, its edges, a full table from
-//! which everything comes back, and that each broken rule of it is noticed.
+//! The compact module: its laws on random lists of calls, its edges, a full table from which
+//! everything comes back, that each broken rule of it is noticed, and the same lists over the library.
 
 mod calls;
+mod compared;
 #[path = "../differential/random.rs"]
 #[allow(dead_code)]
 mod random;

@@ -1,15 +1,15 @@
--- The site is lent the numbers of its live operations, with which it is valid; its contract is the slot's.
+-- The site is lent the numbers of its live operations, with which it is valid; its contract is the slot's, which a refused call leaves as it was.
 use denote.Ref.{now}
-use Prim.Native.Nat.{_+_, _*_, _-_, _≤_, _<_}
+use Prim.Native.Nat.{_+_, _*_, _-_, _≤_}
 use native.Mathlib.Omega.{arith}
-use mathlib.Core.Path.{_≡_, refl, sym, _∙_}
-use mathlib.Core.Bool.{true}
+use mathlib.Core.Path.{refl, sym}
 use mathlib.Core.List.{[]}
 use Rattle.rules.specs.Calls.{Call}
 use Rattle.compact.specs.Module.{At}
 use Rattle.site.specs.Model.{Lent, lent}
-use Rattle.module.specs.Model.{slotIn, liveIn}
-use Rattle.module.specs.CallLaws.{with-size, with-long, with-few, with-below, with-live, serves, turns, turned-away}
+use Rattle.module.specs.Model.{liveIn}
+use Rattle.module.specs.CallLaws.{past-last, with-size, with-long, with-few, with-live, turns, turned-away}
+use Rattle.module.specs.HeldLaws.{serves-held}
 use Rattle.module.specs.Readable.{readable-plain}
 use borrow.Author.Needs.{needs}
 use Rattle.module.proofs.Module.finish.Statement.{statement}
@@ -18,33 +18,23 @@ use Rattle.module.proofs.Module.finish.Tie as tie
 abbrev came : tie.Start → Lent
 came s = lent (now (s .args .log)) (now (s .args .rows)) (now (s .args .numbers)) (now (s .args .book)) []
 
--- the slot is opened
-opened : (t : tie.Then1) → slotIn (t .before .before .before .before .before .args .self .slots) (t .before .before .before .before .before .args .slot) .opened ≡ true
-opened t = sym (t .before .is-open .ensures) ∙ t .if1 .taken
-
-below : (t : tie.Then1) → t .before .before .before .before .before .args .slot < 4
-below t = let s = t .before .before .before .before .before in with-below (s .args .self) (s .args .slot) (came s) (s .pre) (opened t)
-
-is-open-requires : tie.Need-is-open-requires
-is-open-requires c κs = let s = c .before .before .before in with-size (s .args .self) (s .args .slot) (came s) (s .pre)
-
 mul-own : tie.Need-mul-own
-mul-own c = let q = below (c .before) in omega (arith, q)
+mul-own c = search needs
 
-array-copy-out-own : tie.Need-array-copy-out-own
-array-copy-out-own c = below (c .before)
+element-copy-out-own : tie.Need-element-copy-out-own
+element-copy-out-own c = search needs
 
 mul-a : tie.Need-mul-a
-mul-a c = let q = below (c .before .before .before) in omega (arith, q)
+mul-a c = search needs
+
+few : (c : tie.After-site) → liveIn (c .before .before .before .before .before .before .before .args .self .slots) (c .before .before .before .before .before .before .before .args .slot) ≤ 64
+few c = let s = c .before .before .before .before .before .before .before in with-few (s .args .self) (s .args .slot) (came s) (s .pre) (c .before .before .before .if1 .taken)
 
 live-requires : tie.Need-live-requires
-live-requires c κs = let s = c .before .before .before .before .before .before .before .before in with-few (s .args .self) (s .args .slot) (came s) (s .pre) (below (c .before .before .before))
-
-few : (l : tie.After-live) → liveIn (l .before .before .before .before .before .before .before .before .before .args .self .slots) (l .before .before .before .before .before .before .before .before .before .args .slot) ≤ 64
-few l = let s = l .before .before .before .before .before .before .before .before .before in with-few (s .args .self) (s .args .slot) (came s) (s .pre) (below (l .before .before .before .before))
+live-requires c κs = few c
 
 add-e : tie.Need-add-e
-add-e c = let q = below (c .before .before .before .before) in let f = few c in omega (arith, q, f, c .live .ensures)
+add-e c = let f = few (c .before) in omega (arith, c .before .before .before .before .if1 .taken, f, c .live .ensures)
 
 sub-finish : tie.Need-sub-finish
 sub-finish c = search needs
@@ -54,20 +44,25 @@ part-finish-start c = search needs
 
 part-finish-end : tie.Need-part-finish-end
 part-finish-end c =
-    let s = c .before .before .before .before .before .before .before .before .before .before .before in
-    let q = below (c .before .before .before .before .before .before) in
-    let f = few (c .before .before) in
+    let s = c .before .before .before .before .before .before .before .before .before .before in
+    let f = few (c .before .before .before) in
     let w = with-long (s .args .self) (s .args .slot) (came s) (s .pre) in
-    omega (arith, q, f, c .before .before .live .ensures, w)
+    omega (arith, c .before .before .before .before .before .before .if1 .taken, f, c .before .before .live .ensures, w)
 
 finish-requires : tie.Need-finish-requires
 finish-requires c κs =
-    let s = c .before .before .before .before .before .before .before .before .before .before .before .before .before .before in
-    let l = c .before .before .before .before .before in
-    with-live (s .args .self) (s .args .slot) (came s) (s .pre) (opened (c .before .before .before .before .before .before .before .before .before)) (64 * s .args .slot + l .live .result - 64 * s .args .slot) (omega (arith, l .live .ensures)) []
+    let s = c .before .before .before .before .before .before .before .before .before .before .before .before .before in
+    with-live (s .args .self) (s .args .slot) (came s) (s .pre) (c .before .before .before .before .before .before .before .if2 .taken)
+    (64 * s .args .slot + c .before .before .before .before .before .live .result - 64 * s .args .slot) (omega (arith, c .before .before .before .before .before .live .ensures)) []
 
-conclude-requires : tie.Need-conclude-requires
-conclude-requires c κs = let s = c .before .before .before .before .before .before .before .before .before .before .before .before .before .before .before .before .before .before .before .before .before in (below (c .before .before .before .before .before .before .before .before .before .before .before .before .before .before .before .before), with-size (s .args .self) (s .args .slot) (came s) (s .pre))
+with-requires : tie.Need-with-requires
+with-requires c κs = search needs
+
+mul-t22 : tie.Need-mul-t22
+mul-t22 c = omega (arith, c .before .before .before .before .before .before .before .before .before .before .before .before .before .before .before .before .before .if1 .taken)
+
+element-set-from-after : tie.Need-element-set-from-after
+element-set-from-after c = c .before .before .before .before .before .before .before .before .before .before .before .before .before .before .before .before .before .if1 .taken
 
 same-length : tie.Need-same-length
 same-length c = search needs
@@ -80,29 +75,40 @@ same-length-3 c = search needs
 
 returns : tie.Need-returns
 returns c =
-    let s = c .before .before .before .before .before .before .before .before .before .before .before .before .before .before .before .before .before .before .before .before .before .before in
-    let a = s .args in
-    let l = c .before .before .before .before .before .before .before .before .before .before .before .before .before in
-    serves (a .self) (a .slot) (Call.Finish (a .id)) (lent (now (a .log)) (now (a .rows)) (now (a .numbers)) (now (a .book)) (now (a .lists))) refl (opened (c .before .before .before .before .before .before .before .before .before .before .before .before .before .before .before .before .before)) (64 * a .slot + l .live .result - 64 * a .slot) (omega (arith, l .live .ensures)) _ _ _ _ _ _ (search needs) _ (λ z e. sym e) _ (c .conclude .ensures) (c .before .before .before .before .before .before .before .finish .ensures)
+    let a = c .before .before .before .before .before .before .before .before .before .before .before .before .before .before .before .before .before .before .before .before .before .before .args in
+    serves-held (a .self) (a .slot) (Call.Finish (a .id)) (lent (now (a .log)) (now (a .rows)) (now (a .numbers)) (now (a .book)) (now (a .lists)))
+    refl (c .before .before .before .before .before .before .before .before .before .before .before .before .before .before .before .before .if2 .taken) (64 * a .slot + c .before .before .before .before .before .before .before .before .before .before .before .before .before .before .live .result - 64 * a .slot) (omega (arith, c .before .before .before .before .before .before .before .before .before .before .before .before .before .before .live .ensures)) (c .before .before .before .before .before .before .before .before .finish .result) _ _ _ _ _
+    (search needs) (λ z e. sym e) _ (c .before .with .ensures) (c .before .before .before .before .before .before .before .before .finish .ensures)
 
 refuse-requires : tie.Need-refuse-requires
 refuse-requires c κs = search needs
 
 returns-2 : tie.Need-returns-2
 returns-2 c =
-    let s = c .before .before .before .before .before .before in
+    let s = c .before .before .before .before .before .before .before in
     let a = s .args in
     turns (a .self) (At (a .slot) (Call.Finish (a .id))) (lent (now (a .log)) (now (a .rows)) (now (a .numbers)) (now (a .book)) (now (a .lists))) _ _ (c .refuse .ensures)
-    (λ b v. turned-away (a .self .slots) b v (a .slot) (Call.Finish (a .id)) (sym (c .before .before .is-open .ensures) ∙ c .before .if1 .left)
+    (λ b v. turned-away (a .self .slots) b v (a .slot) (Call.Finish (a .id)) (c .before .if2 .left)
+    (readable-plain (Call.Finish (a .id)) refl (omega (arith, s .fits .id))))
+
+refuse-requires-2 : tie.Need-refuse-requires-2
+refuse-requires-2 c κs = search needs
+
+returns-3 : tie.Need-returns-3
+returns-3 c =
+    let s = c .before .before .before .before .before in
+    let a = s .args in
+    turns (a .self) (At (a .slot) (Call.Finish (a .id))) (lent (now (a .log)) (now (a .rows)) (now (a .numbers)) (now (a .book)) (now (a .lists))) _ _ (c .refuse2 .ensures)
+    (λ b v. turned-away (a .self .slots) b v (a .slot) (Call.Finish (a .id))
+    (sym (past-last (a .self .slots) (a .slot) (with-size (a .self) (a .slot) (came s) (s .pre)) (c .before .if1 .left)))
     (readable-plain (Call.Finish (a .id)) refl (omega (arith, s .fits .id))))
 
 pub finish-spec : {M : Type 1} → statement M
 finish-spec =
     tie.close
     (tie.spec
-    is-open-requires
     mul-own
-    array-copy-out-own
+    element-copy-out-own
     mul-a
     live-requires
     add-e
@@ -110,10 +116,14 @@ finish-spec =
     part-finish-start
     part-finish-end
     finish-requires
-    conclude-requires
+    with-requires
+    mul-t22
+    element-set-from-after
     same-length
     same-length-2
     same-length-3
     returns
     refuse-requires
-    returns-2)
+    returns-2
+    refuse-requires-2
+    returns-3)

@@ -1,95 +1,85 @@
--- The sum of the four claims is at most the table, so the differences are true ones.
+-- The others' claims and the slot's own are at most the table, so the difference is a true one.
+use Prim.Native.Nat.{_+_}
 use native.Mathlib.Omega.{arith}
-use Rattle.module.specs.CallLaws.{claims-most, claims-sum, room-low, room-high}
+use mathlib.Core.Path.{_≡_}
+use Rattle.module.specs.Four.{four}
+use Rattle.module.specs.Model.{claimIn}
+use Rattle.module.specs.HeldLaws.{others-sum, beside-few, others-low, others-high}
 use borrow.Author.Needs.{needs}
 use Rattle.module.proofs.Module.may_use.Statement.{statement}
 use Rattle.module.proofs.Module.may_use.Tie as tie
 
-array-copy-out-a : tie.Need-array-copy-out-a
-array-copy-out-a c = search needs
+-- what the four sums add up to
+sums : (c : tie.After-claim-beside4) → c .before .before .before .claim-beside .result + c .before .before .claim-beside2 .result + c .before .claim-beside3 .result
+    + c .claim-beside4 .result + claimIn (c .before .before .before .before .before .before .before .before .args .t1 .slots) (c .before .before .before .before .before .before .before .before .args .slot) ≡ four (claimIn (c .before .before .before .before .before .before .before .before .args .t1 .slots))
+sums c =
+    let s = c .before .before .before .before .before .before .before .before in
+    others-sum (s .args .t1 .slots) (s .args .slot) (s .pre .own) _ _ _ _ (c .before .before .before .claim-beside .ensures) (c .before .before .claim-beside2 .ensures)
+    (c .before .claim-beside3 .ensures) (c .claim-beside4 .ensures)
 
-array-copy-out-b : tie.Need-array-copy-out-b
-array-copy-out-b c = search needs
+element-copy-out-a : tie.Need-element-copy-out-a
+element-copy-out-a c = search needs
 
-array-copy-out-c : tie.Need-array-copy-out-c
-array-copy-out-c c = search needs
+element-copy-out-b : tie.Need-element-copy-out-b
+element-copy-out-b c = search needs
 
-array-copy-out-d : tie.Need-array-copy-out-d
-array-copy-out-d c = search needs
+element-copy-out-c : tie.Need-element-copy-out-c
+element-copy-out-c c = search needs
 
-mul-own : tie.Need-mul-own
-mul-own c = search needs
+element-copy-out-d : tie.Need-element-copy-out-d
+element-copy-out-d c = search needs
 
-array-copy-out-own : tie.Need-array-copy-out-own
-array-copy-out-own c = search needs
+claim-beside-requires : tie.Need-claim-beside-requires
+claim-beside-requires c κs = c .before .before .before .before .pre .few 0 (omega arith)
 
-claim-requires : tie.Need-claim-requires
-claim-requires c κs = let p = c .before .before .before .before .before .before .pre in p .few 0 (omega arith)
+claim-beside-requires-2 : tie.Need-claim-beside-requires-2
+claim-beside-requires-2 c κs = c .before .before .before .before .before .pre .few 1 (omega arith)
 
-claim-requires-2 : tie.Need-claim-requires-2
-claim-requires-2 c κs = let p = c .before .before .before .before .before .before .before .pre in p .few 1 (omega arith)
+add-others : tie.Need-add-others
+add-others c =
+    let s = c .before .before .before .before .before .before in
+    let few = beside-few (s .args .t1 .slots) (s .args .slot) (s .pre) in
+    omega (arith, few 0 (omega arith) _ (c .before .claim-beside .ensures), few 1 (omega arith) _ (c .claim-beside2 .ensures))
 
-add-all : tie.Need-add-all
-add-all c = omega (arith, c .before .claim .ensures, c .claim2 .ensures, claims-most _ _ (c .before .before .before .before .before .before .before .before .pre) 0 (omega arith), claims-most _ _ (c .before .before .before .before .before .before .before .before .pre) 1 (omega arith))
+claim-beside-requires-3 : tie.Need-claim-beside-requires-3
+claim-beside-requires-3 c κs = c .before .before .before .before .before .before .pre .few 2 (omega arith)
 
-claim-requires-3 : tie.Need-claim-requires-3
-claim-requires-3 c κs = let p = c .before .before .before .before .before .before .before .before .pre in p .few 2 (omega arith)
+add-others-2 : tie.Need-add-others-2
+add-others-2 c =
+    let s = c .before .before .before .before .before .before .before in
+    let few = beside-few (s .args .t1 .slots) (s .args .slot) (s .pre) in
+    omega (arith, few 0 (omega arith) _ (c .before .before .claim-beside .ensures), few 1 (omega arith) _ (c .before .claim-beside2 .ensures), few 2 (omega arith) _ (c .claim-beside3 .ensures))
 
-add-all-2 : tie.Need-add-all-2
-add-all-2 c = omega (arith, c .before .before .claim .ensures, c .before .claim2 .ensures, c .claim3 .ensures, claims-most _ _ (c .before .before .before .before .before .before .before .before .before .pre) 0 (omega arith), claims-most _ _ (c .before .before .before .before .before .before .before .before .before .pre) 1 (omega arith), claims-most _ _ (c .before .before .before .before .before .before .before .before .before .pre) 2 (omega arith))
+claim-beside-requires-4 : tie.Need-claim-beside-requires-4
+claim-beside-requires-4 c κs = c .before .before .before .before .before .before .before .pre .few 3 (omega arith)
 
-claim-requires-4 : tie.Need-claim-requires-4
-claim-requires-4 c κs = let p = c .before .before .before .before .before .before .before .before .before .pre in p .few 3 (omega arith)
-
-add-all-3 : tie.Need-add-all-3
-add-all-3 c = omega (arith, c .before .before .before .claim .ensures, c .before .before .claim2 .ensures, c .before .claim3 .ensures, c .claim4 .ensures, claims-most _ _ (c .before .before .before .before .before .before .before .before .before .before .pre) 0 (omega arith), claims-most _ _ (c .before .before .before .before .before .before .before .before .before .before .pre) 1 (omega arith), claims-most _ _ (c .before .before .before .before .before .before .before .before .before .before .pre) 2 (omega arith), claims-most _ _ (c .before .before .before .before .before .before .before .before .before .before .pre) 3 (omega arith))
-
-claim-requires-5 : tie.Need-claim-requires-5
-claim-requires-5 c κs = let p = c .before .before .before .before .before .before .before .before .before .before .pre in p .few (c .before .before .before .before .before .before .before .before .before .before .args .slot) (p .own)
-
-add-room : tie.Need-add-room
-add-room c = omega (arith, c .claim5 .ensures, claims-most _ _ (c .before .before .before .before .before .before .before .before .before .before .before .pre) (c .before .before .before .before .before .before .before .before .before .before .before .args .slot) (c .before .before .before .before .before .before .before .before .before .before .before .pre .own))
+add-others-3 : tie.Need-add-others-3
+add-others-3 c = omega (arith, sums c, c .before .before .before .before .before .before .before .before .pre .fit)
 
 sub-room : tie.Need-sub-room
-sub-room c =
-    let a = c .before .before .before .before .before .before .before .before .before .before .before .args in
-    omega (
-      arith,
-      c .before .before .before .before .before .before .before .before .before .before .before .pre .fit,
-      claims-sum (a .self .slots) _ _ _ _ (c .before .before .before .before .claim .ensures) (c .before .before .before .claim2 .ensures) (c .before .before .claim3 .ensures) (c .before .claim4 .ensures),
-    )
+sub-room c = omega (arith, sums c, c .before .before .before .before .before .before .before .before .pre .fit)
 
 returns : tie.Need-returns
-returns c =
-    let a = c .before .before .before .before .before .before .before .before .before .before .before .before .args in
-    room-low _ _ _ _ (c .before .claim5 .ensures)
-    (claims-sum (a .self .slots) _ _ _ _ (c .before .before .before .before .before .claim .ensures) (c .before .before .before .before .claim2 .ensures) (c .before .before .before .claim3 .ensures) (c .before .before .claim4 .ensures)) (c .if1 .taken)
+returns c = others-low _ _ _ (sums (c .before)) (c .before .before .before .before .before .before .before .before .before .pre .fit) (c .if1 .taken)
 
 returns-2 : tie.Need-returns-2
-returns-2 c =
-    let a = c .before .before .before .before .before .before .before .before .before .before .before .before .args in
-    room-high _ _ _ _ (c .before .claim5 .ensures)
-    (claims-sum (a .self .slots) _ _ _ _ (c .before .before .before .before .before .claim .ensures) (c .before .before .before .before .claim2 .ensures) (c .before .before .before .claim3 .ensures) (c .before .before .claim4 .ensures)) (c .if1 .left)
+returns-2 c = others-high _ _ _ (sums (c .before)) (c .before .before .before .before .before .before .before .before .before .pre .fit) (c .if1 .left)
 
 pub may-use-spec : {M : Type 1} → statement M
 may-use-spec =
     tie.close
     (tie.spec
-    array-copy-out-a
-    array-copy-out-b
-    array-copy-out-c
-    array-copy-out-d
-    mul-own
-    array-copy-out-own
-    claim-requires
-    claim-requires-2
-    add-all
-    claim-requires-3
-    add-all-2
-    claim-requires-4
-    add-all-3
-    claim-requires-5
-    add-room
+    element-copy-out-a
+    element-copy-out-b
+    element-copy-out-c
+    element-copy-out-d
+    claim-beside-requires
+    claim-beside-requires-2
+    add-others
+    claim-beside-requires-3
+    add-others-2
+    claim-beside-requires-4
+    add-others-3
     sub-room
     returns
     returns-2)

@@ -1,0 +1,14 @@
+pub mod Words
+pub mod WordLaws
+pub mod Model
+pub mod Lines
+pub mod HeldLaws
+pub mod CommandSaid
+pub mod FormLaws
+pub mod LineLaws
+pub mod Starts
+pub mod Restarts
+pub mod RestartLaws
+pub mod Used
+pub mod Reached
+pub mod Polls

@@ -1,0 +1,146 @@
+-- Every list of calls on a state that fm_start has filled, each keeping its contract, is a run of the specification's module: so what is
+-- claimed of `runAll` and of a slot's site in it (crates/compact) is so of what the library's owner has.
+use Prim.Native.Nat.{ℕ, _≤_}
+use mathlib.Core.Path.{_≡_, refl, sym, ap, subst, _∙_}
+use mathlib.Core.Bool.{Bool, true, false, cond}
+use mathlib.Core.List.{List, [], _∷_, _++_}
+use mathlib.Core.Option.{Option, none, some}
+use lib.Dec.{eqb}
+use lib.ListN.{length}
+use borrow.Author.Tests.{eqb-true, le-leb}
+use Rattle.forms.specs.Limits.{replyLimit}
+use Rattle.forms.specs.declared.Refusal.{Refusal}
+use Rattle.rules.specs.State.{Reply, refused, ok}
+use Rattle.compact.specs.Module.{Module as ModuleState, slotAt, made, Move, slotOf, replyOf, promiseOf, settleIn, nextOf, runAll}
+use Rattle.site.specs.Model.{Lent, lent}
+use Rattle.module.specs.Model.{Memory, put, around}
+use Rattle.fitting_module.specs.Words.{Words}
+use Rattle.fitting_module.specs.Model.{stateAt, ValidWords, ValidState}
+use Rattle.fitting_module.specs.Lines.{lineMove, lineNext, AnswersIf, AnswersLine}
+use Rattle.fitting_module.specs.Starts.{Starts}
+use Rattle.fitting_module.specs.Restarts.{RestartsBy, RestartsSlot}
+
+-- what a call of slot i is lent beside the counters
+abbrev pub lentOf : Memory → ℕ → Lent
+lentOf b i = lent (b .logs i) (b .rows) (b .numbers) (b .books i) []
+
+-- the call that a line is, if it is readable
+abbrev pub callsOf : Option Move → List Move
+callsOf none = []
+callsOf (some x) = x ∷ []
+
+-- the owner keeps a buffer from which a slot was restarted only if it is accepted
+abbrev pub keptBy : Reply → Memory → Memory → Memory
+keptBy (refused q) old new = old
+keptBy (ok st a) old new = new
+
+-- One call that keeps its contract: what it makes of the counters and of all that is lent beside them.
+pub data Called (ws : Words) (b : Memory) : List Move → Words → Memory → Type 0 where
+  line : (i : ℕ) (text : List ℕ) (n : ℕ) (after : Words) (new : Lent) (out page : List ℕ) → replyLimit ≤ length out →
+      AnswersLine i ws (lentOf b i) text n after new out page →
+      Called ws b (callsOf (lineMove i (length (b .logs i)) text)) after (around i new (b .logs) (b .books))
+  restart : (i k n : ℕ) (buffer : List ℕ) (after : Words) (new : Lent) →
+      RestartsSlot i ws (lent buffer (b .rows) (b .numbers) (b .books i) []) k n after new →
+      Called ws b (Move.Restart i buffer k ∷ []) after
+      (keptBy (replyOf (Move.Restart i buffer k) (stateAt ws b)) b (around i new (b .logs) (b .books)))
+
+-- A list of calls, one after the other.
+pub data Calls (ws : Words) (b : Memory) : List Move → Words → Memory → Type 0 where
+  start : Calls ws b [] ws b
+  next : {xs ys : List Move} {w v : Words} {c d : Memory} → Calls ws b xs w c → Called w c ys v d → Calls ws b (xs ++ ys) v d
+
+pub record Reaches (ws : Words) (b : Memory) (xs : List Move) (after : Words) (c : Memory) : Type 0 where
+  pub valid : ValidWords after c
+  pub state : stateAt after c ≡ runAll xs (stateAt ws b)
+
+-- what is put back as it was
+put-same : (i : ℕ) (f : ℕ → List ℕ) → put i (f i) f ≡ f
+unfolding put
+put-same i f = λ t j. at j (eqb j i) refl t
+  where
+    at : (j : ℕ) (b : Bool) → eqb j i ≡ b → cond (eqb j i) (f i) (f j) ≡ f j
+    at j true e = ap (λ (c : Bool). cond c (f i) (f j)) e ∙ ap f (sym (eqb-true j i e))
+    at j false e = ap (λ (c : Bool). cond c (f i) (f j)) e
+
+around-same : (b : Memory) (i : ℕ) → around i (lentOf b i) (b .logs) (b .books) ≡ b
+around-same b i = λ t.
+    record { rows = b .rows; numbers = b .numbers; logs = put-same i (b .logs) t; books = put-same i (b .books) t }
+
+-- What a valid state lends to a call of any slot is what the call requires.
+pub lent-valid : (ws : Words) (b : Memory) (i : ℕ) → ValidWords ws b → ValidState ws i (lentOf b i)
+lent-valid ws b i v = (b .logs, b .books, subst (ValidWords ws) (sym (around-same b i)) v)
+
+run-line : (x : Option Move) (s : ModuleState) → lineNext x s ≡ runAll (callsOf x) s
+unfolding lineNext runAll
+run-line none s = refl
+run-line (some x) s = refl
+
+run-append : (xs ys : List Move) (s : ModuleState) → runAll (xs ++ ys) s ≡ runAll ys (runAll xs s)
+unfolding runAll
+run-append [] ys s = refl
+run-append (x ∷ xs) ys s = run-append xs ys (nextOf x s)
+
+refused-stays : (x : Move) (s : ModuleState) (q : Refusal) → replyOf x s ≡ refused q → nextOf x s ≡ s
+unfolding nextOf
+refused-stays x s q e = ap (λ (y : Reply). settleIn (slotOf x) y (promiseOf x (slotAt (slotOf x) s)) s) e
+
+-- One call is one step of the specification, or none.
+step : (ws : Words) (b : Memory) {xs : List Move} {after : Words} {c : Memory} → ValidWords ws b → Called ws b xs after c →
+    Reaches ws b xs after c
+unfolding runAll
+step ws b v (line i text n after new out page room A) =
+    let x = lineMove i (length (b .logs i)) text in
+    let t = subst (λ (k : Bool). AnswersIf k i ws (lentOf b i) x n after new out page) (le-leb replyLimit (length out) room) A (b .logs)
+    (b .books) (subst (ValidWords ws) (sym (around-same b i)) v) .takes in
+    record {
+      valid = t .valid;
+      state = t .state ∙ ap (λ (m : Memory). lineNext x (stateAt ws m)) (around-same b i) ∙ run-line x (stateAt ws b);
+    }
+step ws b v (restart i k n buffer after new A) =
+    subst (λ (y : Reply). Reaches ws b (x ∷ []) after (keptBy y b left)) (ap (λ (m : Memory). replyOf x (stateAt ws m)) same)
+    (go (replyOf x (stateAt ws here)) refl
+    (A (b .logs i) (b .books i) (b .logs) (b .books) (subst (ValidWords ws) (sym same) v)))
+  where
+    x : Move
+    x = Move.Restart i buffer k
+
+    came : Lent
+    came = lent buffer (b .rows) (b .numbers) (b .books i) []
+
+    here : Memory
+    here = around i (lentOf b i) (b .logs) (b .books)
+
+    same : here ≡ b
+    same = around-same b i
+
+    left : Memory
+    left = around i new (b .logs) (b .books)
+
+    go : (y : Reply) → replyOf x (stateAt ws here) ≡ y →
+        RestartsBy y (nextOf x (stateAt ws here)) i ws came n after new (b .logs) (b .books) →
+        Reaches ws b (x ∷ []) after (keptBy y b left)
+    go (refused q) e r =
+        record {
+          valid = subst (λ (w : Words). ValidWords w b) (sym (r .same .counters)) v;
+          state = ap (λ (w : Words). stateAt w b) (r .same .counters)
+              ∙ sym (refused-stays x (stateAt ws b) q (sym (ap (λ (m : Memory). replyOf x (stateAt ws m)) same) ∙ e));
+        }
+    go (ok st a) e r = record { valid = r .valid; state = r .state ∙ ap (λ (m : Memory). nextOf x (stateAt ws m)) same }
+
+-- Every list of calls on a valid state.
+pub calls-run : {ws : Words} {b : Memory} {xs : List Move} {after : Words} {c : Memory} → ValidWords ws b → Calls ws b xs after c →
+    Reaches ws b xs after c
+unfolding runAll
+calls-run good start = record { valid = good; state = refl }
+calls-run {ws} {b} good (next {xs} {ys} {w} {v} {c} {d} before one) =
+    let r = calls-run good before in
+    let s = step w c (r .valid) one in
+    record { valid = s .valid; state = s .state ∙ ap (runAll ys) (r .state) ∙ sym (run-append xs ys (stateAt ws b)) }
+
+-- .. on one that fm_start has filled, whatever the rows, logs and words are before
+pub started-run : {ws : Words} {rows numbers : List ℕ} → Starts ws rows numbers → (logs books : ℕ → List ℕ) {xs : List Move} {after : Words}
+    {c : Memory} → Calls ws (record { rows = rows; numbers = numbers; logs = logs; books = books }) xs after c →
+    ValidWords after c × (stateAt after c ≡ runAll xs made)
+started-run S logs books {xs} cs =
+    let r = calls-run (S logs books .valid) cs in
+    (r .valid, r .state ∙ ap (runAll xs) (S logs books .state))

@@ -1,0 +1,41 @@
+// What a header must agree with before it lends anything.
+ghost use mathlib.Core.Path.{_≡_};
+ghost use Prim.Native.Nat.{_+_, _*_};
+ghost use Rattle.forms.specs.Limits.{replyLimit};
+ghost use Rattle.history.specs.Words.{bookLength};
+ghost use Rattle.table.specs.Rows.{rowWidth};
+ghost use Rattle.module.specs.Parts.{partRoom, tableRoom};
+ghost use Rattle.fitting_module.specs.Words.{slotWords};
+use super::words::SLOT_WORDS;
+use forms::limits::HISTORIES;
+use forms::limits::LIVE;
+use forms::limits::REPLY_BYTES;
+use history::book::WIDTH;
+use module::Module;
+use table::rows::ROW;
+
+// The version of the calls and of what is lent to them.
+#[no_mangle]
+pub extern "C" fn fm_version() -> u64
+    ensures { λ n. ⌜ n ≡ 1 ⌝ }
+{
+    1
+}
+
+// The bytes of a state: the slots' counters, the table's rows and the numbers of the histories, of eight bytes each, and the numbers of its
+// entries.
+#[no_mangle]
+pub extern "C" fn fm_state_bytes() -> usize
+    ensures { λ n. ⌜ n ≡ 8 * (4 * slotWords + tableRoom * rowWidth + 4 * bookLength) + 4 * partRoom ⌝ }
+{
+    let histories = Module::SLOTS * HISTORIES * WIDTH;
+    8 * (Module::SLOTS * SLOT_WORDS + Module::ENTRIES * ROW + histories) + Module::SLOTS * LIVE
+}
+
+// The room that a line asks for its reply: what the longest has.
+#[no_mangle]
+pub extern "C" fn fm_reply_bytes() -> usize
+    ensures { λ n. ⌜ n ≡ replyLimit ⌝ }
+{
+    REPLY_BYTES
+}
