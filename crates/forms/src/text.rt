@@ -29,17 +29,29 @@ fn write_two_digits(buf: &mut [u8], at: usize, x: u64) -> usize
     at + 2
 }
 
-// Writes a number in decimal at a position, and returns the position behind it: two digits with each step.
-pub(crate) fn write_number(buf: &mut [u8], at: usize, x: u64) -> usize
-    requires { ⌜ at + length (digits x) ≤ length (now buf) ⌝ }
+// Writes a number below 100 at a position, and returns the position behind it.
+fn write_small(buf: &mut [u8], at: usize, x: u64) -> usize
+    requires { ⌜ (x < 100) × (at + length (digits x) ≤ length (now buf)) ⌝ }
     ensures { λ n. ⌜ Wrote (now (buf .entry)) at (digits x) n (now (buf .exit)) ⌝ }
 {
     if x < 10 {
         buf[at] = b'0' + x as u8;
         return at + 1;
     }
+    write_two_digits(buf, at, x)
+}
+
+// Writes a number in decimal at a position, and returns the position behind it: two digits with each step.
+pub(crate) fn write_number(buf: &mut [u8], at: usize, x: u64) -> usize
+    requires { ⌜ at + length (digits x) ≤ length (now buf) ⌝ }
+    ensures { λ n. ⌜ Wrote (now (buf .entry)) at (digits x) n (now (buf .exit)) ⌝ }
+{
     if x < 100 {
-        return write_two_digits(buf, at, x);
+        return write_small(buf, at, x);
+    }
+    if x < 10000 {
+        let front = write_small(buf, at, x / 100);
+        return write_two_digits(buf, front, x % 100);
     }
     let next = write_number(buf, at, x / 100);
     write_two_digits(buf, next, x % 100)
