@@ -1,7 +1,7 @@
 -- An add is a call where its rules' numbers are those of rules, and refused with 1 where not.
 use Prim.Native.Nat.{ℕ}
-use mathlib.Core.Path.{_≡_, refl, sym, ap, subst}
-use mathlib.Core.Bool.{Bool, true, false, _&&_}
+use mathlib.Core.Path.{_≡_, refl, sym, subst}
+use mathlib.Core.Bool.{Bool, true, false}
 use mathlib.Core.List.{List}
 use Rattle.forms.specs.Refusals.{numberOf}
 use Rattle.forms.specs.declared.AskedHeld.{AskedHeld}
@@ -15,17 +15,11 @@ use Rattle.site.specs.Trim.{updatesHeld}
 use Rattle.session.specs.Model.{viewIf}
 use Rattle.stream.specs.Logging.{overlaid}
 use Rattle.stream.specs.LoggingLaws.{over-site}
+use Rattle.call_words.specs.Adding.{heldIn, rulesKnown}
 use Rattle.fitting_ledger.specs.Counters.{sessionAt}
 use Rattle.fitting_ledger.specs.Model.{stateAt, ValidState, Takes}
 use Rattle.fitting_ledger.specs.Calls.{Performs, PerformsCall}
-use Rattle.fitting_ledger.specs.Adding.{heldIn, rulesKnown, adding, PerformsAdd}
-
--- One rule after the other.
-pub known-not : (a b : Bool) → a ≡ false → false ≡ (a && b)
-known-not a b e = sym (ap (λ (x : Bool). x && b) e)
-
-pub known-next : (a b r : Bool) → a ≡ true → r ≡ b → r ≡ (a && b)
-known-next a b r e h = subst (λ (x : Bool). r ≡ (x && b)) (sym e) h
+use Rattle.fitting_ledger.specs.Adding.{adding, PerformsAdd}
 
 -- A turn that is refused leaves the state as it is.
 refused-takes : (ws : List ℕ) (old : Lent) (q : Refusal) → ValidState ws old → Takes ws old (turnOf (refused q) (stateAt ws old)) ws old

@@ -1,17 +1,13 @@
 -- A call of the open site as a turn of the state.
-use Prim.Native.Nat.{ℕ, suc}
+use Prim.Native.Nat.{ℕ}
 use mathlib.Core.Path.{_≡_, refl, sym, ap, subst, _∙_}
-use mathlib.Core.Bool.{Bool, true, false, cond}
+use mathlib.Core.Bool.{Bool, true, false}
 use mathlib.Core.List.{List}
 use mathlib.Core.Option.{some}
-use lib.Dec.{eqb}
 use lib.ListN.{length}
-use Rattle.forms.specs.Forms.{Refused, Accepted}
 use Rattle.forms.specs.Refusals.{numberOf}
 use Rattle.forms.specs.Limits.{liveLimit}
 use Rattle.forms.specs.declared.Refusal.the-variants.{OutOfTurn}
-use Rattle.forms.specs.declared.ReplyForm.{ReplyForm}
-use Rattle.forms.specs.declared.ReplyLine.{ReplyLine}
 use Rattle.rules.specs.State.{State, Reply, refused, ok}
 use Rattle.rules.specs.Calls.{Call, step}
 use Rattle.rules.specs.Session.{turnOf, calling}
@@ -23,11 +19,11 @@ use Rattle.session.specs.declared.Session.{Session}
 use Rattle.session.specs.Model.{viewIf, sessionView}
 use Rattle.stream.specs.Logging.{overlaid}
 use Rattle.stream.specs.LoggingLaws.{over-site}
+use Rattle.call_words.specs.AnswerLaws.{puts-refused, puts-accepted}
 use Rattle.fitting_ledger.specs.Counters.{sessionAt, wordsOf}
-use Rattle.fitting_ledger.specs.Model.{ValidState, outcomeNumber, begunAs, UnusedLeft, Takes}
-use Rattle.fitting_ledger.specs.Calls.{singleWords, answerWords, Performs, PerformsCall, PutsCall}
+use Rattle.fitting_ledger.specs.Model.{ValidState, begunAs, UnusedLeft, Takes}
+use Rattle.fitting_ledger.specs.Calls.{Performs, PerformsCall, PutsCall}
 use Rattle.fitting_ledger.specs.CounterLaws.{session-of, words-valid}
-use Rattle.fitting_ledger.specs.BeginLaws.{says-number, number-some}
 
 -- ### The state
 
@@ -75,34 +71,17 @@ does-takes ws old (ok st a) r new after o v d e =
 does-says : (ws : List ℕ) (old : Lent) (reply : Reply) (r : CallResult) (new : Lent) (n : ℕ) (after head said : List ℕ) →
     sessionAt ws .opened ≡ true → ValidState ws old → Does (sessionAt ws .site) old reply r new → PutsCall r n after head said →
     Performs ws old (turnOf reply (some (view (sessionAt ws .site) old))) n after new head said
-unfolding turnOf outcomeNumber
+unfolding turnOf
 does-says ws old (refused q) r new n after head said o v d p =
     record {
       takes = does-takes ws old (refused q) r new after o v d (p .counters);
-      answer =
-          record {
-            number = number;
-            kept = p .answer ∙ ap (λ (b : Bool). cond b (answerWords (r .reply)) head) (ap (λ (k : ℕ). eqb k 0) number ∙ number-some q);
-          };
+      answer = puts-refused (r .reply) (new .lists) q n head said (p .reply) (d .answer);
     }
-  where
-    number : n ≡ numberOf q
-    number = p .number ∙ says-number r new (Refused q) (d .answer)
 does-says ws old (ok st a) r new n after head said o v d p =
     record {
       takes = does-takes ws old (ok st a) r new after o v d (p .counters);
-      answer =
-          record {
-            number = number;
-            reply = r .reply;
-            says = d .answer;
-            words = p .answer ∙ ap (λ (k : ℕ). cond (eqb k 0) (answerWords (r .reply)) head) number;
-            past = d .pastLists;
-          };
+      answer = puts-accepted (r .reply) (old .lists) (new .lists) a n head said (p .reply) (d .answer) (d .pastLists);
     }
-  where
-    number : n ≡ 0
-    number = p .number ∙ says-number r new (Accepted a) (d .answer)
 
 -- ### A call
 
@@ -145,23 +124,3 @@ performs-not s ws old c head is o v =
   where
     closed : sessionAt ws .opened ≡ false
     closed = sym (ap (λ (x : Session). x .opened) is) ∙ o
-
--- ### The answer's length
-
-single-long : (f : ReplyForm) → length (singleWords f) ≡ 6
-unfolding singleWords
-single-long (ReplyForm.Refused q) = refl
-single-long ReplyForm.Opened = refl
-single-long ReplyForm.Added = refl
-single-long (ReplyForm.Finished n k) = refl
-single-long ReplyForm.Withdrawn = refl
-single-long ReplyForm.Persisted = refl
-single-long ReplyForm.Stabilised = refl
-single-long (ReplyForm.Shows s) = refl
-single-long (ReplyForm.Restarted lines used) = refl
-single-long (ReplyForm.Redone ran examined) = refl
-single-long ReplyForm.Ended = refl
-
--- Every answer has as many words.
-pub answer-long : (r : ReplyLine) → length (answerWords r) ≡ 8
-answer-long r = ap (λ (n : ℕ). suc (suc n)) (single-long (r .form))

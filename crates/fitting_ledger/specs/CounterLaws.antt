@@ -1,18 +1,13 @@
 -- Counters that were written are read as they were.
 use Prim.Native.Nat.{ℕ}
-use mathlib.Core.Path.{_≡_, refl, sym, ap, subst, _∙_}
-use mathlib.Core.Bool.{Bool, true, false, cond}
+use mathlib.Core.Path.{_≡_, sym, ap, subst, _∙_}
 use mathlib.Core.List.{List}
-use lib.Dec.{eqb}
 use Rattle.site.specs.Model.{Lent}
 use Rattle.session.specs.declared.Session.{Session}
 use Rattle.session.specs.Model.{ValidSession}
+use Rattle.call_words.specs.AnswerLaws.{bit-read}
 use Rattle.fitting_ledger.specs.Counters.{sessionAt, wordsOf}
 use Rattle.fitting_ledger.specs.Model.{ValidState}
-
-bit-read : (b : Bool) → eqb (cond b 1 0) 1 ≡ b
-bit-read true = refl
-bit-read false = refl
 
 -- The session of a session's counters is that session.
 pub session-words : (s : Session) → sessionAt (wordsOf s) ≡ s

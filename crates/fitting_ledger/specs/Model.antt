@@ -10,8 +10,7 @@ use Rattle.forms.specs.Forms.{Outcome, Refused, Accepted, outcomeText}
 use Rattle.forms.specs.Limits.{replyLimit}
 use Rattle.forms.specs.Refusals.{numberOf}
 use Rattle.forms.specs.declared.Refusal.{Refusal}
-use Rattle.forms.specs.declared.ReplyForm.{ReplyForm}
-use Rattle.rules.specs.State.{State, Reply, refused, ok, logBytes}
+use Rattle.rules.specs.State.{State, Reply, refused, ok}
 use Rattle.rules.specs.Log.{ended}
 use Rattle.rules.specs.Session.{Turn}
 use Rattle.table.specs.declared.Table.{Table}
@@ -39,11 +38,6 @@ pub record ValidWords (ws : List ℕ) (opened : Bool) (w : Representation) (t : 
 abbrev pub ValidState : List ℕ → Lent → Type 0
 ValidState ws m =
     ValidWords ws (sessionAt ws .opened) (represented (sessionAt ws .site) m) (sessionAt ws .site .table) (m .log) (m .order) (m .rows)
-
--- how many bytes of the log buffer are in use
-unfoldable pub usedBy : Option State → ℕ
-usedBy none = 0
-usedBy (some st) = length (logBytes st)
 
 -- ### What a call does
 
@@ -92,24 +86,6 @@ abbrev pub AnswersIfRoom : List ℕ → Lent → Turn → ℕ → List ℕ → L
 AnswersIfRoom ws old t n after new out page = AnswersIf (leb replyLimit (length out)) ws old t n after new out page
 
 -- ### A beginning
-
--- 0 for a reply that accepts, and a refusal's number
-unfoldable pub outcomeNumber : Outcome → ℕ
-outcomeNumber (Refused q) = numberOf q
-outcomeNumber (Accepted a) = 0
-
-unfoldable pub formNumber : ReplyForm → ℕ
-formNumber (ReplyForm.Refused q) = numberOf q
-formNumber ReplyForm.Opened = 0
-formNumber ReplyForm.Added = 0
-formNumber (ReplyForm.Finished n k) = 0
-formNumber ReplyForm.Withdrawn = 0
-formNumber ReplyForm.Persisted = 0
-formNumber ReplyForm.Stabilised = 0
-formNumber (ReplyForm.Shows s) = 0
-formNumber (ReplyForm.Restarted lines used) = 0
-formNumber (ReplyForm.Redone ran examined) = 0
-formNumber ReplyForm.Ended = 0
 
 -- the session with the site that was handed back: open if the number is 0
 abbrev pub begunAs : ℕ → Site → Session

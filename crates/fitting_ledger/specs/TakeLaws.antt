@@ -6,25 +6,23 @@ use mathlib.Core.Bool.{Bool, true, false}
 use mathlib.Core.List.{List, [], _++_}
 use mathlib.Core.Option.{Option}
 use lib.ListN.{length, drop}
-use lib.Seq.{length-take-le}
 use borrow.Author.Tests.{le-leb, lt-leb}
 use Rattle.forms.specs.Forms.{Outcome, Refused, Accepted, outcomeText}
 use Rattle.forms.specs.Limits.{replyLimit}
 use Rattle.forms.specs.Held.{replied, outcomeOf}
 use Rattle.forms.specs.Write.{placed, Wrote, withEnd}
-use Rattle.rules.specs.State.{State, logBytes}
+use Rattle.rules.specs.State.{State}
 use Rattle.rules.specs.Log.{ended}
 use Rattle.rules.specs.Session.{Turn, turn}
-use Rattle.site.specs.declared.Site.{Site}
-use Rattle.site.specs.Representation.{Sound}
-use Rattle.site.specs.Model.{Lent, lent, view, Valid}
+use Rattle.site.specs.Model.{Lent, lent}
 use Rattle.session.specs.declared.Session.{Session}
 use Rattle.session.specs.declared.LineResult.{LineResult}
 use Rattle.session.specs.Model.{viewIf, sessionView, usedIf, Keeps, Turns, TurnsLine}
 use Rattle.stream.specs.Model.{Fronts}
 use Rattle.stream.specs.LoggingLaws.{turn-logs}
+use Rattle.call_words.specs.Used.{usedBy, site-used}
 use Rattle.fitting_ledger.specs.Counters.{sessionAt, wordsOf}
-use Rattle.fitting_ledger.specs.Model.{stateAt, usedBy, ValidState, UnusedLeft, KeepsAs, Takes, Answers, AnswersIf, AnswersIfRoom}
+use Rattle.fitting_ledger.specs.Model.{stateAt, ValidState, UnusedLeft, KeepsAs, Takes, Answers, AnswersIf, AnswersIfRoom}
 use Rattle.fitting_ledger.specs.CounterLaws.{session-of, words-valid}
 
 -- What is lent, without the lists of a reply.
@@ -103,10 +101,6 @@ answers-short ws old t out short =
     (record { answer = refl; same = record { counters = refl; kept = refl }; unwritten = refl })
 
 -- ### The bytes in use
-
-site-used : (s : Site) (m : Lent) → Valid s m → s .used ≡ length (logBytes (view s m))
-unfolding Sound
-site-used s m v = sym (length-take-le (s .used) (m .log) (v .sound .carries .within)) ∙ ap length (v .sound .carries .text)
 
 -- The bytes in use are those of the specification's log.
 pub used-is : (s : Session) (ws : List ℕ) (m : Lent) → s ≡ sessionAt ws → ValidState ws m →

@@ -1,39 +1,21 @@
 -- A trim's number and the bytes of its fresh buffer are those of the specification.
 use Prim.Native.Nat.{ℕ}
-use mathlib.Core.Path.{_≡_, refl, sym, ap, subst, _∙_}
+use mathlib.Core.Path.{_≡_, refl, sym, subst}
 use mathlib.Core.Bool.{Bool, true, false}
 use mathlib.Core.List.{List}
 use Rattle.forms.specs.Refusals.{numberOf}
 use Rattle.forms.specs.declared.Refusal.the-variants.{OutOfTurn}
-use Rattle.rules.specs.Trim.{Trimmed, notTrimmed, trimmed, trim}
+use Rattle.rules.specs.Trim.{trim}
 use Rattle.site.specs.Model.{Lent, view}
 use Rattle.session.specs.declared.Session.{Session}
 use Rattle.session.specs.Model.{viewIf, sessionView}
 use Rattle.trim.specs.declared.Copied.{Copied}
-use Rattle.trim.specs.Model.{replyOf, Copies}
+use Rattle.trim.specs.Model.{Copies}
+use Rattle.call_words.specs.Trims.{copiedNumber, trimNumber, copiedUsed, trimUsed, trimOf, Trims, trims}
 use Rattle.fitting_ledger.specs.Counters.{sessionAt}
-use Rattle.fitting_ledger.specs.Trims.{copiedNumber, trimNumber, copiedUsed, trimUsed, trimOf, Trims, TrimsState}
+use Rattle.fitting_ledger.specs.Trims.{TrimsState}
 
--- The number and the bytes used are those of the specification's trim.
-trims : (t : Trimmed) (old : List ℕ) (c : Copied) (new : List ℕ) (r before after : ℕ) → Copies t old c new → r ≡ copiedNumber c
-    → after ≡ copiedUsed c before → Trims t old r new before after
-unfolding copiedNumber trimNumber copiedUsed trimUsed
-trims t old c new r before after h e f =
-    record {
-      answer = e ∙ ap copiedNumber (h .reply) ∙ number t;
-      bytes = h .bytes;
-      used = f ∙ ap (λ (x : Copied). copiedUsed x before) (h .reply) ∙ used t;
-    }
-  where
-    number : (v : Trimmed) → copiedNumber (replyOf v) ≡ trimNumber v
-    number (notTrimmed q) = refl
-    number (trimmed bytes n) = refl
-
-    used : (v : Trimmed) → copiedUsed (replyOf v) before ≡ trimUsed v before
-    used (notTrimmed q) = refl
-    used (trimmed bytes n) = refl
-
--- .. of an open site
+-- The copy of an open site.
 pub trims-opened : (s : Session) (ws : List ℕ) (m : Lent) (n : ℕ) (old : List ℕ) (c : Copied) (new : List ℕ) (r before after : ℕ) →
     s ≡ sessionAt ws → s .opened ≡ true → Copies (trim n old (view (s .site) m)) old c new → r ≡ copiedNumber c
     → after ≡ copiedUsed c before → TrimsState ws m n old r new before after

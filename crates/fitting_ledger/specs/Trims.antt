@@ -1,50 +1,10 @@
--- What a trim gives its owner: "copies the log into a fresh lent buffer and replies the bytes used".
+-- A trim of the state.
 use Prim.Native.Nat.{ℕ}
-use mathlib.Core.Path.{_≡_}
 use mathlib.Core.List.{List}
-use mathlib.Core.Option.{Option, none, some}
-use Rattle.forms.specs.Refusals.{numberOf}
-use Rattle.forms.specs.declared.Refusal.the-variants.{OutOfTurn}
-use Rattle.rules.specs.State.{State}
-use Rattle.rules.specs.Trim.{Trimmed, notTrimmed, trimmed, trim}
 use Rattle.site.specs.Model.{Lent}
-use Rattle.trim.specs.declared.Copied.{Copied}
-use Rattle.trim.specs.declared.Copied.the-variants.{Used, Refused}
-use Rattle.trim.specs.Model.{freshAfter}
+use Rattle.call_words.specs.Trims.{trimOf, Trims}
 use Rattle.fitting_ledger.specs.Model.{stateAt}
 
--- 0, or a refusal's number
-unfoldable pub copiedNumber : Copied → ℕ
-copiedNumber (Used n) = 0
-copiedNumber (Refused q) = numberOf q
-
--- .. of the specification's trim
-unfoldable pub trimNumber : Trimmed → ℕ
-trimNumber (notTrimmed q) = numberOf q
-trimNumber (trimmed bytes used) = 0
-
--- the bytes used, which a refusal leaves unsaid
-unfoldable pub copiedUsed : Copied → ℕ → ℕ
-copiedUsed (Used n) before = n
-copiedUsed (Refused q) before = before
-
--- .. of the specification's trim
-unfoldable pub trimUsed : Trimmed → ℕ → ℕ
-trimUsed (notTrimmed q) before = before
-trimUsed (trimmed bytes used) before = used
-
--- The trim of the state: 14 "before site".
-unfoldable pub trimOf : ℕ → List ℕ → Option State → Trimmed
-trimOf n fresh none = notTrimmed OutOfTurn
-trimOf n fresh (some st) = trim n fresh st
-
--- The trim t into the fresh buffer that was `old` and is `new`: a refused one leaves every byte. The number of bytes used was `before` and
--- is `after`.
-pub record Trims (t : Trimmed) (old : List ℕ) (r : ℕ) (new : List ℕ) (before after : ℕ) : Type 0 where
-  pub answer : r ≡ trimNumber t
-  pub bytes : new ≡ freshAfter t old
-  pub used : after ≡ trimUsed t before
-
--- .. of the state that the counters and what is lent beside them are
+-- The trim of the state that the counters and what is lent beside them are.
 abbrev pub TrimsState : List ℕ → Lent → ℕ → List ℕ → ℕ → List ℕ → ℕ → ℕ → Type 0
 TrimsState ws m n old r new before after = Trims (trimOf n old (stateAt ws m)) old r new before after

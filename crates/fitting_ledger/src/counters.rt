@@ -1,8 +1,8 @@
 // A session's counters in words: from call to call they stand in an array that is lent.
 ghost use mathlib.Core.Path.{_≡_};
-ghost use mathlib.Core.Bool.{cond};
 ghost use Rattle.table.specs.Ends.{was, left};
 ghost use Rattle.fitting_ledger.specs.Counters.{sessionAt, wordsOf};
+use call_words::bit;
 use forms::LogNumber;
 use session::Session;
 use site::Site;
@@ -14,13 +14,6 @@ use table::Table;
 pub const COUNTERS: usize = 13;
 
 pub type Counters = [u64; COUNTERS];
-
-// 1 for yes and 0 for no.
-fn bit(b: bool) -> u64
-    ensures { λ r. ⌜ r ≡ cond b 1 0 ⌝ }
-{
-    b as u64
-}
 
 // The session whose counters these are.
 pub fn session_at(words: &Counters) -> Session

@@ -7,7 +7,7 @@ ghost use Rattle.fitting_ledger.specs.Model.{ValidState};
 ghost use Rattle.fitting_ledger.specs.Finds.{foundNumber, foundKept, FindsState};
 use super::counters::Counters;
 use super::counters::session_at;
-use super::start::OUT_OF_TURN;
+use call_words::OUT_OF_TURN;
 use find_cut::Found;
 use find_cut::find_cut;
 use forms::writer::refusal_number;

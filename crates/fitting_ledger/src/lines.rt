@@ -1,41 +1,22 @@
 // A line in, a reply out, and how much of the log is in use.
-ghost use Prim.Native.Nat.{_≤_};
 ghost use mathlib.Core.Path.{_≡_};
 ghost use mathlib.Core.List.{[]};
 ghost use lib.ListN.{length};
-ghost use Rattle.forms.specs.Forms.{outcomeText};
-ghost use Rattle.forms.specs.Held.{replied, outcomeOf};
-ghost use Rattle.forms.specs.Limits.{replyLimit};
-ghost use Rattle.forms.specs.Write.{Wrote, withEnd};
 ghost use Rattle.rules.specs.Session.{turn};
 ghost use Rattle.table.specs.Ends.{was, left};
-ghost use Rattle.site.specs.Model.{received, oldWith, newWith, Printable};
-ghost use Rattle.fitting_ledger.specs.Model.{ValidState, stateAt, usedBy, AnswersIfRoom};
+ghost use Rattle.site.specs.Model.{received, oldWith, newWith};
+ghost use Rattle.call_words.specs.Used.{usedBy};
+ghost use Rattle.fitting_ledger.specs.Model.{ValidState, stateAt, AnswersIfRoom};
 use super::counters::Counters;
 use super::counters::put_session;
 use super::counters::session_at;
-use forms::ReplyLine;
-use forms::ReplyNumbers;
+use call_words::text::put_reply;
 use forms::limits::LIVE;
 use forms::limits::REPLY_BYTES;
 use forms::limits::UPDATES;
-use forms::writer::Written;
 use history::book::BookWords;
-use session::write_turn;
 use table::order::Order;
 use table::rows::Rows;
-
-// Writes a reply, with its end, at the front of a buffer that has room for the longest.
-fn put_reply(out: &mut [u8], r: ReplyLine, lists: &ReplyNumbers) -> usize
-    requires { ⌜ Printable (replied r (now lists)) ⌝ }
-    requires { ⌜ replyLimit ≤ length (now out) ⌝ }
-    ensures { λ n. ⌜ Wrote (was out) 0 (withEnd (outcomeText (outcomeOf (replied r (was lists))))) n (left out) ⌝ }
-{
-    match write_turn(out, 0, r, lists) {
-        Written::At(n) => n,
-        Written::NoRoom => 0,
-    }
-}
 
 // Obeys a line, given without its end, and writes its reply, with its end: the bytes of the reply. Where `out` has less room
 // than the longest reply nothing has happened, and the room needed is returned: more than there is.

@@ -3,35 +3,15 @@ ghost use mathlib.Core.Path.{_≡_};
 ghost use mathlib.Core.List.{[]};
 ghost use Rattle.table.specs.Ends.{was};
 ghost use Rattle.site.specs.Model.{received, oldWith};
-ghost use Rattle.site.specs.Polls.{polledOf};
 ghost use Rattle.fitting_ledger.specs.Model.{ValidState, stateAt};
-ghost use Rattle.fitting_ledger.specs.Polls.{polledNumber, pollOf};
+ghost use Rattle.fitting_ledger.specs.Polls.{pollOf};
 use super::counters::Counters;
 use super::counters::session_at;
-use super::start::OUT_OF_TURN;
+use call_words::OUT_OF_TURN;
+use call_words::polls::poll_number;
 use history::book::BookWords;
-use site::poll::PollAnswer;
 use table::order::Order;
 use table::rows::Rows;
-
-// 3: "a history that is not there".
-const NO_SUCH_HISTORY: u64 = 3;
-
-// What a poll returns for a history that is not dry, and for one that is.
-pub const BUSY: u64 = 1000;
-
-pub const DRY: u64 = 1001;
-
-// The number for what a poll says.
-fn poll_number(p: PollAnswer) -> u64
-    ensures { λ n. ⌜ n ≡ polledNumber (polledOf p) ⌝ }
-{
-    match p {
-        PollAnswer::Dry => DRY,
-        PollAnswer::Busy => BUSY,
-        PollAnswer::NoSuchHistory => NO_SUCH_HISTORY,
-    }
-}
 
 // Polls a history: 1,001 if it is dry, 1,000 if not, or the number of the refusal. Nothing changes.
 #[no_mangle]

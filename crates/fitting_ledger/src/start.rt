@@ -5,34 +5,18 @@ ghost use lib.ListN.{length};
 ghost use Rattle.rules.specs.Calls.{openSite, restart};
 ghost use Rattle.table.specs.Ends.{was, left};
 ghost use Rattle.site.specs.Model.{oldWith, newWith};
+ghost use Rattle.call_words.specs.Answers.{formNumber};
 ghost use Rattle.fitting_ledger.specs.Counters.{wordsOf};
-ghost use Rattle.fitting_ledger.specs.Model.{formNumber, begunAs, Begins};
+ghost use Rattle.fitting_ledger.specs.Model.{begunAs, Begins};
 use super::counters::Counters;
 use super::counters::put_session;
-use forms::ReplyForm;
-use forms::writer::refusal_number;
+use call_words::answer::reply_number;
 use history::book::BookWords;
 use session::Session;
 use site::CallResult;
 use site::Site;
 use table::order::Order;
 use table::rows::Rows;
-
-// 1: "unreadable line".
-pub(crate) const UNREADABLE: u64 = 1;
-
-// 14: "before site".
-pub const OUT_OF_TURN: u64 = 14;
-
-// 0 for a reply that accepts, and a refusal's number.
-pub(crate) fn reply_number(form: ReplyForm) -> u64
-    ensures { λ n. ⌜ n ≡ formNumber form ⌝ }
-{
-    match form {
-        ReplyForm::Refused(q) => refusal_number(q),
-        _ => 0,
-    }
-}
 
 // The counters of the site that was opened; "before site" where it was refused.
 fn begin(words: &mut Counters, c: CallResult) -> u64

@@ -1,32 +1,17 @@
 // A copy of the site's log with a base line in place of its first operations.
-ghost use mathlib.Core.Path.{_≡_};
 ghost use mathlib.Core.List.{[]};
 ghost use Rattle.table.specs.Ends.{was, left};
 ghost use Rattle.site.specs.Model.{received, oldWith};
 ghost use Rattle.fitting_ledger.specs.Model.{ValidState};
-ghost use Rattle.fitting_ledger.specs.Trims.{copiedNumber, copiedUsed, TrimsState};
+ghost use Rattle.fitting_ledger.specs.Trims.{TrimsState};
 use super::counters::Counters;
 use super::counters::session_at;
-use super::start::OUT_OF_TURN;
-use forms::writer::refusal_number;
+use call_words::OUT_OF_TURN;
+use call_words::trims::put_used;
 use history::book::BookWords;
 use table::order::Order;
 use table::rows::Rows;
-use trim::Copied;
 use trim::trim;
-
-// 0 for a copy, and `used` is the bytes used; or the number of the refusal.
-fn put_used(used: &mut usize, r: Copied) -> u64
-    ensures { λ n. ⌜ (n ≡ copiedNumber r) × (now (used .exit) ≡ copiedUsed r (now (used .entry))) ⌝ }
-{
-    match r {
-        Copied::Used(n) => {
-            *used = n;
-            0
-        }
-        Copied::Refused(q) => refusal_number(q),
-    }
-}
 
 // Copies the log into a fresh buffer, with a base line in place of its first n operations: 0, and `used` is the bytes used there; or the
 // number of the refusal. Nothing else changes.

@@ -1,5 +1,5 @@
 -- Two counts and six single numbers, of which a reply has fewer or none.
-use Rattle.fitting_ledger.specs.CallLaws.{answer-long}
+use Rattle.call_words.specs.AnswerLaws.{answer-long}
 use Rattle.fitting_ledger.proofs.version.fl_answer_words.Statement.{statement}
 use Rattle.fitting_ledger.proofs.version.fl_answer_words.Tie as tie
 

@@ -2,8 +2,8 @@
 use mathlib.Core.Path.{sym, ap}
 use borrow.Author.Tests.{ne-eqb}
 use Rattle.table.specs.Rows.{ruleNamed}
-use Rattle.fitting_ledger.proofs.adding.rule_of.Statement.{statement}
-use Rattle.fitting_ledger.proofs.adding.rule_of.Tie as tie
+use Rattle.call_words.proofs.adding.rule_of.Statement.{statement}
+use Rattle.call_words.proofs.adding.rule_of.Tie as tie
 
 returns : tie.Need-returns
 unfolding ruleNamed

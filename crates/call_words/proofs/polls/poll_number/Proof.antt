@@ -3,10 +3,10 @@ use mathlib.Core.Path.{ap, sym}
 use Rattle.forms.specs.Refusals.{numberOf}
 use Rattle.site.specs.declared.poll.PollAnswer.{PollAnswer}
 use Rattle.site.specs.Polls.{polledOf}
-use Rattle.fitting_ledger.specs.Polls.{polledNumber}
+use Rattle.session.specs.Polls.{polledNumber}
 use borrow.Author.Needs.{needs}
-use Rattle.fitting_ledger.proofs.polls.poll_number.Statement.{statement}
-use Rattle.fitting_ledger.proofs.polls.poll_number.Tie as tie
+use Rattle.call_words.proofs.polls.poll_number.Statement.{statement}
+use Rattle.call_words.proofs.polls.poll_number.Tie as tie
 
 enum-told : tie.Need-enum-told
 enum-told c = search needs

@@ -3,8 +3,8 @@ use mathlib.Core.Path.{_≡_, refl}
 use mathlib.Core.Bool.{Bool, true, false, cond}
 use mir.Val.{boolByte}
 use borrow.Author.Needs.{needs}
-use Rattle.fitting_ledger.proofs.counters.bit.Statement.{statement}
-use Rattle.fitting_ledger.proofs.counters.bit.Tie as tie
+use Rattle.call_words.proofs.bit.Statement.{statement}
+use Rattle.call_words.proofs.bit.Tie as tie
 
 cast-result : tie.Need-cast-result
 cast-result c = search needs

@@ -1,7 +1,7 @@
 -- The rule is the one that its number names; the other numbers stand as they came.
 use borrow.Author.Needs.{needs}
-use Rattle.fitting_ledger.proofs.adding.asked_of.Statement.{statement}
-use Rattle.fitting_ledger.proofs.adding.asked_of.Tie as tie
+use Rattle.call_words.proofs.adding.asked_of.Statement.{statement}
+use Rattle.call_words.proofs.adding.asked_of.Tie as tie
 
 rule-of-requires : tie.Need-rule-of-requires
 rule-of-requires c κs = search needs

@@ -2,10 +2,10 @@
 use denote.Ref.{now}
 use mathlib.Core.Path.{ap, sym, _∙_}
 use Rattle.trim.specs.declared.Copied.{Copied}
-use Rattle.fitting_ledger.specs.Trims.{copiedNumber, copiedUsed}
+use Rattle.call_words.specs.Trims.{copiedNumber, copiedUsed}
 use borrow.Author.Needs.{needs}
-use Rattle.fitting_ledger.proofs.trims.put_used.Statement.{statement}
-use Rattle.fitting_ledger.proofs.trims.put_used.Tie as tie
+use Rattle.call_words.proofs.trims.put_used.Statement.{statement}
+use Rattle.call_words.proofs.trims.put_used.Tie as tie
 
 enum-known-r : tie.Need-enum-known-r
 enum-known-r c = search needs

@@ -1,9 +1,9 @@
 -- Each update has its own four words.
 use mathlib.Core.List.{[], _∷_}
-use Rattle.fitting_ledger.specs.Adding.{heldIn}
+use Rattle.call_words.specs.Adding.{heldIn}
 use borrow.Author.Needs.{needs}
-use Rattle.fitting_ledger.proofs.adding.held_in.Statement.{statement}
-use Rattle.fitting_ledger.proofs.adding.held_in.Tie as tie
+use Rattle.call_words.proofs.adding.held_in.Statement.{statement}
+use Rattle.call_words.proofs.adding.held_in.Tie as tie
 
 element-copy-out-asked-of : tie.Need-element-copy-out-asked-of
 element-copy-out-asked-of c = search needs

@@ -7,8 +7,8 @@ use Rattle.forms.specs.WriteLaws.{end-size}
 use Rattle.stream.specs.RunLaws.{wrote-at, wrote-not}
 use Rattle.session.specs.TurnLaws.{writes-printable}
 use borrow.Author.Needs.{needs}
-use Rattle.fitting_ledger.proofs.lines.put_reply.Statement.{statement}
-use Rattle.fitting_ledger.proofs.lines.put_reply.Tie as tie
+use Rattle.call_words.proofs.text.put_reply.Statement.{statement}
+use Rattle.call_words.proofs.text.put_reply.Tie as tie
 
 write-turn-requires : tie.Need-write-turn-requires
 write-turn-requires c κs = search needs

@@ -5,10 +5,10 @@ use types.Run.{OneOf, miss}
 use denote.Enum.Declared.{tagOf}
 use Rattle.forms.proofs.ReplyForm.{the-type}
 use Rattle.forms.specs.declared.ReplyForm.{ReplyForm}
-use Rattle.fitting_ledger.specs.Model.{formNumber}
+use Rattle.call_words.specs.Answers.{formNumber}
 use borrow.Author.Needs.{needs}
-use Rattle.fitting_ledger.proofs.start.reply_number.Statement.{statement}
-use Rattle.fitting_ledger.proofs.start.reply_number.Tie as tie
+use Rattle.call_words.proofs.answer.reply_number.Statement.{statement}
+use Rattle.call_words.proofs.answer.reply_number.Tie as tie
 
 -- the forms but `Refused`, by their tags
 accepted : (f : ReplyForm) → OneOf (1 ∷ 2 ∷ 3 ∷ 4 ∷ 5 ∷ 6 ∷ 7 ∷ 8 ∷ 9 ∷ 10 ∷ []) (tagOf the-type f) → formNumber f ≡ 0

@@ -4,11 +4,11 @@ use native.Mathlib.Omega.{arith}
 use mathlib.Core.Path.{refl}
 use lib.ListN.{getD}
 use borrow.Author.Tests.{le-leb, lt-leb}
-use Rattle.fitting_ledger.specs.Adding.{rulesKnown}
-use Rattle.fitting_ledger.specs.AddingLaws.{known-not, known-next}
+use Rattle.call_words.specs.Adding.{rulesKnown}
+use Rattle.call_words.specs.AddingLaws.{known-not, known-next}
 use borrow.Author.Needs.{needs}
-use Rattle.fitting_ledger.proofs.adding.rules_known.Statement.{statement}
-use Rattle.fitting_ledger.proofs.adding.rules_known.Tie as tie
+use Rattle.call_words.proofs.adding.rules_known.Statement.{statement}
+use Rattle.call_words.proofs.adding.rules_known.Tie as tie
 
 element-copy-out-if1 : tie.Need-element-copy-out-if1
 element-copy-out-if1 c = search needs

@@ -7,10 +7,10 @@ use denote.Enum.Declared.{tagOf}
 use Rattle.forms.proofs.ReplyForm.{the-type}
 use Rattle.forms.specs.declared.ReplyForm.{ReplyForm}
 use Rattle.forms.specs.declared.ReplyLine.{ReplyLine}
-use Rattle.fitting_ledger.specs.Calls.{singleWords, answerWords}
+use Rattle.call_words.specs.Answers.{singleWords, answerWords}
 use borrow.Author.Needs.{needs}
-use Rattle.fitting_ledger.proofs.answer.answer_of.Statement.{statement}
-use Rattle.fitting_ledger.proofs.answer.answer_of.Tie as tie
+use Rattle.call_words.proofs.answer.answer_of.Statement.{statement}
+use Rattle.call_words.proofs.answer.answer_of.Tie as tie
 
 -- the words of the form that it is
 said : (r : ReplyLine) (f : ReplyForm) → r .form ≡ f → (r .first ∷ r .second ∷ singleWords f) ≡ answerWords r

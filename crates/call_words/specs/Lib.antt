@@ -1,0 +1,6 @@
+pub mod Answers
+pub mod AnswerLaws
+pub mod Adding
+pub mod AddingLaws
+pub mod Trims
+pub mod Used
