@@ -16,8 +16,10 @@ enum { STACK = 1 << 16, PAINT = 0xA5 };
 
 static uint8_t painted[STACK], buffers[FM_SLOTS][FM_LOG_BYTES], text[FM_REPLY_BYTES];
 static ucontext_t here, there;
+static uint8_t fresh[FM_LOG_BYTES];
 static fm_module module;
-static size_t most;
+static fm_reply reply;
+static size_t most, copied;
 
 /* The stack that a function uses. */
 static size_t used_by(void (*call)(void)) {
@@ -93,6 +95,21 @@ static void stable(void) { obey(0, "(stable 100)"); }
 static void cut(void) { obey(0, "(cut 60000)"); }
 static void redo(void) { obey(0, "(redo (did 7 (set 0 99999 99999 1)(set 1 99999 99999 1)(set 2 99999 99999 1)(set 3 99999 99999 1)))"); }
 static void end(void) { obey(0, "(end)"); }
+
+/* The same calls on numbers; the operation that is finished and the line that comes back are those of the lines above. */
+static const fm_update updates[] = {{FM_INC, 0, 99999, 0}, {FM_SET, 1, 99999, 7}, {FM_NOT, 2, 99999, 0}, {FM_INC, 3, 99999, 2047}};
+static const char did[] = "(did 7 (set 0 99999 99999 1)(set 1 99999 99999 1)(set 2 99999 99999 1)(set 3 99999 99999 1))";
+static void n_show(void) { fm_show(&module, 0, 15, &reply); }
+static void n_add(void) { fm_add(&module, 0, 1, updates, 4, &reply); }
+static void n_finish(void) { fm_finish(&module, 0, 100002, &reply); }
+static void n_withdraw(void) { fm_withdraw(&module, 0, 100003, &reply); }
+static void n_persistent(void) { fm_persistent(&module, 0, 200, &reply); }
+static void n_stable(void) { fm_stable(&module, 0, 200, &reply); }
+static void n_cut(void) { fm_cut(&module, 0, 50000, &reply); }
+static void n_redo(void) { fm_redo(&module, 0, (const uint8_t *)did, sizeof did - 1, &reply); }
+static void n_end(void) { fm_end(&module, 0, &reply); }
+static void trim(void) { fm_trim(&module, 0, 48, fresh, sizeof fresh, &copied); }
+
 static void restart(void) { fm_restart(&module, 0, buffers[0], FM_LOG_BYTES, fm_log_used(&module, 0)); }
 static void used(void) { fm_log_used(&module, 0); }
 
@@ -109,9 +126,20 @@ int main(void) {
     measure("withdraw", withdraw);
     measure("persistent", persistent);
     measure("stable", stable);
+    measure("fm_show", n_show);
+    measure("fm_add", n_add);
+    measure("fm_finish", n_finish);
+    measure("fm_withdraw", n_withdraw);
+    measure("fm_persistent", n_persistent);
+    measure("fm_stable", n_stable);
+    measure("fm_trim", trim);
+    if (copied == 0) return 1;
     measure("cut", cut);
     measure("redo", redo);
     measure("end", end);
+    measure("fm_cut", n_cut);
+    measure("fm_redo", n_redo);
+    measure("fm_end", n_end);
     measure("fm_restart", restart);
     printf("%s\n", most < FM_STACK_BYTES ? "every call below FM_STACK_BYTES" : "above FM_STACK_BYTES");
     return most < FM_STACK_BYTES ? 0 : 1;

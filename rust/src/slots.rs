@@ -1,7 +1,7 @@
 //! The face of a compact module that a comparison sees: each call names a slot, and a reply is text.
 
 use crate::module::Module;
-use crate::program::{BUSY, DRY};
+use crate::program::{Outcome, BUSY, DRY};
 use crate::refusal::Refusal;
 use crate::site::Site;
 use crate::writer;
@@ -19,6 +19,9 @@ pub trait Slots {
 
     /// What a poll of a history of a slot gives: [`DRY`], [`BUSY`] or a refusal's number.
     fn poll(&self, slot: usize, log: &[u8], history: u64) -> u64;
+
+    /// Copies a slot's log from `n` on into a fresh buffer. Gives the bytes used there.
+    fn trim(&self, slot: usize, log: &[u8], n: u64, fresh: &mut [u8]) -> Outcome;
 }
 
 impl Slots for Module {
@@ -43,5 +46,10 @@ impl Slots for Module {
             Ok(false) => BUSY,
             Err(refusal) => refusal.number(),
         }
+    }
+
+    fn trim(&self, slot: usize, log: &[u8], n: u64, fresh: &mut [u8]) -> Outcome {
+        let site = self.site(slot).ok_or(Refusal::WrongTime);
+        site.and_then(|site| site.trim(n, log, fresh)).map_err(Refusal::number)
     }
 }

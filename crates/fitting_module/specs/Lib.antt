@@ -10,5 +10,8 @@ pub mod Starts
 pub mod Restarts
 pub mod RestartLaws
 pub mod Used
-pub mod Reached
+pub mod Calls
+pub mod CallLaws
+pub mod Trims
 pub mod Polls
+pub mod Reached

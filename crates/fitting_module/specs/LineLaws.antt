@@ -18,15 +18,16 @@ use Rattle.forms.specs.declared.reader.CommandRead.{CommandRead}
 use Rattle.rules.specs.State.{Reply, refused, ok}
 use Rattle.rules.specs.Log.{ended}
 use Rattle.compact.specs.Module.{Module as ModuleState, slotAt, Move, slotOf, replyOf, promiseOf, settleIn, nextOf}
-use Rattle.site.specs.Model.{Lent, lent, Says, Printable}
+use Rattle.site.specs.Model.{Lent, lent, Printable}
 use Rattle.stream.specs.Model.{Fronts}
 use Rattle.module.specs.declared.Module.{Module}
 use Rattle.module.specs.declared.ModuleResult.{ModuleResult}
-use Rattle.module.specs.Model.{ValidModule, ValidWith, viewOf, around, RefusedIn, DoesIn, Moves}
+use Rattle.module.specs.Model.{Memory, ValidModule, ValidWith, viewOf, around, RefusedIn, DoesIn, Moves}
+use Rattle.module.specs.Replies.{outcomeFrom}
 use Rattle.fitting_module.specs.Words.{Words, moduleAt, wordsIn}
 use Rattle.fitting_module.specs.WordLaws.{module-words}
 use Rattle.fitting_module.specs.Model.{stateAt, ValidWords, ValidState, UnusedLeft, Takes}
-use Rattle.fitting_module.specs.Lines.{lineMove, lineReply, lineNext, outcomeFrom, Answers, AnswersIf, AnswersLine, formMove}
+use Rattle.fitting_module.specs.Lines.{lineMove, lineReply, lineNext, Answers, AnswersIf, AnswersLine, formMove}
 use Rattle.fitting_module.specs.Lines.{DoesCall, Obeys, ObeysForm}
 
 -- What is lent, without the lists of a reply.
@@ -90,52 +91,59 @@ module _ (i : ℕ) (m : Module) (x : Option Move) (old : Lent) (r : ModuleResult
 
 -- ### The counters put away
 
-pub record Done (i : ℕ) (ws : Words) (old : Lent) (y : Reply) (next : ModuleState) (r : ModuleResult) (after : Words) (new : Lent)
-    (logs books : ℕ → List ℕ) : Type 0 where
-  pub takes : Takes i ws (bare old) y next after (bare new) (around i (bare new) logs books)
-  pub says : Says (replied (r .reply) (new .lists)) (outcomeFrom y)
-
 module _ (i : ℕ) (ws : Words) (x : Option Move) (old : Lent) (r : ModuleResult) (new : Lent) (after : Words)
     (put : after ≡ wordsIn (r .after .slots)) (logs books : ℕ → List ℕ) (v : ValidWords ws (around i old logs books)) where
   abbrev s : ModuleState
   s = stateAt ws (around i old logs books)
 
-  pub done : (y : Reply) → lineReply x s ≡ y → DoesCall i (moduleAt ws) old logs books y (lineNext x s) r new →
-      Done i ws old y (lineNext x s) r after new logs books
-  done (refused q) e d =
+  pub takes : (y : Reply) → lineReply x s ≡ y → DoesCall i (moduleAt ws) old logs books y (lineNext x s) r new →
+      Takes i ws old y (lineNext x s) after new (around i new logs books)
+  takes (refused q) e d =
       record {
-        takes =
-            record {
-              state = (λ t. stateAt (same t) (around i (d .kept t) logs books)) ∙ sym (stays x s q e);
-              valid =
-                  subst (λ (w : Words). ValidWords w (around i new logs books)) (sym same)
-                  (subst (λ (k : Lent). ValidWords ws (around i k logs books)) (sym (d .kept)) v);
-              keeps = record { counters = same; kept = ap bare (d .kept) };
-            };
-        says = d .answer;
+        state = (λ t. stateAt (same t) (around i (d .kept t) logs books)) ∙ sym (stays x s q e);
+        valid =
+            subst (λ (w : Words). ValidWords w (around i new logs books)) (sym same)
+            (subst (λ (k : Lent). ValidWords ws (around i k logs books)) (sym (d .kept)) v);
+        keeps = record { counters = same; kept = d .kept };
       }
     where
       same : after ≡ ws
       same = put ∙ ap (λ (m : Module). wordsIn (m .slots)) (d .same) ∙ v .words
-  done (ok st a) e d =
+  takes (ok st a) e d =
       record {
-        takes =
+        state = ap (λ (m : Module). viewOf m (around i new logs books)) is ∙ d .state;
+        valid =
             record {
-              state = ap (λ (m : Module). viewOf m (around i new logs books)) is ∙ d .state;
-              valid =
-                  record {
-                    words = ap (λ (m : Module). wordsIn (m .slots)) is ∙ sym put;
-                    valid = subst (λ (m : Module). ValidModule m (around i new logs books)) (sym is) (d .valid);
-                  };
-              keeps =
-                  subst (λ (m : Module). UnusedLeft i (bare old) m (bare new)) (sym is)
-                  (record { past = d .past; frame = d .frame; pastNumbers = d .pastNumbers; pastHistories = d .pastHistories });
+              words = ap (λ (m : Module). wordsIn (m .slots)) is ∙ sym put;
+              valid = subst (λ (m : Module). ValidModule m (around i new logs books)) (sym is) (d .valid);
             };
-        says = d .answer;
+        keeps =
+            subst (λ (m : Module). UnusedLeft i old m new) (sym is)
+            (record { past = d .past; frame = d .frame; pastNumbers = d .pastNumbers; pastHistories = d .pastHistories });
       }
     where
       is : moduleAt after ≡ r .after
       is = ap moduleAt put ∙ module-words (r .after) (d .valid .size)
+
+-- .. without the lists of a reply
+takes-bare : (i : ℕ) (ws : Words) (old : Lent) (y : Reply) (next : ModuleState) (after : Words) (new : Lent) (b : Memory) →
+    Takes i ws old y next after new b → Takes i ws (bare old) y next after (bare new) b
+takes-bare i ws old (refused q) next after new b t =
+    let k = t .keeps in
+    record { state = t .state; valid = t .valid; keeps = record { counters = k .counters; kept = ap bare (k .kept) } }
+takes-bare i ws old (ok st a) next after new b t =
+    let k = t .keeps in
+    record {
+      state = t .state;
+      valid = t .valid;
+      keeps = record { past = k .past; frame = k .frame; pastNumbers = k .pastNumbers; pastHistories = k .pastHistories };
+    }
+
+-- What the code's reply says is what the specification's says.
+says : (i : ℕ) (m : Module) (old : Lent) (logs books : ℕ → List ℕ) (y : Reply) (next : ModuleState) (r : ModuleResult) (new : Lent) →
+    DoesCall i m old logs books y next r new → outcomeOf (replied (r .reply) (new .lists)) ≡ outcomeFrom y
+says i m old logs books (refused q) next r new d = d .answer .outcome
+says i m old logs books (ok st a) next r new d = d .answer .outcome
 
 -- ### A line
 
@@ -158,13 +166,16 @@ answers-line i m ws old line r new after out page n is room h put w =
     answers : (logs books : ℕ → List ℕ) → ValidWords ws (around i old logs books) →
         Answers i ws (bare old) x n after (bare new) out page logs books
     answers logs books v =
-        let y = lineReply x (stateAt ws (around i old logs books)) in
-        let d = done i ws x old r new after put logs books v y refl
-        (subst (λ (k : Module). Obeys i k x old r new) is h logs books (v .valid)) in
+        let s = stateAt ws (around i old logs books) in
+        let y = lineReply x s in
+        let d = subst (λ (k : Module). Obeys i k x old r new) is h logs books (v .valid) in
         record {
-          takes = d .takes;
+          takes =
+              takes-bare i ws old y (lineNext x s) after new (around i new logs books)
+              (takes i ws x old r new after put logs books v y refl d);
           reply = fronts (withEnd (outcomeText (outcomeFrom y)))
-              (subst (λ (o : Outcome). Wrote out 0 (withEnd (outcomeText o)) n page) (d .says .outcome) w);
+              (subst (λ (o : Outcome). Wrote out 0 (withEnd (outcomeText o)) n page)
+              (says i (moduleAt ws) old logs books y (lineNext x s) r new d) w);
         }
 
 -- Too little room.

@@ -8,7 +8,7 @@ use lib.Dec.{leb}
 use lib.ListN.{length, take, drop}
 use Rattle.forms.specs.Decimal.{Step}
 use Rattle.forms.specs.Decimal.Step.{got, bad}
-use Rattle.forms.specs.Forms.{Command, Outcome, Refused, Accepted, outcomeText, didText}
+use Rattle.forms.specs.Forms.{Command, outcomeText, didText}
 use Rattle.forms.specs.Limits.{replyLimit}
 use Rattle.forms.specs.Reading.{readCommand}
 use Rattle.forms.specs.declared.AskedHeld.{AskedHeld}
@@ -25,6 +25,7 @@ use Rattle.stream.specs.Model.{Fronts}
 use Rattle.module.specs.declared.Module.{Module}
 use Rattle.module.specs.declared.ModuleResult.{ModuleResult}
 use Rattle.module.specs.Model.{ValidModule, viewOf, around, RefusedIn, AcceptedIn}
+use Rattle.module.specs.Replies.{outcomeFrom}
 use Rattle.fitting_module.specs.Words.{Words}
 use Rattle.fitting_module.specs.Model.{stateAt, ValidWords, Same, Takes}
 
@@ -59,11 +60,6 @@ lineReply (some x) m = replyOf x m
 unfoldable pub lineNext : Option Move → ModuleState → ModuleState
 lineNext none m = m
 lineNext (some x) m = nextOf x m
-
--- what the reply says
-abbrev pub outcomeFrom : Reply → Outcome
-outcomeFrom (refused q) = Refused q
-outcomeFrom (ok st a) = Accepted a
 
 -- ### What a line does
 

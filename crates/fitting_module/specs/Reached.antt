@@ -1,28 +1,36 @@
 -- Every list of calls on a state that fm_start has filled, each keeping its contract, is a run of the specification's module: so what is
 -- claimed of `runAll` and of a slot's site in it (crates/compact) is so of what the library's owner has.
-use Prim.Native.Nat.{ℕ, _≤_}
+use Prim.Native.Nat.{ℕ, _≤_, _<_}
 use mathlib.Core.Path.{_≡_, refl, sym, ap, subst, _∙_}
 use mathlib.Core.Bool.{Bool, true, false, cond}
 use mathlib.Core.List.{List, [], _∷_, _++_}
 use mathlib.Core.Option.{Option, none, some}
 use lib.Dec.{eqb}
 use lib.ListN.{length}
-use borrow.Author.Tests.{eqb-true, le-leb}
+use borrow.Author.Tests.{eqb-true, le-leb, lt-leb}
 use Rattle.forms.specs.Limits.{replyLimit}
 use Rattle.forms.specs.declared.Refusal.{Refusal}
 use Rattle.rules.specs.State.{Reply, refused, ok}
+use Rattle.rules.specs.Calls.{Call}
 use Rattle.compact.specs.Module.{Module as ModuleState, slotAt, made, Move, slotOf, replyOf, promiseOf, settleIn, nextOf, runAll}
 use Rattle.site.specs.Model.{Lent, lent}
 use Rattle.module.specs.Model.{Memory, put, around}
 use Rattle.fitting_module.specs.Words.{Words}
-use Rattle.fitting_module.specs.Model.{stateAt, ValidWords, ValidState}
+use Rattle.fitting_module.specs.Model.{stateAt, ValidWords, ValidState, Takes}
 use Rattle.fitting_module.specs.Lines.{lineMove, lineNext, AnswersIf, AnswersLine}
 use Rattle.fitting_module.specs.Starts.{Starts}
+use Rattle.fitting_module.specs.Calls.{PerformsCall, addOf, PerformsAdd}
+use Rattle.fitting_module.specs.Polls.{PollsSlot}
+use Rattle.fitting_module.specs.Used.{UsedIn}
+use Rattle.fitting_module.specs.Trims.{TrimsSlot}
 use Rattle.fitting_module.specs.Restarts.{RestartsBy, RestartsSlot}
 
--- what a call of slot i is lent beside the counters
+-- what a call of slot i is lent beside the counters, with room for the lists of a reply, or with none
+abbrev pub lentWith : List ℕ → Memory → ℕ → Lent
+lentWith ns b i = lent (b .logs i) (b .rows) (b .numbers) (b .books i) ns
+
 abbrev pub lentOf : Memory → ℕ → Lent
-lentOf b i = lent (b .logs i) (b .rows) (b .numbers) (b .books i) []
+lentOf b i = lentWith [] b i
 
 -- the call that a line is, if it is readable
 abbrev pub callsOf : Option Move → List Move
@@ -34,15 +42,30 @@ abbrev pub keptBy : Reply → Memory → Memory → Memory
 keptBy (refused q) old new = old
 keptBy (ok st a) old new = new
 
--- One call that keeps its contract: what it makes of the counters and of all that is lent beside them.
+-- One call that keeps its contract, of all that the library has: what it makes of the counters and of all that is lent beside them.
 pub data Called (ws : Words) (b : Memory) : List Move → Words → Memory → Type 0 where
   line : (i : ℕ) (text : List ℕ) (n : ℕ) (after : Words) (new : Lent) (out page : List ℕ) → replyLimit ≤ length out →
       AnswersLine i ws (lentOf b i) text n after new out page →
       Called ws b (callsOf (lineMove i (length (b .logs i)) text)) after (around i new (b .logs) (b .books))
+  -- a line without room for the longest reply
+  short : (i : ℕ) (text : List ℕ) (n : ℕ) (after : Words) (new : Lent) (out page : List ℕ) → length out < replyLimit →
+      AnswersLine i ws (lentOf b i) text n after new out page → Called ws b [] after (around i new (b .logs) (b .books))
   restart : (i k n : ℕ) (buffer : List ℕ) (after : Words) (new : Lent) →
       RestartsSlot i ws (lent buffer (b .rows) (b .numbers) (b .books i) []) k n after new →
       Called ws b (Move.Restart i buffer k ∷ []) after
       (keptBy (replyOf (Move.Restart i buffer k) (stateAt ws b)) b (around i new (b .logs) (b .books)))
+  -- the calls on numbers
+  call : (i : ℕ) (c : Call) (ns : List ℕ) (n : ℕ) (after : Words) (new : Lent) (head said : List ℕ) →
+      PerformsCall i ws (lentWith ns b i) c n after new head said →
+      Called ws b (Move.At i c ∷ []) after (around i new (b .logs) (b .books))
+  add : (i id count : ℕ) (updates ns : List ℕ) (n : ℕ) (after : Words) (new : Lent) (head said : List ℕ) →
+      PerformsAdd i ws (lentWith ns b i) id count updates n after new head said →
+      Called ws b (callsOf (addOf i id count updates)) after (around i new (b .logs) (b .books))
+  -- the calls that only read the state
+  poll : (i h n : ℕ) → PollsSlot ws i (lentOf b i) h n → Called ws b [] ws b
+  used : (i n : ℕ) → UsedIn ws i (lentOf b i) n → Called ws b [] ws b
+  trim : (i n : ℕ) (old : List ℕ) (r : ℕ) (new : List ℕ) (before after : ℕ) → TrimsSlot ws i (lentOf b i) n old r new before after →
+      Called ws b [] ws b
 
 -- A list of calls, one after the other.
 pub data Calls (ws : Words) (b : Memory) : List Move → Words → Memory → Type 0 where
@@ -84,18 +107,43 @@ refused-stays : (x : Move) (s : ModuleState) (q : Refusal) → replyOf x s ≡ r
 unfolding nextOf
 refused-stays x s q e = ap (λ (y : Reply). settleIn (slotOf x) y (promiseOf x (slotAt (slotOf x) s)) s) e
 
+-- A call on numbers, or a line: the call that it is.
+taken : (ws : Words) (b : Memory) (i : ℕ) (x : Option Move) (ns : List ℕ) (y : Reply) (after : Words) (new : Lent) (c : Memory) →
+    Takes i ws (lentWith ns b i) y (lineNext x (stateAt ws (around i (lentWith ns b i) (b .logs) (b .books)))) after new c →
+    Reaches ws b (callsOf x) after c
+taken ws b i x ns y after new c t =
+    record {
+      valid = t .valid;
+      state = t .state ∙ ap (λ (m : Memory). lineNext x (stateAt ws m)) (around-same b i) ∙ run-line x (stateAt ws b);
+    }
+
 -- One call is one step of the specification, or none.
 step : (ws : Words) (b : Memory) {xs : List Move} {after : Words} {c : Memory} → ValidWords ws b → Called ws b xs after c →
     Reaches ws b xs after c
 unfolding runAll
 step ws b v (line i text n after new out page room A) =
     let x = lineMove i (length (b .logs i)) text in
-    let t = subst (λ (k : Bool). AnswersIf k i ws (lentOf b i) x n after new out page) (le-leb replyLimit (length out) room) A (b .logs)
-    (b .books) (subst (ValidWords ws) (sym (around-same b i)) v) .takes in
+    taken ws b i x [] _ after new (around i new (b .logs) (b .books))
+    (subst (λ (k : Bool). AnswersIf k i ws (lentOf b i) x n after new out page) (le-leb replyLimit (length out) room) A (b .logs)
+    (b .books) (subst (ValidWords ws) (sym (around-same b i)) v) .takes)
+step ws b v (short i text n after new out page lack A) =
+    let k = subst (λ (k : Bool). AnswersIf k i ws (lentOf b i) (lineMove i (length (b .logs i)) text) n after new out page)
+    (lt-leb replyLimit (length out) lack) A .same in
+    let m : around i new (b .logs) (b .books) ≡ b =
+    ap (λ (w : Lent). around i w (b .logs) (b .books)) (k .kept) ∙ around-same b i in
     record {
-      valid = t .valid;
-      state = t .state ∙ ap (λ (m : Memory). lineNext x (stateAt ws m)) (around-same b i) ∙ run-line x (stateAt ws b);
+      valid = subst (ValidWords after) (sym m) (subst (λ (w : Words). ValidWords w b) (sym (k .counters)) v);
+      state = λ t. stateAt (k .counters t) (m t);
     }
+step ws b v (call i c ns n after new head said P) =
+    taken ws b i (some (Move.At i c)) ns _ after new (around i new (b .logs) (b .books))
+    (P (b .logs) (b .books) (subst (ValidWords ws) (sym (around-same b i)) v) .takes)
+step ws b v (add i id count updates ns n after new head said P) =
+    taken ws b i (addOf i id count updates) ns _ after new (around i new (b .logs) (b .books))
+    (P (b .logs) (b .books) (subst (ValidWords ws) (sym (around-same b i)) v) .takes)
+step ws b v (poll i h n P) = record { valid = v; state = refl }
+step ws b v (used i n U) = record { valid = v; state = refl }
+step ws b v (trim i n old r new before after T) = record { valid = v; state = refl }
 step ws b v (restart i k n buffer after new A) =
     subst (λ (y : Reply). Reaches ws b (x ∷ []) after (keptBy y b left)) (ap (λ (m : Memory). replyOf x (stateAt ws m)) same)
     (go (replyOf x (stateAt ws here)) refl

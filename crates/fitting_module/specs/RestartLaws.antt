@@ -1,43 +1,22 @@
 -- What the module's restart hands back, with its counters put away, is what a restart of the slot asks for.
 use Prim.Native.Nat.{ℕ}
-use mathlib.Core.Path.{_≡_, refl, sym, ap, subst, _∙_}
-use mathlib.Core.List.{List, []}
+use mathlib.Core.Path.{_≡_, sym, ap, subst, _∙_}
+use mathlib.Core.List.{[]}
 use lib.ListN.{length}
-use Rattle.forms.specs.Forms.{Outcome, Refused, Accepted}
-use Rattle.forms.specs.Held.{outcomeWith, outcomeOf, replied}
-use Rattle.forms.specs.declared.ReplyForm.{ReplyForm}
-use Rattle.forms.specs.declared.ReplyLine.{ReplyLine}
+use Rattle.forms.specs.Forms.{Refused, Accepted}
 use Rattle.rules.specs.State.{Reply, refused, ok}
 use Rattle.compact.specs.Module.{Module as ModuleState, Move, replyOf, nextOf}
-use Rattle.site.specs.Model.{Lent, Says}
+use Rattle.site.specs.Model.{Lent}
 use Rattle.module.specs.declared.Module.{Module}
 use Rattle.module.specs.declared.ModuleResult.{ModuleResult}
 use Rattle.module.specs.Model.{ValidModule, ValidAnew, viewOf, around, DoesFrom, MovesAnew}
+use Rattle.call_words.specs.Answers.{outcomeNumber, formNumber}
+use Rattle.call_words.specs.AnswerLaws.{says-number}
 use Rattle.fitting_module.specs.Words.{Words, moduleAt, wordsIn}
 use Rattle.fitting_module.specs.WordLaws.{module-words}
 use Rattle.fitting_module.specs.Model.{stateAt, UnusedLeft}
 use Rattle.fitting_module.specs.LineLaws.{bare}
-use Rattle.fitting_module.specs.Restarts.{outcomeNumber, formNumber, RestartsBy, before, ValidBefore, RestartsSlot}
-
--- The number of a form is that of what it says.
-form-outcome : (f : ReplyForm) (xs ys : List ℕ) → formNumber f ≡ outcomeNumber (outcomeWith f xs ys)
-unfolding formNumber outcomeNumber outcomeWith
-form-outcome (ReplyForm.Refused q) xs ys = refl
-form-outcome ReplyForm.Opened xs ys = refl
-form-outcome ReplyForm.Added xs ys = refl
-form-outcome (ReplyForm.Finished n k) xs ys = refl
-form-outcome ReplyForm.Withdrawn xs ys = refl
-form-outcome ReplyForm.Persisted xs ys = refl
-form-outcome ReplyForm.Stabilised xs ys = refl
-form-outcome (ReplyForm.Shows s) xs ys = refl
-form-outcome (ReplyForm.Restarted lines used) xs ys = refl
-form-outcome (ReplyForm.Redone ran examined) xs ys = refl
-form-outcome ReplyForm.Ended xs ys = refl
-
--- .. so a call's number is that of the specification's reply
-says-number : (r : ReplyLine) (ns : List ℕ) (o : Outcome) → Says (replied r ns) o → formNumber (r .form) ≡ outcomeNumber o
-unfolding outcomeOf
-says-number r ns o h = form-outcome (r .form) _ _ ∙ ap outcomeNumber (h .outcome)
+use Rattle.fitting_module.specs.Restarts.{RestartsBy, before, ValidBefore, RestartsSlot}
 
 module _ (i : ℕ) (ws : Words) (came : Lent) (k : ℕ) (r : ModuleResult) (new : Lent) where
   abbrev x : Move

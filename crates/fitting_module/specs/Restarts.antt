@@ -2,34 +2,14 @@
 use Prim.Native.Nat.{ℕ}
 use mathlib.Core.Path.{_≡_}
 use mathlib.Core.List.{List, []}
-use Rattle.forms.specs.Forms.{Outcome, Refused, Accepted}
 use Rattle.forms.specs.Refusals.{numberOf}
 use Rattle.forms.specs.declared.Refusal.{Refusal}
-use Rattle.forms.specs.declared.ReplyForm.{ReplyForm}
 use Rattle.rules.specs.State.{Reply, refused, ok}
 use Rattle.compact.specs.Module.{Module as ModuleState, Move, replyOf, nextOf}
 use Rattle.site.specs.Model.{Lent, lent}
 use Rattle.module.specs.Model.{around}
 use Rattle.fitting_module.specs.Words.{Words, moduleAt}
 use Rattle.fitting_module.specs.Model.{stateAt, ValidWords, ValidState, Same, UnusedLeft}
-
--- 0 for a reply that accepts, and a refusal's number
-unfoldable pub outcomeNumber : Outcome → ℕ
-outcomeNumber (Refused q) = numberOf q
-outcomeNumber (Accepted a) = 0
-
-unfoldable pub formNumber : ReplyForm → ℕ
-formNumber (ReplyForm.Refused q) = numberOf q
-formNumber ReplyForm.Opened = 0
-formNumber ReplyForm.Added = 0
-formNumber (ReplyForm.Finished n k) = 0
-formNumber ReplyForm.Withdrawn = 0
-formNumber ReplyForm.Persisted = 0
-formNumber ReplyForm.Stabilised = 0
-formNumber (ReplyForm.Shows s) = 0
-formNumber (ReplyForm.Restarted lines used) = 0
-formNumber (ReplyForm.Redone ran examined) = 0
-formNumber ReplyForm.Ended = 0
 
 -- It is refused: the slot keeps the site that it had, or none, and nothing that is lent has changed.
 pub record RestartsNot (ws : Words) (came : Lent) (q : Refusal) (n : ℕ) (after : Words) (new : Lent) : Type 0 where

@@ -3,34 +3,20 @@ use Prim.Native.Nat.{ℕ, _≤_, _<_}
 use mathlib.Core.Path.{_≡_, refl, sym, ap, _∙_}
 use mathlib.Core.Bool.{true, false}
 use mathlib.Core.List.{List}
-use mathlib.Core.Option.{Option, none, some}
-use lib.ListN.{length}
-use lib.Seq.{length-take-le}
-use Rattle.rules.specs.State.{State, logBytes}
 use Rattle.compact.specs.Module.{slotAt}
-use Rattle.site.specs.declared.Site.{Site}
-use Rattle.site.specs.Representation.{Sound}
-use Rattle.site.specs.Model.{Lent, view, Valid}
+use Rattle.site.specs.Model.{Lent}
 use Rattle.module.specs.declared.Slot.{Slot}
 use Rattle.module.specs.declared.Module.{Module}
 use Rattle.module.specs.Model.{slotIn, lentAt, Memory, around}
 use Rattle.module.specs.CallLaws.{site-some, site-none, past-last}
+use Rattle.call_words.specs.Used.{usedBy, site-used}
 use Rattle.fitting_module.specs.Words.{Words, moduleAt}
 use Rattle.fitting_module.specs.Model.{stateAt, ValidWords}
-
--- none without a site
-unfoldable pub usedBy : Option State → ℕ
-usedBy none = 0
-usedBy (some st) = length (logBytes st)
 
 -- The bytes of slot i's log, whatever logs and words the other slots have with which the state is valid.
 abbrev pub UsedIn : Words → ℕ → Lent → ℕ → Type 0
 UsedIn ws i m n =
     (logs books : ℕ → List ℕ) → ValidWords ws (around i m logs books) → n ≡ usedBy (slotAt i (stateAt ws (around i m logs books)) .site)
-
-site-used : (s : Site) (m : Lent) → Valid s m → s .used ≡ length (logBytes (view s m))
-unfolding Sound
-site-used s m v = sym (length-take-le (s .used) (m .log) (v .sound .carries .within)) ∙ ap length (v .sound .carries .text)
 
 module _ (ws : Words) (i : ℕ) (m : Lent) (c : Module) (is : c ≡ moduleAt ws) where
   pub used-opened : i < 4 → slotIn (c .slots) i .opened ≡ true → UsedIn ws i m (slotIn (c .slots) i .site .used)

@@ -1,18 +1,13 @@
 -- Counters that were written are read as they were.
 use native.Mathlib.Omega.{arith}
 use mathlib.Core.Path.{_≡_, refl, _∙_}
-use mathlib.Core.Bool.{Bool, true, false, cond}
 use mathlib.Core.List.{List, [], _∷_}
-use lib.Dec.{eqb}
 use lib.ListN.{length}
 use Rattle.module.specs.declared.Slot.{Slot}
 use Rattle.module.specs.declared.Module.{Module}
 use Rattle.module.specs.Model.{slotIn}
+use Rattle.call_words.specs.AnswerLaws.{bit-read}
 use Rattle.fitting_module.specs.Words.{slotAt, wordsOf, moduleAt, wordsIn}
-
-bit-read : (b : Bool) → eqb (cond b 1 0) 1 ≡ b
-bit-read true = refl
-bit-read false = refl
 
 -- The slot of a slot's counters is that slot.
 pub slot-words : (s : Slot) → slotAt (wordsOf s) ≡ s

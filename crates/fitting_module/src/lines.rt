@@ -3,15 +3,11 @@ ghost use Prim.Native.Nat.{ℕ, _≤_};
 ghost use mathlib.Core.Path.{_≡_};
 ghost use mathlib.Core.List.{List, []};
 ghost use lib.ListN.{length};
-ghost use Rattle.forms.specs.Forms.{outcomeText};
-ghost use Rattle.forms.specs.Held.{replied, outcomeOf};
-ghost use Rattle.forms.specs.Limits.{replyLimit};
-ghost use Rattle.forms.specs.Write.{Wrote, withEnd};
 ghost use Rattle.forms.specs.declared.reader.CommandForm.{CommandForm};
 ghost use Rattle.rules.specs.Calls.{Call};
 ghost use Rattle.compact.specs.Module.{Move};
 ghost use Rattle.table.specs.Ends.{was, left};
-ghost use Rattle.site.specs.Model.{Lent, received, old, new, oldWith, newWith, Printable};
+ghost use Rattle.site.specs.Model.{Lent, received, old, new, oldWith, newWith};
 ghost use Rattle.module.specs.Model.{ValidWith, Moves, RefusedIn};
 ghost use Rattle.fitting_module.specs.Model.{counters, oldCounters, newCounters, ValidState};
 ghost use Rattle.fitting_module.specs.Lines.{lineMove, didIn, Obeys, ObeysForm, AnswersLine};
@@ -19,9 +15,9 @@ ghost use Rattle.fitting_module.specs.Used.{UsedIn};
 use super::words::SlotWords;
 use super::words::module_at;
 use super::words::put_module;
+use call_words::text::put_reply;
 use forms::LogNumber;
 use forms::Refusal;
-use forms::ReplyLine;
 use forms::ReplyNumbers;
 use forms::limits::LIVE;
 use forms::limits::REPLY_BYTES;
@@ -29,11 +25,9 @@ use forms::limits::UPDATES;
 use forms::reader::CommandForm;
 use forms::reader::CommandRead;
 use forms::reader::read_command;
-use forms::writer::Written;
 use history::book::BookWords;
 use module::Module;
 use module::ModuleResult;
-use session::write_turn;
 use site::refusal;
 use table::rows::ROW;
 
@@ -130,18 +124,6 @@ fn obey(
 {
     let c = read_command(line);
     call(m, slot, log, rows, numbers, book, lists, line, c)
-}
-
-// Writes a reply, with its end, at the front of a buffer that has room for the longest.
-fn put_reply(out: &mut [u8], r: ReplyLine, lists: &ReplyNumbers) -> usize
-    requires { ⌜ Printable (replied r (now lists)) ⌝ }
-    requires { ⌜ replyLimit ≤ length (now out) ⌝ }
-    ensures { λ n. ⌜ Wrote (was out) 0 (withEnd (outcomeText (outcomeOf (replied r (was lists))))) n (left out) ⌝ }
-{
-    match write_turn(out, 0, r, lists) {
-        Written::At(n) => n,
-        Written::NoRoom => 0,
-    }
 }
 
 // Obeys a line for a slot, given without its end, and writes its reply, with its end: the bytes of the reply. Where `out` has less room

@@ -2,7 +2,6 @@
 ghost use mathlib.Core.Path.{_≡_};
 ghost use mathlib.Core.List.{[]};
 ghost use Rattle.site.specs.Model.{received, oldWith};
-ghost use Rattle.site.specs.Polls.{polledOf};
 ghost use Rattle.session.specs.Polls.{polledNumber};
 ghost use Rattle.module.specs.Polls.{slotPolled};
 ghost use Rattle.fitting_module.specs.Model.{counters, oldCounters, ValidState};
@@ -11,33 +10,12 @@ use super::lines::EntryNumbers;
 use super::lines::TableRows;
 use super::words::SlotWords;
 use super::words::module_at;
+use call_words::OUT_OF_TURN;
+use call_words::polls::poll_number;
 use history::book::BookWords;
 use module::poll::SlotPoll;
-use site::poll::PollAnswer;
 
-// 3: "a history that is not there".
-const NO_SUCH_HISTORY: u64 = 3;
-
-// 14: "before site", and a slot above the last.
-const OUT_OF_TURN: u64 = 14;
-
-// What a poll returns for a history that is not dry, and for one that is.
-pub const BUSY: u64 = 1000;
-
-pub const DRY: u64 = 1001;
-
-// The number for what a site's poll says.
-fn poll_number(p: PollAnswer) -> u64
-    ensures { λ n. ⌜ n ≡ polledNumber (polledOf p) ⌝ }
-{
-    match p {
-        PollAnswer::Dry => DRY,
-        PollAnswer::Busy => BUSY,
-        PollAnswer::NoSuchHistory => NO_SUCH_HISTORY,
-    }
-}
-
-// .. and a slot's.
+// The number for what a slot's poll says.
 fn slot_number(p: SlotPoll) -> u64
     ensures { λ n. ⌜ n ≡ polledNumber (slotPolled p) ⌝ }
 {

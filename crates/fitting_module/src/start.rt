@@ -1,18 +1,16 @@
 // A module begins, and a slot of it is taken up again from the bytes of its log.
-ghost use mathlib.Core.Path.{_≡_};
 ghost use mathlib.Core.List.{[]};
 ghost use Rattle.table.specs.Ends.{left};
 ghost use Rattle.site.specs.Model.{received, oldWith, newWith};
 ghost use Rattle.fitting_module.specs.Model.{counters, oldCounters, newCounters};
 ghost use Rattle.fitting_module.specs.Starts.{Starts};
-ghost use Rattle.fitting_module.specs.Restarts.{formNumber, ValidBefore, RestartsSlot};
+ghost use Rattle.fitting_module.specs.Restarts.{ValidBefore, RestartsSlot};
 use super::lines::EntryNumbers;
 use super::lines::TableRows;
 use super::words::SlotWords;
 use super::words::module_at;
 use super::words::put_module;
-use forms::ReplyForm;
-use forms::writer::refusal_number;
+use call_words::answer::reply_number;
 use history::book::BookWords;
 use module::Module;
 
@@ -34,16 +32,6 @@ pub extern "C" fn fm_start_parts(
     known_length(rows);
     let m = Module::new(numbers);
     put_module(first, second, third, fourth, m);
-}
-
-// 0 for a reply that accepts, and a refusal's number.
-fn reply_number(form: ReplyForm) -> u64
-    ensures { λ n. ⌜ n ≡ formNumber form ⌝ }
-{
-    match form {
-        ReplyForm::Refused(q) => refusal_number(q),
-        _ => 0,
-    }
 }
 
 // "Restart takes the first K bytes": 0, or the number of the refusal. Whatever site the slot had is replaced, in this buffer or another; a

@@ -1,10 +1,10 @@
 // A module's counters in words: from call to call they stand in arrays that are lent, one for each slot.
 ghost use mathlib.Core.Path.{_≡_};
-ghost use mathlib.Core.Bool.{cond};
 ghost use lib.ListN.{length};
 ghost use Rattle.table.specs.Ends.{was};
 ghost use Rattle.fitting_module.specs.Words.{slotAt, wordsOf, moduleAt, wordsIn};
 ghost use Rattle.fitting_module.specs.Model.{oldCounters, newCounters};
+use call_words::bit;
 use forms::LogNumber;
 use module::Module;
 use module::Slot;
@@ -18,13 +18,6 @@ use table::Table;
 pub const SLOT_WORDS: usize = 15;
 
 pub type SlotWords = [u64; SLOT_WORDS];
-
-// 1 for yes and 0 for no.
-fn bit(b: bool) -> u64
-    ensures { λ r. ⌜ r ≡ cond b 1 0 ⌝ }
-{
-    b as u64
-}
 
 // The slot whose counters these are.
 fn slot_at(words: &SlotWords) -> Slot

@@ -2,7 +2,7 @@
 //! logs after every call.
 
 use second::module::Module;
-use second::program::{all, Program, Second};
+use second::program::{all, Outcome, Program, Second};
 use second::rules::{Flaw, Rules};
 use second::slots::Slots;
 
@@ -36,14 +36,23 @@ fn make(module: &mut dyn Slots, call: &Call, logs: &mut [Vec<u8>]) -> Given {
     }
 }
 
-/// The first call of a list after which two programs differ, if any.
-fn first_difference(list: &[Call], one: &dyn Program, other: &dyn Program) -> Option<usize> {
-    let (mut a, mut b) = (one.module()?, other.module()?);
+/// Makes a module.
+type Maker = Box<dyn Fn() -> Box<dyn Slots>>;
+
+/// The first call of a list after which two modules differ, if any.
+fn first_difference(list: &[Call], one: &Maker, other: &Maker) -> Option<usize> {
+    let (mut a, mut b) = (one(), other());
     let (mut logs, mut other_logs) = (buffers(), buffers());
+    let mut i = 0;
     list.iter().position(|call| {
+        i += 1;
         let given = make(a.as_mut(), call, &mut logs);
         let same = given == make(b.as_mut(), call, &mut other_logs);
-        !same || logs != other_logs || told(a.as_ref(), &logs) != told(b.as_ref(), &other_logs)
+        !same
+            || logs != other_logs
+            || told(a.as_ref(), &logs) != told(b.as_ref(), &other_logs)
+            || i % 8 == 0
+                && trims(a.as_ref(), &logs, i / 8) != trims(b.as_ref(), &other_logs, i / 8)
     })
 }
 
@@ -56,20 +65,43 @@ fn told(module: &dyn Slots, logs: &[Vec<u8>]) -> Vec<(usize, Vec<u64>)> {
     (0..=Module::SLOTS).map(of_slot).collect()
 }
 
-/// The programs that have a module, this one first.
-fn programs() -> Vec<Box<dyn Program>> {
-    all().into_iter().filter(|program| program.module().is_some()).collect()
+/// What copies of a slot's log give, of as many operations as are stable or not, with room or without,
+/// and the bytes of the fresh buffer.
+fn trims(module: &dyn Slots, logs: &[Vec<u8>], turn: usize) -> Vec<(Outcome, Vec<u8>)> {
+    let slot = turn % (Module::SLOTS + 1);
+    let copy = |(n, room): (u64, usize)| {
+        let mut fresh = vec![b'y'; room];
+        (module.trim(slot, &logs[slot], n, &mut fresh), fresh)
+    };
+    [(0, ROOM), (1, ROOM), (turn as u64 % 40, ROOM), (0, 40), (0, 70_000)].map(copy).into()
+}
+
+/// The modules, that of this program first, with names.
+fn modules() -> Vec<(String, Maker)> {
+    let programs = all().into_iter().filter(|program| program.module().is_some());
+    let named = |program: Box<dyn Program>| -> (String, Maker) {
+        let name = program.name().to_string();
+        (name, Box::new(move || program.module().expect("it has one")))
+    };
+    #[allow(unused_mut)]
+    let mut modules: Vec<(String, Maker)> = programs.map(named).collect();
+    #[cfg(feature = "module")]
+    modules.push((
+        "library on numbers".to_string(),
+        Box::new(|| Box::new(second::linked_module::OnNumbers::default())),
+    ));
+    modules
 }
 
 #[test]
 fn all_modules_agree() {
-    let (lists, programs) = (lists(), programs());
-    assert_eq!(programs.len(), if cfg!(feature = "module") { 2 } else { 1 });
+    let (lists, modules) = (lists(), modules());
+    assert_eq!(modules.len(), if cfg!(feature = "module") { 3 } else { 1 });
     let mut compared = 0;
-    for other in &programs[1..] {
+    for (name, other) in &modules[1..] {
         for list in &lists {
-            if let Some(at) = first_difference(list, programs[0].as_ref(), other.as_ref()) {
-                panic!("{} differs at {:?}, after {:?}", other.name(), list[at], &list[..at]);
+            if let Some(at) = first_difference(list, &modules[0].1, other) {
+                panic!("{name} differs at {:?}, after {:?}", list[at], &list[..at]);
             }
             compared += list.len();
         }
@@ -77,18 +109,19 @@ fn all_modules_agree() {
     println!("{compared} calls compared");
 }
 
-/// Each broken rule of sites that share a table is noticed beside every program.
+/// Each broken rule of sites that share a table is noticed beside every module.
 #[test]
 fn each_broken_rule_differs() {
     let lists = lists();
-    for program in &programs() {
+    for (name, module) in &modules() {
         for &flaw in Flaw::OF_SHARED_TABLES {
-            let broken = Second::new("broken", Rules::broken(flaw));
-            let seen =
-                |list: &&Vec<Call>| first_difference(list, &broken, program.as_ref()).is_some();
+            let broken: Maker = Box::new(move || {
+                Second::new("broken", Rules::broken(flaw)).module().expect("it has one")
+            });
+            let seen = |list: &&Vec<Call>| first_difference(list, &broken, module).is_some();
             let seen = lists.iter().filter(seen).count();
-            println!("{flaw:?} beside {}: {seen} of {} lists", program.name(), lists.len());
-            assert!(seen > 0, "nothing shows {flaw:?} beside {}", program.name());
+            println!("{flaw:?} beside {name}: {seen} of {} lists", lists.len());
+            assert!(seen > 0, "nothing shows {flaw:?} beside {name}");
         }
     }
 }
@@ -96,7 +129,7 @@ fn each_broken_rule_differs() {
 /// What the library's state promises beyond its replies.
 #[cfg(feature = "module")]
 mod linked {
-    use second::linked_module::{LinkedModule, REPLY_BYTES};
+    use second::linked_module::{LinkedModule, OnNumbers, REPLY_BYTES};
 
     use super::*;
 
@@ -131,5 +164,24 @@ mod linked {
         }
         println!("{refused} refused calls, {lacked} without room for a reply");
         assert!(refused >= 1000 && lacked >= 300);
+    }
+
+    /// .. nor does a call on numbers that is refused; that it leaves its reply is asserted as it is made.
+    #[test]
+    fn what_is_refused_on_numbers_changes_nothing() {
+        let mut refused = 0;
+        for list in lists().iter().step_by(8) {
+            let (mut module, mut logs) = (OnNumbers::default(), buffers());
+            for call in list {
+                let before = (module.clone(), logs.clone());
+                let given = make(&mut module, call, &mut logs);
+                if matches!(given, Given::Text(reply) if reply.starts_with(b"(refused")) {
+                    assert!((&module, &logs) == (&before.0, &before.1), "{call:?} is refused");
+                    refused += 1;
+                }
+            }
+        }
+        println!("{refused} refused calls on numbers");
+        assert!(refused >= 1000);
     }
 }
