@@ -9,13 +9,11 @@ use Rattle.forms.specs.Decimal.{digits}
 use Rattle.forms.specs.Forms.{fieldsText, didText, outcomeText}
 use Rattle.forms.specs.Held.{didOf, outcomeWith}
 use Rattle.forms.specs.TextLaws.{did-size-zero, did-size-pos, reply-size}
-use Rattle.forms.specs.Write.{HeldInRange, heldText, replySize, Short}
+use Rattle.forms.specs.Write.{HeldInRange, heldText, replySize}
 use Rattle.forms.specs.declared.DidLine.{DidLine}
 use Rattle.forms.specs.declared.ReplyForm.{ReplyForm}
 use Rattle.forms.specs.declared.ReplyForm.the-variants.{Refused, Opened, Added, Finished, Withdrawn, Persisted}
 use Rattle.forms.specs.declared.ReplyForm.the-variants.{Stabilised, Shows, Restarted, Redone, Ended}
-use Rattle.forms.specs.declared.writer.LineForm.{LineForm}
-use Rattle.forms.specs.declared.writer.LineForm.the-variants.{Site, Did, Stable, Reply}
 
 -- a did line of any numbers, with its end
 pub did-most : (d : DidLine) → HeldInRange (d .held) → length (digits (d .id)) ≤ 20 →
@@ -46,10 +44,3 @@ pub reply-most : (f : ReplyForm) (xs ys : List ℕ) → length (fieldsText xs) �
     → replySize f 1344 1344 ≤ replyLimit → length (outcomeText (outcomeWith f xs ys)) + 1 ≤ replyLimit
 reply-most f xs ys h k most =
     omega (arith, reply-size f xs ys, size-most f (length (fieldsText xs)) (length (fieldsText ys)) h k, most)
-
--- no line is longer than the longest reply
-pub short-is : (line : LineForm) (n : ℕ) → n ≤ replyLimit → Short line n
-short-is (Site k) n h = tt
-short-is (Did id) n h = tt
-short-is (Stable k) n h = tt
-short-is (Reply form) n h = h

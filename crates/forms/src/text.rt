@@ -110,7 +110,7 @@ fn write_changes(buf: &mut [u8], at: usize, h: DoneHeld) -> usize
 }
 
 // Writes a did line without its end.
-fn write_did_text(buf: &mut [u8], at: usize, d: DidLine) -> usize
+pub(crate) fn write_did_text(buf: &mut [u8], at: usize, d: DidLine) -> usize
     requires { ⌜ HeldInRange (d .held) × (at + length (didText (didOf d)) ≤ length (now buf)) ⌝ }
     ensures { λ n. ⌜ Wrote (now (buf .entry)) at (didText (didOf d)) n (now (buf .exit)) ⌝ }
 {
@@ -234,7 +234,13 @@ fn write_two(buf: &mut [u8], at: usize, a: u64, b: u64) -> usize
 }
 
 // Writes a reply without its end.
-fn write_form(buf: &mut [u8], at: usize, form: ReplyForm, xs: &[u64], ys: &[u64]) -> usize
+pub(crate) fn write_form(
+    buf: &mut [u8],
+    at: usize,
+    form: ReplyForm,
+    xs: &[u64],
+    ys: &[u64],
+) -> usize
     requires { ⌜ at + length (outcomeText (outcomeWith form (now xs) (now ys))) ≤ length (now buf) ⌝ }
     ensures { λ r. ⌜ Wrote (now (buf .entry)) at (outcomeText (outcomeWith form (now (xs .entry)) (now (ys .entry)))) r
         (now (buf .exit)) ⌝ }
