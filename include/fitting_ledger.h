@@ -1,14 +1,13 @@
 /*
- * The fitting ledger for controllers and stations: a site, a card beside it, a keeper and records that live on from call to call, in memory
- * that their owner lends.
+ * The fitting ledger for controllers and stations: a site, a keeper and records that live on from call to call, in memory that their owner
+ * lends.
  *
- * Link with libfitting_ledger.a for a site, with libfitting_card.a too for a card, with libfitting_station.a for a keeper, records and the
- * report of what falls with lost lines (`rt staticlib NAME`), x86-64 Linux. C11 and C++17. docs/LIBRARY.md is the page to begin with.
+ * Link with libfitting_ledger.a for a site, with libfitting_station.a for a keeper, records and the report of what falls with lost lines
+ * (`rt staticlib NAME`), x86-64 Linux. C11 and C++17. docs/LIBRARY.md is the page to begin with.
  *
- * What is proved of the calls holds for a state that `fl_start` or `fl_restart` has filled (a card: `fl_card_afresh`; a keeper:
- * `fl_keeper_start`, `fl_keeper_resume`; records: `fl_records_start`, `fl_records_resume`) and that nobody but these calls has changed since,
- * neither the state nor the bytes of its log (the keeper's lines) in use: that is all they ask. Each call is then what documents 01 and 02 say
- * of a session (a card, a keeper, records).
+ * What is proved of the calls holds for a state that `fl_start` or `fl_restart` has filled (a keeper: `fl_keeper_start`, `fl_keeper_resume`;
+ * records: `fl_records_start`, `fl_records_resume`) and that nobody but these calls has changed since, neither the state nor the bytes of its
+ * log (the keeper's lines) in use: that is all they ask. Each call is then what documents 01 and 02 say of a session (a keeper, records).
  *
  * - The library has no memory of its own, allocates nothing, opens nothing and keeps no pointer beyond a call. It uses the stack alone: fewer
  *   than FL_STACK_BYTES; fl_removals, fewer than FL_REMOVALS_STACK_BYTES.
@@ -26,7 +25,7 @@ extern "C" {
 #endif
 
 /* The version of this header. `fl_fits` compares it with the library. */
-#define FL_VERSION 3
+#define FL_VERSION 4
 
 /* "A site has 1 to 16 histories": the greatest number that fl_start takes. */
 #define FL_HISTORIES 16
@@ -39,13 +38,20 @@ extern "C" {
 /* The longest reply, its end among them: the room that fl_line asks for. */
 #define FL_REPLY_BYTES 2741
 /* More than any call was seen to need of the stack (examples/c/stack.c): fl_line, which may be a cut, some 15,800, a restart 14,400, finding
- * a cut 13,700, a changeover 11,300, most calls below 5,500, those of a card and of a station below 2,000. */
+ * a cut 13,700, a changeover 11,300, most calls below 5,500, a card and the calls of a station below 2,000. */
 #define FL_STACK_BYTES 20480
 /* The same of fl_removals, which calls itself as deep as lines fall one by one: some 720,000 with a full log, all of whose lines fall. */
 #define FL_REMOVALS_STACK_BYTES 1048576
 
 /* "1 to 4 updates": as many as fl_add can be given. */
 #define FL_UPDATES 4
+
+/* "W is chosen from 1 to 1,024": the most lines that a card counts. */
+#define FL_WINDOW 1024
+/* Counts of a history on a card: inc, set, not. */
+#define FL_CARD_RULES 3
+/* Counts of a card. */
+#define FL_CARD_WORDS (FL_HISTORIES * FL_CARD_RULES)
 
 /* Words of a state's parts. */
 #define FL_COUNTER_WORDS 13
@@ -142,6 +148,7 @@ size_t fl_state_bytes(void);
 size_t fl_reply_bytes(void);
 size_t fl_answer_words(void);
 size_t fl_number_words(void);
+size_t fl_card_words(void);
 uint64_t fl_start_parts(uint64_t *counters, uint8_t *log, size_t log_bytes, const uint64_t *rows, uint8_t *order, uint64_t *histories,
                         uint64_t count);
 uint64_t fl_restart_parts(uint64_t *counters, const uint8_t *log, size_t log_bytes, uint64_t *rows, uint8_t *order, uint64_t *histories,
@@ -175,11 +182,13 @@ uint64_t fl_trim_parts(const uint64_t *counters, const uint8_t *log, size_t log_
                        const uint64_t *histories, uint64_t n, uint8_t *fresh, size_t fresh_bytes, size_t *used);
 uint64_t fl_find_cut_parts(const uint64_t *counters, const uint8_t *log, size_t log_bytes, const uint64_t *rows, const uint8_t *order,
                            const uint64_t *histories, const uint64_t *places, size_t count, size_t *kept);
+uint64_t fl_card_parts(const uint64_t *counters, const uint8_t *log, size_t log_bytes, const uint64_t *rows, const uint8_t *order,
+                       const uint64_t *histories, uint64_t window, uint64_t *counts, size_t *lines);
 
 /* Whether the library that was linked is the one that this header speaks of: 1 or 0. Ask once, first. */
 static inline int fl_fits(void) {
     return fl_version() == FL_VERSION && fl_reply_bytes() == FL_REPLY_BYTES && fl_state_bytes() == offsetof(fl_site, order) + FL_LIVE &&
-           fl_answer_words() == FL_ANSWER_WORDS && fl_number_words() == FL_NUMBER_WORDS;
+           fl_answer_words() == FL_ANSWER_WORDS && fl_number_words() == FL_NUMBER_WORDS && fl_card_words() == FL_CARD_WORDS;
 }
 
 /*
@@ -342,72 +351,26 @@ static inline uint64_t fl_find_cut(const fl_site *site, const uint64_t *places, 
     return fl_find_cut_parts(site->counters, site->log, site->log_bytes, site->rows, site->order, site->histories, places, count, kept);
 }
 
+/*
+ * Counts the card of the last `window` did lines of the log: FL_OK, `counts`, FL_CARD_WORDS numbers, has how many updates of each rule each
+ * history had over these lines, and `*lines` is how many lines count: `window`, or all where the log has fewer. It is counted afresh from the
+ * whole log then held, so it can be asked for at any time, behind a cut or a changeover too. While restoring too. Counts past those of the
+ * site's histories are as they were; so are the state and the log.
+ * FL_WINDOW_RANGE: not 1 to FL_WINDOW. FL_OUT_OF_TURN without a site. A refusal changes neither `counts` nor `*lines`.
+ */
+static inline uint64_t fl_card(const fl_site *site, uint64_t window, uint64_t *counts, size_t *lines) {
+    return fl_card_parts(site->counters, site->log, site->log_bytes, site->rows, site->order, site->histories, window, counts, lines);
+}
+
+/* Of a card's counts, how many updates of a rule, FL_INC, FL_SET or FL_NOT, a history had; an FL_UNK is logged as an inc. */
+static inline uint64_t fl_card_count(const uint64_t *counts, uint64_t history, uint64_t rule) {
+    return history < FL_HISTORIES && rule < FL_CARD_RULES ? counts[history * FL_CARD_RULES + rule] : 0;
+}
+
 /* The lists of a reply: fl_first has answer[FL_FIRST_COUNT] numbers, fl_second has answer[FL_SECOND_COUNT]. */
 static inline const uint64_t *fl_first(const fl_reply *reply) { return reply->numbers; }
 
 static inline const uint64_t *fl_second(const fl_reply *reply) { return reply->numbers + reply->answer[FL_FIRST_COUNT]; }
-
-/*
- * A card: over the last W did lines of a site's log, how many updates of each rule each history had. Link with libfitting_card.a beside
- * libfitting_ledger.a.
- */
-
-/* "W is chosen from 1 to 1,024". */
-#define FL_WINDOW 1024
-/* Words of a card's head, and counts of a history: inc, set, not. */
-#define FL_CARD_HEAD 4
-#define FL_CARD_RULES 3
-
-/* Where a card's head has what: its W, 0 where there is no card; and how many lines count: W, or all that the log has where it has fewer. */
-enum { FL_CARD_WINDOW = 0, FL_CARD_LINES = 1 };
-
-/*
- * A card beside a site. The owner lends it, and it must stay as it is between calls; fl_card_count reads it. It needs no storing: counted afresh
- * from the stored log it is the same.
- */
-typedef struct fl_card {
-    uint64_t head[FL_CARD_HEAD];
-    uint64_t counts[FL_HISTORIES * FL_CARD_RULES];
-} fl_card;
-
-/* What the library exports: the calls below hand it the parts. */
-uint64_t fl_card_version(void);
-size_t fl_card_words(void);
-uint64_t fl_card_afresh_parts(const uint64_t *counters, const uint8_t *log, size_t log_bytes, const uint64_t *rows, const uint8_t *order,
-                              const uint64_t *histories, uint64_t window, uint64_t *head, uint64_t *counts);
-uint64_t fl_card_follow_parts(const uint64_t *counters, const uint8_t *log, size_t log_bytes, const uint64_t *rows, const uint8_t *order,
-                              const uint64_t *histories, uint64_t *head, uint64_t *counts);
-
-/* Whether the library for cards that was linked is the one that this header speaks of: 1 or 0. Ask once, first. */
-static inline int fl_card_fits(void) {
-    return fl_card_version() == FL_VERSION && fl_card_words() == FL_CARD_HEAD + FL_HISTORIES * FL_CARD_RULES;
-}
-
-/*
- * Counts the card of the last `window` did lines of a site's log afresh, whatever the card holds. It reads the whole log.
- * FL_OK: head and counts say it. FL_WINDOW_RANGE: not 1 to FL_WINDOW. FL_OUT_OF_TURN without a site. A refusal leaves the counts as they were,
- * and there is no card. Counts past those of the site's histories are as they were, always. While restoring too. The site does not change.
- */
-static inline uint64_t fl_card_afresh(const fl_site *site, uint64_t window, fl_card *card) {
-    return fl_card_afresh_parts(site->counters, site->log, site->log_bytes, site->rows, site->order, site->histories, window, card->head,
-                                card->counts);
-}
-
-/*
- * Lets a card follow its site: FL_OK, and it is the one that fl_card_afresh would count now. It reads the lines that came since, and those that
- * leave, once more; to be called after each accepted call, or after several.
- * It asks for a card of this site, counted since the last fl_start, fl_restart and cut (fl_cut, or a line `(cut K)`): behind these, lines are
- * gone or come back into view, and the card is to be counted afresh.
- * FL_WINDOW_RANGE: there is no card. FL_OUT_OF_TURN without a site. A refusal changes nothing. The site does not change.
- */
-static inline uint64_t fl_card_follow(const fl_site *site, fl_card *card) {
-    return fl_card_follow_parts(site->counters, site->log, site->log_bytes, site->rows, site->order, site->histories, card->head, card->counts);
-}
-
-/* How many updates of a rule, FL_INC, FL_SET or FL_NOT, a history had; an FL_UNK is logged as an inc. */
-static inline uint64_t fl_card_count(const fl_card *card, uint64_t history, uint64_t rule) {
-    return history < FL_HISTORIES && rule < FL_CARD_RULES ? card->counts[history * FL_CARD_RULES + rule] : 0;
-}
 
 /*
  * A station. Link with libfitting_station.a; a program that holds a site too links both archives.

@@ -1,7 +1,7 @@
 /*
  * A controller that keeps its site's log in a file: what is new in the log is appended after each line that was accepted, so that the file
- * always holds the first bytes of the log. It can be killed at any moment, and goes on from what the file holds. Beside the log it keeps a card
- * of the last lines, which follows each line that was accepted; at the end it shows its histories and the card.
+ * always holds the first bytes of the log. It can be killed at any moment, and goes on from what the file holds. At the end it shows its
+ * histories, and the card of its last lines.
  *
  * usage: controller FILE [BYTES]     with BYTES it kills itself once it has written that many, in the middle of a line too
  */
@@ -14,7 +14,6 @@
 enum { HISTORIES = 4, OPERATIONS = 24, WINDOW = 10 };
 
 static fl_site site;
-static fl_card card;
 static uint8_t log_buffer[FL_LOG_BYTES];
 static stored file;
 
@@ -28,17 +27,11 @@ static const char *ask(const char *line) {
     if (n > FL_REPLY_BYTES) fail("no room for a reply");
     reply[n] = 0;
     store();
-    if (fl_card_follow(&site, &card) != FL_OK) fail("the card does not follow");
     return (const char *)reply;
 }
 
 static void must(const char *line) {
     if (strncmp(ask(line), "(ok", 3) != 0) fail(line);
-}
-
-/* The card of a site that has just begun. */
-static void count(void) {
-    if (fl_card_afresh(&site, WINDOW, &card) != FL_OK) fail("no card");
 }
 
 /* A new log, or the one that the file holds: a last line that was cut off is cut out of the file too. */
@@ -47,12 +40,10 @@ static void begin(const char *name) {
     if (memchr(log_buffer, '\n', file.bytes) == NULL) {
         stored_cut(&file, 0);
         if (fl_start(&site, log_buffer, sizeof log_buffer, HISTORIES) != FL_OK) fail("cannot start");
-        count();
         store();
         return;
     }
     if (fl_restart(&site, log_buffer, sizeof log_buffer, file.bytes) != FL_OK) fail("the file holds no log");
-    count();
     stored_cut(&file, fl_log_used(&site));
     must("(end)");
 }
@@ -90,14 +81,17 @@ static void operate(unsigned i) {
 
 /* Over the last WINDOW lines, the updates of each rule that each history had: inc, set, not. */
 static void show_card(void) {
+    uint64_t counts[FL_CARD_WORDS];
+    size_t lines;
+    if (fl_card(&site, WINDOW, counts, &lines) != FL_OK || lines != WINDOW) fail("no card");
     for (uint64_t h = 0; h < HISTORIES; h++)
-        printf("(card %" PRIu64 " %" PRIu64 " %" PRIu64 " %" PRIu64 ")\n", h, fl_card_count(&card, h, FL_INC), fl_card_count(&card, h, FL_SET),
-               fl_card_count(&card, h, FL_NOT));
+        printf("(card %" PRIu64 " %" PRIu64 " %" PRIu64 " %" PRIu64 ")\n", h, fl_card_count(counts, h, FL_INC),
+               fl_card_count(counts, h, FL_SET), fl_card_count(counts, h, FL_NOT));
 }
 
 int main(int argc, char **argv) {
     if (argc < 2) fail("usage: controller FILE [BYTES]");
-    if (!fl_fits() || !fl_card_fits()) fail("header and library differ");
+    if (!fl_fits()) fail("header and library differ");
     if (argc > 2) bytes_left = (size_t)strtoul(argv[2], NULL, 10);
     begin(argv[1]);
     settle(done());

@@ -20,7 +20,6 @@ static ucontext_t here, there;
 static fl_site site;
 static fl_keeper keeper;
 static fl_records records;
-static fl_card card;
 static fl_reply reply;
 
 /* The stack that a function uses. */
@@ -87,11 +86,10 @@ static void find_cut(void) {
     size_t kept = 0;
     fl_find_cut(&site, places, 16, &kept);
 }
-static void card_afresh(void) { fl_card_afresh(&site, 100, &card); }
-static void card_follow(void) { fl_card_follow(&site, &card); }
-static void one_more(void) {
-    const fl_update update = {FL_SET, 0, 99999, 7};
-    if (fl_add(&site, 2, &update, 1, &reply) != FL_OK || fl_finish(&site, 2, &reply) != FL_OK) exit(1);
+static void card(void) {
+    uint64_t counts[FL_CARD_WORDS];
+    size_t lines = 0;
+    fl_card(&site, 100, counts, &lines);
 }
 static void upgrade(void) {
     size_t used = 0;
@@ -155,7 +153,7 @@ static void fall_forward(void) { removals_from(1, 0); }
 static void fall_back(void) { removals_from(long_lines, 4 * long_lines); }
 
 int main(void) {
-    if (!fl_fits() || !fl_card_fits() || !fl_station_fits()) return 1;
+    if (!fl_fits() || !fl_station_fits()) return 1;
     measure("nothing", nothing);
     measure("fl_start", start);
     measure("fl_add, fl_finish, fl_persistent, fl_stable", fill);
@@ -163,9 +161,7 @@ int main(void) {
     measure("fl_poll", poll);
     measure("fl_trim", trim);
     measure("fl_find_cut", find_cut);
-    measure("fl_card_afresh", card_afresh);
-    one_more();
-    measure("fl_card_follow", card_follow);
+    measure("fl_card", card);
     measure("show, as a line", show_line);
     measure("add, as a line", add_line);
     measure("finish, as a line", finish_line);

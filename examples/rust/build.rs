@@ -10,7 +10,7 @@ fn main() {
     let asked = env::var("LEDGER_LIB_DIR").unwrap_or_else(|_| "../../target/staticlib".to_string());
     let folder = Path::new(&here).join(asked);
     println!("cargo:rustc-link-search=native={}", folder.display());
-    for name in ["fitting_ledger", "fitting_card", "fitting_station"] {
+    for name in ["fitting_ledger", "fitting_station"] {
         println!("cargo:rerun-if-changed={}", folder.join(format!("lib{name}.a")).display());
         println!("cargo:rustc-link-lib=static={name}");
     }

@@ -69,7 +69,7 @@ impl Calls for Chair<'_> {
         self.site().trim(n, self.log, fresh).map_err(Refusal::number)
     }
 
-    fn card(&mut self, window: u64) -> Result<Vec<u64>, u64> {
+    fn card(&self, window: u64) -> Result<Vec<u64>, u64> {
         let (site, mut counts) = (self.site(), [0; 48]);
         card(site, site, self.log, window, &mut counts, self.rules).map_err(Refusal::number)?;
         Ok(counts[..3 * account::HISTORIES as usize].to_vec())

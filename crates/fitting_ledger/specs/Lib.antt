@@ -14,3 +14,5 @@ pub mod Trims
 pub mod TrimLaws
 pub mod Finds
 pub mod FindLaws
+pub mod Cards
+pub mod CardLaws

@@ -4,6 +4,7 @@
 pub mod adding;
 pub mod answer;
 pub mod calls;
+pub mod cards;
 pub mod counters;
 pub mod finds;
 pub mod lines;

@@ -4,10 +4,12 @@ ghost use Prim.Native.Nat.{_+_, _*_};
 ghost use Rattle.forms.specs.Limits.{updateLimit, liveLimit, replyLimit};
 ghost use Rattle.history.specs.Words.{bookLength};
 ghost use Rattle.table.specs.Rows.{rowWidth};
+ghost use Rattle.card.specs.Model.{countsLength};
 ghost use lib.ListN.{length};
 ghost use Rattle.forms.specs.declared.ReplyLine.{ReplyLine};
 ghost use Rattle.call_words.specs.Answers.{answerWords};
 ghost use Rattle.fitting_ledger.specs.Counters.{counterWords};
+use super::cards::CARD_WORDS;
 use super::counters::COUNTERS;
 use call_words::answer::ANSWER_WORDS;
 use forms::limits::HISTORIES;
@@ -20,9 +22,9 @@ use table::rows::ROW;
 // The version of the calls and of what is lent to them.
 #[no_mangle]
 pub extern "C" fn fl_version() -> u64
-    ensures { λ n. ⌜ n ≡ 3 ⌝ }
+    ensures { λ n. ⌜ n ≡ 4 ⌝ }
 {
-    3
+    4
 }
 
 // The bytes of a state: its counters, its table's rows and the numbers of its histories, of eight bytes each, and the order of its entries.
@@ -55,4 +57,12 @@ pub extern "C" fn fl_number_words() -> usize
     ensures { λ n. ⌜ n ≡ updateLimit + liveLimit ⌝ }
 {
     UPDATES + LIVE
+}
+
+// How many counts a card has: inc, set and not of each history.
+#[no_mangle]
+pub extern "C" fn fl_card_words() -> usize
+    ensures { λ n. ⌜ n ≡ countsLength ⌝ }
+{
+    CARD_WORDS
 }

@@ -12,9 +12,9 @@ use removal::fall::LINES;
 // The version of the calls and of what is lent to them.
 #[no_mangle]
 pub extern "C" fn fl_station_version() -> u64
-    ensures { λ n. ⌜ n ≡ 3 ⌝ }
+    ensures { λ n. ⌜ n ≡ 4 ⌝ }
 {
-    3
+    4
 }
 
 // How many numbers the records have.

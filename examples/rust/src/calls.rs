@@ -1,6 +1,6 @@
 //! A site's calls on numbers.
 
-use super::{accepted, blank_reply, linked, Card, Refusal, Reply, Site, Update, UPDATES};
+use super::{accepted, blank_reply, linked, Refusal, Reply, Site, Update, UPDATES};
 
 const BUSY: u64 = 1_000;
 const DRY: u64 = 1_001;
@@ -157,7 +157,6 @@ impl Site<'_> {
     /// the log.
     pub fn cut(&mut self, kept: u64) -> Result<Reply, Refusal> {
         let mut reply = blank_reply();
-        self.card = Card::none();
         // SAFETY: see above.
         let code = unsafe {
             linked::fl_cut_parts(

@@ -1,41 +1,22 @@
 //! The card of the last lines of a site's log.
 
-use super::{accepted, linked, Refusal, Rule, Site, VERSION};
+use super::{accepted, linked, Refusal, Rule, Site};
 
-/// How many words the head of a card has: its W, how many lines count, and two positions of the log.
-pub const HEAD: usize = 4;
 const RULES: usize = 3;
 /// How many counts a card has: three for each of sixteen histories.
 pub const COUNTS: usize = 16 * RULES;
 
 /// Over the last lines of a log, how many updates of each rule each history had.
-#[derive(Clone, Debug)]
+#[derive(Clone, Debug, PartialEq, Eq)]
 pub struct Card {
-    head: [u64; HEAD],
+    lines: usize,
     counts: [u64; COUNTS],
 }
 
 impl Card {
-    /// Whether the library for cards that was linked is the one that this type speaks of.
-    pub fn fits() -> bool {
-        // SAFETY: these are lent nothing.
-        let (version, words) = unsafe { (linked::fl_card_version(), linked::fl_card_words()) };
-        (version, words) == (VERSION, HEAD + COUNTS)
-    }
-
-    /// No card: its W is 0.
-    pub(crate) fn none() -> Self {
-        Card { head: [0; HEAD], counts: [0; COUNTS] }
-    }
-
-    /// Its W.
-    pub fn window(&self) -> u64 {
-        self.head[0]
-    }
-
     /// How many lines count: W, or all where the log has fewer.
-    pub fn lines(&self) -> u64 {
-        self.head[1]
+    pub fn lines(&self) -> usize {
+        self.lines
     }
 
     /// How many updates of a rule a history had; an unk is logged as an inc.
@@ -49,41 +30,25 @@ impl Card {
     }
 }
 
-// The card is lent with the parts of a site that keeps it, which `start` or `restart` has filled. It is a card of this site, counted since the
-// last cut, or there is none: a cut drops it.
+// The call lends the parts of a site, which `start` or `restart` has filled.
 impl Site<'_> {
-    /// The card of the last `window` did lines. It follows the calls since it was last asked for; behind a cut, and for another W, it is
-    /// counted afresh.
-    pub fn card(&mut self, window: u64) -> Result<&Card, Refusal> {
-        let Site { counters, rows, histories, order, log, card } = self;
-        let follows = window != 0 && card.window() == window;
+    /// The card of the last `window` did lines, counted afresh from the log.
+    pub fn card(&self, window: u64) -> Result<Card, Refusal> {
+        let mut card = Card { lines: 0, counts: [0; COUNTS] };
         // SAFETY: see above.
         let code = unsafe {
-            if follows {
-                linked::fl_card_follow_parts(
-                    counters,
-                    log.as_ptr(),
-                    log.len(),
-                    rows,
-                    order,
-                    histories,
-                    &mut card.head,
-                    &mut card.counts,
-                )
-            } else {
-                linked::fl_card_afresh_parts(
-                    counters,
-                    log.as_ptr(),
-                    log.len(),
-                    rows,
-                    order,
-                    histories,
-                    window,
-                    &mut card.head,
-                    &mut card.counts,
-                )
-            }
+            linked::fl_card_parts(
+                &self.counters,
+                self.log.as_ptr(),
+                self.log.len(),
+                &self.rows,
+                &self.order,
+                &self.histories,
+                window,
+                &mut card.counts,
+                &mut card.lines,
+            )
         };
-        accepted(code, &self.card)
+        accepted(code, card)
     }
 }

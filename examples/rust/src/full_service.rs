@@ -4,7 +4,7 @@ mod account;
 mod service;
 
 use account::HISTORIES;
-use fitting_ledger::{Card, Refusal, Site, REPLY_BYTES};
+use fitting_ledger::{Refusal, Site, REPLY_BYTES};
 use service::{Calls, Ledger};
 
 /// The library.
@@ -37,7 +37,7 @@ impl Calls for Site<'_> {
         Site::trim(self, n, fresh).map_err(number)
     }
 
-    fn card(&mut self, window: u64) -> Result<Vec<u64>, u64> {
+    fn card(&self, window: u64) -> Result<Vec<u64>, u64> {
         let card = Site::card(self, window).map_err(number)?;
         Ok((0..HISTORIES).filter_map(|history| card.row(history)).flatten().copied().collect())
     }
@@ -48,6 +48,6 @@ fn number(Refusal(number): Refusal) -> u64 {
 }
 
 fn main() {
-    assert!(Site::fits() && Card::fits(), "the library is the one that this program speaks of");
+    assert!(Site::fits(), "the library is the one that this program speaks of");
     print!("{}", service::serve(&Library));
 }

@@ -1,6 +1,6 @@
 //! The library for controllers and stations behind safe types: a [`Site`] can only be had from [`Site::start`] or [`Site::restart`], and its
-//! words and the log that was lent to it can only be changed by its calls. That is what these ask for. So it is with the [`Card`] that a site
-//! keeps, with a [`Keeper`] and its lines, and with [`Records`].
+//! words and the log that was lent to it can only be changed by its calls. That is what these ask for. So it is with a [`Keeper`] and its
+//! lines, and with [`Records`].
 
 mod calls;
 mod card;
@@ -18,7 +18,7 @@ pub use removals::{removals, LOG_LINES};
 pub const LOG_BYTES: usize = 65_536;
 /// The longest reply.
 pub const REPLY_BYTES: usize = 2_741;
-const VERSION: u64 = 3;
+const VERSION: u64 = 4;
 const COUNTERS: usize = 13;
 const ROWS: usize = 64 * 24;
 const HISTORIES: usize = 16 * 6;
@@ -89,7 +89,6 @@ pub struct Site<'log> {
     histories: [u64; HISTORIES],
     order: [u8; ORDER],
     log: &'log mut [u8],
-    card: Card,
 }
 
 // Each call lends the library parts of a site, which `start` or `restart` has filled and only the library has changed since. They are
@@ -98,18 +97,19 @@ impl<'log> Site<'log> {
     /// Whether the library that was linked is the one that this type speaks of.
     pub fn fits() -> bool {
         // SAFETY: these are lent nothing.
-        let (version, state, reply, answer, numbers) = unsafe {
+        let (version, state, reply, answer, numbers, counts) = unsafe {
             (
                 linked::fl_version(),
                 linked::fl_state_bytes(),
                 linked::fl_reply_bytes(),
                 linked::fl_answer_words(),
                 linked::fl_number_words(),
+                linked::fl_card_words(),
             )
         };
         let words = 8 * (COUNTERS + ROWS + HISTORIES) + ORDER;
         (version, state, reply) == (VERSION, words, REPLY_BYTES)
-            && (answer, numbers) == (ANSWER, NUMBERS)
+            && (answer, numbers, counts) == (ANSWER, NUMBERS, card::COUNTS)
     }
 
     fn blank(log: &'log mut [u8]) -> Self {
@@ -119,7 +119,6 @@ impl<'log> Site<'log> {
             histories: [0; HISTORIES],
             order: [0; ORDER],
             log,
-            card: Card::none(),
         }
     }
 
@@ -181,9 +180,6 @@ impl<'log> Site<'log> {
         line: &[u8],
         reply: &'reply mut [u8; REPLY_BYTES],
     ) -> &'reply [u8] {
-        if line.starts_with(b"(cut ") {
-            self.card = Card::none();
-        }
         // SAFETY: see above.
         let bytes = unsafe {
             linked::fl_line_parts(

@@ -1,6 +1,6 @@
 //! The library's functions. A slice passes as its address and its length, an array as its address.
 
-use super::card::{COUNTS, HEAD};
+use super::card::COUNTS;
 use super::keeper::PLACES;
 use super::records::WORDS;
 use super::{ANSWER, COUNTERS, HISTORIES, NUMBERS, ORDER, ROWS, UPDATES};
@@ -198,10 +198,9 @@ extern "C" {
 
     pub fn fl_upgrade(log: *mut u8, log_bytes: usize, kept: usize, used: &mut usize) -> u64;
 
-    pub fn fl_card_version() -> u64;
     pub fn fl_card_words() -> usize;
 
-    pub fn fl_card_afresh_parts(
+    pub fn fl_card_parts(
         counters: &[u64; COUNTERS],
         log: *const u8,
         log_bytes: usize,
@@ -209,19 +208,8 @@ extern "C" {
         order: &[u8; ORDER],
         histories: &[u64; HISTORIES],
         window: u64,
-        head: &mut [u64; HEAD],
         counts: &mut [u64; COUNTS],
-    ) -> u64;
-
-    pub fn fl_card_follow_parts(
-        counters: &[u64; COUNTERS],
-        log: *const u8,
-        log_bytes: usize,
-        rows: &[u64; ROWS],
-        order: &[u8; ORDER],
-        histories: &[u64; HISTORIES],
-        head: &mut [u64; HEAD],
-        counts: &mut [u64; COUNTS],
+        lines: &mut usize,
     ) -> u64;
 
     pub fn fl_station_version() -> u64;

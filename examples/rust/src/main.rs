@@ -5,7 +5,7 @@
 
 mod store;
 
-use fitting_ledger::{Card, Refusal, Rule, Site, Update, LOG_BYTES, REPLY_BYTES};
+use fitting_ledger::{Refusal, Rule, Site, Update, LOG_BYTES, REPLY_BYTES};
 use std::cell::Cell;
 use std::env;
 use std::io::{self, Write};
@@ -39,13 +39,12 @@ fn operate(site: &mut Site, store: &mut Store, i: u64) -> io::Result<()> {
     site.finish(i).map_err(refused)?;
     store.grow(site.log())?;
     acknowledge(&site.log()[before..])?;
-    site.card(WINDOW).map_err(refused)?;
     settle(site, store, i + 1)
 }
 
 fn main() -> io::Result<()> {
     let arguments: Vec<String> = env::args().collect();
-    if !Site::fits() || !Card::fits() || arguments.len() < 2 {
+    if !Site::fits() || arguments.len() < 2 {
         return Err(io::Error::other("usage: controller FILE [BYTES]"));
     }
     let bytes_left = arguments.get(2).and_then(|n| n.parse().ok()).unwrap_or(usize::MAX);

@@ -3,9 +3,7 @@
 //!
 //! usage: numbers
 
-use fitting_ledger::{
-    removals, upgrade, Card, Keeper, Records, Refusal, Rule, Site, Update, LOG_BYTES,
-};
+use fitting_ledger::{removals, upgrade, Keeper, Records, Refusal, Rule, Site, Update, LOG_BYTES};
 
 fn update(rule: Rule, history: u64, version: u64, operand: u64) -> Update {
     Update { rule, history, version, operand }
@@ -126,7 +124,7 @@ fn recording() -> Result<(), Refusal> {
 
 fn main() {
     assert!(
-        Site::fits() && Card::fits() && Keeper::fits(),
+        Site::fits() && Keeper::fits(),
         "the libraries are the ones that this program speaks of"
     );
     for (name, part) in [

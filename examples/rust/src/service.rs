@@ -24,7 +24,7 @@ pub trait Calls {
     /// Copies the log from n on into a fresh buffer; gives the bytes used there, or the refusal's number.
     fn trim(&self, n: u64, fresh: &mut [u8]) -> Result<usize, u64>;
     /// The card of the last did lines of the log: inc, set and not of each history.
-    fn card(&mut self, window: u64) -> Result<Vec<u64>, u64>;
+    fn card(&self, window: u64) -> Result<Vec<u64>, u64>;
 }
 
 /// What opens sites over a log buffer.
