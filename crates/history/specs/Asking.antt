@@ -3,6 +3,7 @@ use Prim.Native.Nat.{ℕ, _≤_, _<_}
 use mathlib.Core.Path.{_≡_}
 use mathlib.Core.Bool.{Bool, true, false}
 use mathlib.Core.List.{List}
+use mathlib.Core.Logic.{_⊎_}
 use mathlib.Core.Option.{Option, none, some}
 use lib.Dec.{leb, eqb}
 use lib.ListN.{length, getD}
@@ -106,7 +107,7 @@ pub record FitsItem (n : ℕ) (x : Change) (i : Item) : Type 0 where
   pub operand : changeMisfits x ≡ false
   pub item : i ≡ changeItem x
 
--- .. where it is said to
+-- .. where it is said to; where it is not, it breaks 3 or 5
 abbrev pub FitsAs : ℕ → Change → DoneItem → Type 0
 FitsAs n x (DoneItem.Fits i) = FitsItem n x i
-FitsAs n x DoneItem.Refused = Unit {0}
+FitsAs n x DoneItem.Refused = (n ≤ x .history) ⊎ (changeMisfits x ≡ true)

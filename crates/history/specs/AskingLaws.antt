@@ -52,7 +52,7 @@ twice-snoc (h ∷ hs) x e f =
     let q = or-false-parts (eqb x h) (any (eqb x) hs) f in
     rw (any-snoc (eqb h) hs x (p .0) (eqb-sym x h false (q .0)), twice-snoc hs x (p .1) (q .1))
 
-twice-mid : (l : List ℕ) (x : ℕ) (r : List ℕ) → any (eqb x) l ≡ true → historyTwice (l ++ x ∷ r) ≡ true
+pub twice-mid : (l : List ℕ) (x : ℕ) (r : List ℕ) → any (eqb x) l ≡ true → historyTwice (l ++ x ∷ r) ≡ true
 unfolding historyTwice
 twice-mid [] x r f = let z : _≡_ {A = ℕ} 0 1 = cc in absurd (omega arith)
 twice-mid (h ∷ hs) x r f = go (eqb x h) refl f (twice-mid hs x r)
