@@ -2,17 +2,18 @@
 use Prim.Native.Nat.{ℕ, _≤_, _<_}
 use mathlib.Core.Path.{_≡_}
 use mathlib.Core.Bool.{Bool, true, false}
-use mathlib.Core.List.{List}
+use mathlib.Core.List.{List, map}
 use mathlib.Core.Logic.{_⊎_}
 use mathlib.Core.Option.{Option, none, some}
 use lib.Dec.{leb, eqb}
-use lib.ListN.{length, getD}
+use lib.ListN.{length, getD, take}
 use Rattle.forms.specs.Forms.{Update, Change, Did}
-use Rattle.forms.specs.Held.{asUpdate, asAsked, asChange, asDone, noUpdate, noChange, updatesOf}
+use Rattle.forms.specs.Held.{asUpdate, asAsked, asChange, asDone, noUpdate, noChange}
 use Rattle.forms.specs.Limits.{historyLimit, updateLimit}
 use Rattle.forms.specs.declared.Asked.{Asked}
 use Rattle.forms.specs.declared.Done.{Done}
 use Rattle.forms.specs.declared.AskedHeld.{AskedHeld}
+use Rattle.forms.specs.declared.DoneHeld.{DoneHeld}
 use Rattle.forms.specs.declared.DidLine.{DidLine}
 use Rattle.forms.specs.declared.Refusal.{Refusal}
 use Rattle.rules.specs.Rules.{ruleOf, operandFits}
@@ -41,11 +42,17 @@ askedTest Misfits u = updateMisfits u
 abbrev pub askedPasses : AskedTest → Asked → Bool
 askedPasses t a = askedTest t (asUpdate a)
 
--- These updates are held: as many as are counted, and where that is at most four, just they stand in the first places. What stands behind
--- them can be anything.
-pub record HoldsUpdates (h : AskedHeld) (us : List Update) : Type 0 where
-  pub count : h .count ≡ length us
-  pub first : h .count ≤ updateLimit → updatesOf h ≡ us
+-- These values are held in places of which n count: they are as many, and where that is at most four, just they stand in the first places.
+-- What stands behind them can be anything.
+pub record Holds {A B : Type 0} (value : B → A) (n : ℕ) (places : List B) (xs : List A) : Type 0 where
+  pub count : n ≡ length xs
+  pub first : n ≤ updateLimit → map value (take n places) ≡ xs
+
+abbrev pub HoldsUpdates : AskedHeld → List Update → Type 0
+HoldsUpdates h us = Holds asUpdate (h .count) (h .first) us
+
+abbrev pub HoldsChanges : DoneHeld → List Change → Type 0
+HoldsChanges h xs = Holds asChange (h .count) (h .first) xs
 
 -- what fills the places in which no update is held
 abbrev pub noAsked : Asked

@@ -1,6 +1,6 @@
 -- Laws of the checks 2 to 5 on what is held of a list of updates, and of the entries that held updates and did lines become.
 use Prim.Native.Nat.{ℕ, zero, suc, _+_, _≤_, _<_}
-use mathlib.Core.Path.{_≡_, refl, sym, ap, ap₂, subst, _∙_}
+use mathlib.Core.Path.{_≡_, refl, sym, ap, subst, _∙_}
 use mathlib.Core.Bool.{Bool, true, false, _||_, or-true}
 use mathlib.Core.List.{List, [], _∷_, _++_, map, map-append}
 use mathlib.Core.Option.{Option, none, some}
@@ -8,11 +8,11 @@ use native.Mathlib.Omega.{arith}
 use native.Mathlib.Numerals.{add-one}
 use borrow.Author.Tests.{eq-eqb, ne-eqb, eqb-true, eqb-false, lt-ltb, le-ltb, ltb-false, leb-false, not-false}
 use lib.Dec.{leb, ltb, eqb}
-use lib.ListN.{length, getD, take, drop, length-map, List·getD-map}
+use lib.ListN.{length, getD, take, drop, length-map, length-take, List·getD-map}
 use lib.Seq.{take-suc}
 use Rattle.forms.specs.Lists.{any}
 use Rattle.forms.specs.Forms.{Update, Change, Did}
-use Rattle.forms.specs.Held.{asUpdate, asAsked, asChange, asDone, noUpdate, noChange, firstFour, heldUpdates, heldChanges, heldDid}
+use Rattle.forms.specs.Held.{asUpdate, asAsked, asChange, asDone, noUpdate, noChange, firstFour, heldChanges, heldDid}
 use Rattle.forms.specs.Held.{updatesOf, changesOf, didOf}
 use Rattle.forms.specs.Limits.{historyLimit, updateLimit}
 use Rattle.forms.specs.declared.Asked.{Asked}
@@ -31,11 +31,11 @@ use Rattle.history.specs.declared.Item.{Item}
 use Rattle.history.specs.declared.AskedTest.the-variants.{Absent, In, Misfits}
 use Rattle.history.specs.declared.Verdict.the-variants.{Passes, Refused}
 use Rattle.history.specs.Asking.{verdictOf, askedTest, askedPasses, noAsked, noDoneUpdate, changeUpdate, updateItem, changeItem}
-use Rattle.history.specs.Asking.{HoldsUpdates, UsableUpdate, UsableHeld, UsableDid, Enters, EntersDid}
+use Rattle.history.specs.Asking.{Holds, HoldsUpdates, HoldsChanges, UsableUpdate, UsableHeld, UsableDid, Enters, EntersDid}
 use Rattle.history.specs.Entries.{itemUpdate, itemChange, operationOf, didOfEntry, UsableItem}
 use Rattle.history.specs.EntryLaws.{usable-four, items-four}
-use Rattle.history.specs.Tests.{or-false-parts, any-get, length-part, part-in, part-out, four-at, any-snoc}
-use Rattle.history.specs.Tests.{any-mid, any-map, map-map, map-same, four-held, four-eq, four-map, take-split}
+use Rattle.history.specs.Tests.{or-false-parts, any-get, length-part, part-in, part-out, any-snoc}
+use Rattle.history.specs.Tests.{any-mid, any-map, map-map, map-same, four-held, four-eq, take-split}
 use Rattle.rules.specs.Checks.{changeMisfitsWith, changesRefusalWith}
 
 -- ### A history twice
@@ -92,13 +92,13 @@ module _ (first : List Asked) (i : ℕ) where
 -- ### 2 to 5
 
 -- what is held of a list is that list
-pub holds-held : (us : List Update) → HoldsUpdates (heldUpdates us) us
-unfolding heldUpdates updatesOf
-holds-held us =
+pub held-changes : (xs : List Change) → HoldsChanges (heldChanges xs) xs
+unfolding heldChanges
+held-changes xs =
     record {
       count = refl;
-      first = λ few. ap (map asUpdate) (four-held asAsked noUpdate us few) ∙ map-map asAsked asUpdate us
-          ∙ map-same (λ (u : Update). asUpdate (asAsked u)) us (λ u. refl);
+      first = λ few. ap (map asChange) (four-held asDone noChange xs few) ∙ map-map asDone asChange xs
+          ∙ map-same (λ (x : Change). asChange (asDone x)) xs (λ x. refl);
     }
 
 -- at most four that are counted are held
@@ -220,22 +220,46 @@ pub changes-refusal : (n : ℕ) (xs : List Change) → updatesRefusal n (map cha
 unfolding updatesRefusal changesRefusalWith updateMisfits changeMisfitsWith
 changes-refusal n xs = sym (form-map changeUpdate (λ (u : Update). u .history) (λ (u : Update). updateMisfits u) n xs)
 
--- what is held of the changes, as held updates
-pub held-changes : (held : DoneHeld) (xs : List Change) → held ≡ heldChanges xs → {a b c d : Asked}
+-- four places made of the first four, where so many count as there are
+four-part : {A B : Type 0} (f : A → B) (d : A) (n : ℕ) (l : List A) → n ≤ updateLimit → n ≤ length l →
+    take n (firstFour f d l) ≡ map f (take n l)
+four-part f d zero l few long = refl
+four-part f d (suc n) [] few long = absurd (omega arith)
+four-part f d (suc zero) (a ∷ l) few long = refl
+four-part f d (suc (suc n)) (a ∷ []) few long = absurd (omega arith)
+four-part f d (suc (suc zero)) (a ∷ b ∷ l) few long = refl
+four-part f d (suc (suc (suc n))) (a ∷ b ∷ []) few long = absurd (omega arith)
+four-part f d (suc (suc (suc zero))) (a ∷ b ∷ c ∷ l) few long = refl
+four-part f d (suc (suc (suc (suc n)))) (a ∷ b ∷ c ∷ []) few long = absurd (omega arith)
+four-part f d (suc (suc (suc (suc zero)))) (a ∷ b ∷ c ∷ e ∷ l) few long = refl
+four-part f d (suc (suc (suc (suc (suc n))))) (a ∷ b ∷ c ∷ e ∷ l) few long = absurd (omega arith)
+
+-- the updates that held changes report are held in the places made of theirs
+pub holds-reported : (held : DoneHeld) (xs : List Change) → HoldsChanges held xs → {a b c d : Asked}
     → a ≡ asAsked (changeUpdate (asChange (getD (held .first) 0 noDoneUpdate))) →
     b ≡ asAsked (changeUpdate (asChange (getD (held .first) 1 noDoneUpdate)))
     → c ≡ asAsked (changeUpdate (asChange (getD (held .first) 2 noDoneUpdate))) →
     d ≡ asAsked (changeUpdate (asChange (getD (held .first) 3 noDoneUpdate)))
-    → _≡_ {A = AskedHeld} (record { count = held .count; first = a ∷ b ∷ c ∷ d ∷ [] }) (heldUpdates (map changeUpdate xs))
-unfolding heldUpdates heldChanges
-held-changes held xs e p q r s =
-    ap₂ {C = AskedHeld} (λ (n : ℕ) (l : List Asked). record { count = n; first = l })
-    (ap (λ (h : DoneHeld). h .count) e ∙ sym (length-map xs changeUpdate))
-    (four-eq (p ∙ at 0) (q ∙ at 1) (r ∙ at 2) (s ∙ at 3) ∙ four-map changeUpdate asAsked noChange xs)
+    → HoldsUpdates (record { count = held .count; first = a ∷ b ∷ c ∷ d ∷ [] }) (map changeUpdate xs)
+holds-reported held xs e p q r s =
+    record {
+      count = e .count ∙ sym (length-map xs changeUpdate);
+      first = λ few.
+          ap (λ (l : List Asked). map asUpdate (take (held .count) l)) (four-eq p q r s)
+          ∙ ap (map asUpdate) (four-part report noDoneUpdate (held .count) (held .first) few (long few))
+          ∙ map-map report asUpdate (take (held .count) (held .first))
+          ∙ sym (map-map asChange changeUpdate (take (held .count) (held .first)))
+          ∙ ap (map changeUpdate) (e .first few);
+    }
   where
-    at : (i : ℕ) → asAsked (changeUpdate (asChange (getD (held .first) i noDoneUpdate)))
-        ≡ asAsked (changeUpdate (asChange (getD (firstFour asDone noChange xs) i noDoneUpdate)))
-    at i = ap (λ (h : DoneHeld). asAsked (changeUpdate (asChange (getD (h .first) i noDoneUpdate)))) e
+    report : Done → Asked
+    report x = asAsked (changeUpdate (asChange x))
+
+    long : held .count ≤ updateLimit → held .count ≤ length (held .first)
+    long few =
+        let m : length (take (held .count) (held .first)) ≡ held .count =
+        sym (length-map (take (held .count) (held .first)) asChange) ∙ ap length (e .first few) ∙ sym (e .count) in
+        omega (arith, m, length-take (held .count) (held .first))
 
 -- ### The part of an array that counts, through a function
 
@@ -299,32 +323,38 @@ pub changes-passed : (n : ℕ) (xs : List Change) → changesRefusal n xs ≡ no
 unfolding changesRefusalWith updateMisfits changeMisfitsWith
 changes-passed n xs e = passed changeUpdate n xs e
 
+-- what passed and is held has usable updates in its places
+usable-each : {A B : Type 0} (f : A → Update) (g : B → A) (d : B) (m n : ℕ) (l : List B) (xs : List A) → m ≤ historyLimit → Holds g n l xs →
+    Passed f m xs → (i : ℕ) → i < n → UsableUpdate (f (g (getD l i d)))
+usable-each {A} f g d m n l xs most e p i h =
+    subst (λ (x : A). UsableUpdate (f x))
+    (sym (mapped-in g n l i d h ∙ ap (λ (ys : List A). getD ys i (g d)) (e .first (omega (arith, p .few, e .count)))))
+    (p .each most (g d) i (omega (arith, h, e .count)))
+
 -- updates and did lines that passed can be entered
 pub usable-held : (n : ℕ) (held : AskedHeld) (us : List Update) → n ≤ historyLimit → HoldsUpdates held us →
     length (held .first) ≡ updateLimit → updatesRefusal n us ≡ none → UsableHeld held
-unfolding updatesOf
 usable-held n held us most e long f =
     let p = updates-passed n us f in
-    let few : held .count ≤ updateLimit = omega (arith, p .few, e .count) in
     record {
-      few = few;
+      few = omega (arith, p .few, e .count);
       long = long;
-      each =
-          λ i h. subst UsableUpdate
-          (sym (mapped-in asUpdate (held .count) (held .first) i noAsked h ∙ ap (λ (l : List Update). getD l i noUpdate) (e .first few)))
-          (p .each most noUpdate i (omega (arith, h, e .count)));
+      each = usable-each (λ (u : Update). u) asUpdate noAsked n (held .count) (held .first) us most e p;
+    }
+
+pub usable-line : (n : ℕ) (line : DidLine) (xs : List Change) → n ≤ historyLimit → HoldsChanges (line .held) xs →
+    length (line .held .first) ≡ updateLimit → changesRefusal n xs ≡ none → UsableDid line
+usable-line n line xs most e long f =
+    let p = changes-passed n xs f in
+    record {
+      few = omega (arith, p .few, e .count);
+      long = long;
+      each = usable-each changeUpdate asChange noDoneUpdate n (line .held .count) (line .held .first) xs most e p;
     }
 
 pub usable-did : (n : ℕ) (d : Did) → n ≤ historyLimit → changesRefusal n (d .changes) ≡ none → UsableDid (heldDid d)
 unfolding heldDid heldChanges
-usable-did n d most e =
-    let p = changes-passed n (d .changes) e in
-    record {
-      few = p .few;
-      long = refl;
-      each = λ i h. subst (λ (x : Done). UsableUpdate (changeUpdate (asChange x)))
-          (sym (four-at asDone noChange (d .changes) i noDoneUpdate (omega (arith, h, p .few)))) (p .each most noChange i h);
-    }
+usable-did n d most e = usable-line n (heldDid d) (d .changes) most (held-changes (d .changes)) refl e
 
 -- the only update that is held
 pub only-update : (held : AskedHeld) (us : List Update) → HoldsUpdates held us → length (held .first) ≡ updateLimit → held .count ≡ 1 →

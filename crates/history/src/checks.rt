@@ -6,11 +6,10 @@ ghost use lib.ListN.{length, take};
 ghost use Rattle.forms.specs.Lists.{any};
 ghost use Rattle.forms.specs.Forms.{Update, Change};
 ghost use Rattle.forms.specs.Held.{asUpdate, asAsked, asChange, updatesOf};
-ghost use Rattle.forms.specs.Held.{heldChanges};
 ghost use Rattle.forms.specs.Limits.{updateLimit};
 ghost use Rattle.rules.specs.Checks.{historyTwice, updatesRefusal, changesRefusal};
 ghost use Rattle.rules.specs.Rules.{ruleOf};
-ghost use Rattle.history.specs.Asking.{askedTest, askedPasses, verdictOf, changeUpdate, HoldsUpdates};
+ghost use Rattle.history.specs.Asking.{askedTest, askedPasses, verdictOf, changeUpdate, HoldsUpdates, HoldsChanges};
 use super::AskedTest;
 use super::Verdict;
 use super::update_rules::operand_fits;
@@ -146,9 +145,10 @@ fn asked_of(d: Done) -> Asked
     }
 }
 
-// The checks 2 to 5 of the changes of a did line, in a site of n histories: those of the updates that it reports.
+// The checks 2 to 5 of the changes of a did line, in a site of n histories: those of the updates that it reports. What is held past the
+// count is not looked at.
 pub fn done_refusal(n: u64, held: DoneHeld) -> Verdict
-    ensures { λ r. ⌜ ((xs : List Change) → held ≡ heldChanges xs → r ≡ verdictOf (changesRefusal n xs)) ⌝ }
+    ensures { λ r. ⌜ ((xs : List Change) → HoldsChanges held xs → r ≡ verdictOf (changesRefusal n xs)) ⌝ }
 {
     let first = held.first;
     let a = first[0];

@@ -161,6 +161,7 @@ free-of i us st e = free-when false i us st e
 -- updates that passed 2 to 5 are those of the entry made of them
 pub asked-enters : (i n : ℕ) (a : AskedHeld) (us : List Update) → HoldsUpdates a us → updatesRefusal n us ≡ none →
     (e : Entry) → Enters (addedOperation i (updatesOf a)) e → Enters (addedOperation i us) e
+unfolding updatesOf
 asked-enters i n a us h f e x =
     subst (λ (l : List Update). Enters (addedOperation i l) e) (h .first (omega (arith, h .count, formed-updates n us f .few))) x
 

@@ -6,7 +6,7 @@ use mathlib.Core.List.{List}
 use mathlib.Core.Option.{Option, none}
 use lib.ListN.{length}
 use Rattle.forms.specs.Lists.{sum, any}
-use Rattle.forms.specs.Forms.{Update}
+use Rattle.forms.specs.Forms.{Update, Did}
 use Rattle.forms.specs.declared.Refusal.{Refusal}
 use Rattle.forms.specs.declared.Refusal.the-variants.{NothingOrders, IdPending, AlreadyDone, ReadOvertaken}
 use Rattle.forms.specs.declared.Refusal.the-variants.{HighestVersion, TableFull, NoRoom}
@@ -16,11 +16,12 @@ use Rattle.rules.specs.State.{Operation, State, logBytes, startOf, lineBytes}
 use Rattle.rules.specs.Calls.{nothingOrders, idPending, idDone, tableFull}
 use Rattle.history.specs.declared.History.{History}
 use Rattle.history.specs.declared.Verdict.the-variants.{Passes}
-use Rattle.history.specs.Asking.{verdictOf, Enters}
+use Rattle.history.specs.Asking.{verdictOf, Enters, EntersDid}
 use Rattle.history.specs.Cells.{alreadyDoneIn, readOvertakenIn, atHighestIn}
 use Rattle.history.specs.Entries.{cellsOf}
 use Rattle.site.specs.declared.seen.Admission.{Admission}
 use Rattle.site.specs.declared.seen.CheckInputs.{CheckInputs}
+use Rattle.site.specs.declared.seen.LineAdmission.{LineAdmission}
 
 -- What was read is so in the state st, for the id i, and the histories hold its book; `used` says that the site may use no more entries.
 pub record Sees (x : CheckInputs) (hs : List History) (i : ℕ) (used : Bool) (st : State) : Type 0 where
@@ -57,3 +58,9 @@ addedOperation i us = record { id = i; updates = us; running = false }
 pub record Admits (i : ℕ) (us : List Update) (o : Option Refusal) (r : Admission) : Type 0 where
   pub verdict : r .verdict ≡ verdictOf o
   pub enters : r .verdict ≡ Passes → Enters (addedOperation i us) (r .entry)
+
+-- What the checks of a redo said is what the specification says, o; and a did line that passes has its entry, and its length is known.
+pub record AdmitsLine (did : Did) (o : Option Refusal) (r : LineAdmission) : Type 0 where
+  pub verdict : r .verdict ≡ verdictOf o
+  pub enters : r .verdict ≡ Passes → EntersDid did (r .entry)
+  pub size : r .verdict ≡ Passes → r .length ≡ lineBytes did

@@ -3,15 +3,22 @@ use Prim.Native.Nat.{ℕ}
 use mathlib.Core.Path.{_≡_}
 use mathlib.Core.Bool.{Bool}
 use mathlib.Core.List.{List}
+use lib.ListN.{length}
 pub use Rattle.forms.specs.Lists.{padded}
 use Rattle.forms.specs.Forms.{Update, Change, Did}
 use Rattle.forms.specs.Held.{asUpdate, asAsked, asChange, asDone, noUpdate, noChange, firstFour}
+use Rattle.forms.specs.Writable.{WritableChange, WritableDid, Each}
+use Rattle.forms.specs.Limits.{updateLimit}
+use Rattle.forms.specs.declared.Done.{Done}
 use Rattle.forms.specs.declared.AskedHeld.{AskedHeld}
 use Rattle.forms.specs.declared.DoneHeld.{DoneHeld}
 use Rattle.forms.specs.declared.DidLine.{DidLine}
 use Rattle.rules.specs.State.{State, Reply}
 use Rattle.rules.specs.Calls.{unless, redoRefusal, redoRefusalWhen, delivered}
 use Rattle.rules.specs.Within.{usesAll}
+use Rattle.site.specs.declared.Site.{Site}
+use Rattle.site.specs.declared.CallResult.{CallResult}
+use Rattle.site.specs.Model.{Lent, view, Does}
 
 -- The updates that are held: as many as are counted, of which the first four are known.
 abbrev pub updatesHeld : AskedHeld → List Update
@@ -34,6 +41,22 @@ redoFull full did st = unless (redoRefusalWhen full did st) (delivered did st)
 
 abbrev pub redoWithin : ℕ → Did → State → Reply
 redoWithin n did st = redoFull (usesAll n st) did st
+
+-- A call of the site s, which may use the entries in the order, does what the specification replies to a redo of the did line that is held.
+abbrev pub Redoes : Site → Lent → DidLine → CallResult → Lent → Type 0
+Redoes s old d r new = Does s old (redoWithin (length (old .order)) (didHeld d) (view s old)) r new
+
+-- ### What can be written
+
+-- Four places of changes, of which as many as count can be written, whatever stands there.
+pub record BoundedChanges (places : List Done) : Type 0 where
+  pub long : length places ≡ updateLimit
+  pub each : (n : ℕ) → Each WritableChange (padded noChange n (firstFour asChange (asDone noChange) places))
+
+-- .. so that the did line that is held can be written
+pub record BoundedDid (d : DidLine) : Type 0 where
+  pub long : length (d .held .first) ≡ updateLimit
+  pub writable : WritableDid (didHeld d)
 
 -- The code's value y holds the value x of the forms, which can be written.
 pub record Stands {A B : Type 0} (hold : A → B) (W : A → Type 0) (x : A) (y : B) : Type 0 where

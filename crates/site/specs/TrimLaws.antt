@@ -15,22 +15,21 @@ use Rattle.forms.specs.Decimal.{top}
 use Rattle.forms.specs.Lists.{all, any}
 use Rattle.forms.specs.ListLaws.{true-T, all-of, all-at}
 use Rattle.forms.specs.Forms.{Update, Change, Did}
-use Rattle.forms.specs.Writable.{WritableUpdate, WritableChange, WritableDid, Each}
+use Rattle.forms.specs.Writable.{WritableUpdate, WritableChange, Each}
 use Rattle.forms.specs.Held.{asUpdate, asAsked, asChange, asDone, noUpdate, noChange, firstFour, heldUpdates, heldChanges, heldDid}
-use Rattle.forms.specs.Held.{updatesOf}
 use Rattle.forms.specs.HeldLaws.{four-at}
 use Rattle.forms.specs.BaseHeldLaws.{padded-length, padded-at}
 use Rattle.forms.specs.Limits.{updateLimit}
 use Rattle.forms.specs.declared.Asked.{Asked}
 use Rattle.forms.specs.declared.Done.{Done}
 use Rattle.forms.specs.declared.AskedHeld.{AskedHeld}
-use Rattle.forms.specs.declared.DidLine.{DidLine}
+use Rattle.forms.specs.declared.DoneHeld.{DoneHeld}
 use Rattle.forms.specs.declared.Refusal.{Refusal}
 use Rattle.forms.specs.declared.Refusal.the-variants.{WrongCount, NoSuchHistory, HistoryTwice, OperandRange, OutOfTurn}
 use Rattle.rules.specs.Checks.{check, andThen, wrongCount, noSuchHistory, historyTwice, formRefusal, updatesRefusal}
 use Rattle.rules.specs.State.{State, Reply, refused}
 use Rattle.rules.specs.Calls.{Call, writableUpdate, unless, step, add, addRefusal, redoRefusal, delivered}
-use Rattle.history.specs.Asking.{HoldsUpdates}
+use Rattle.history.specs.Asking.{Holds, HoldsUpdates, HoldsChanges}
 use Rattle.site.specs.AddLaws.{add-performs}
 use Rattle.site.specs.Trim.{padded, updatesHeld, changesHeld, didHeld, redoOf, redoFull, Stands}
 use Rattle.rules.specs.Checks.{changesRefusalWith}
@@ -139,20 +138,14 @@ asked-held h p q r s =
     let n = padded-length noUpdate (h .count) (firstFour asUpdate (asAsked noUpdate) (h .first)) in
     record { is = λ i. record { count = sym n i; first = k .0 i }; writable = k .1 }
 
-pub did-held : (l : DidLine) → l .id ≤ top → {a b c d : Done} →
-    Stands asDone WritableChange (getD (changesHeld (l .held)) 0 noChange) a →
-    Stands asDone WritableChange (getD (changesHeld (l .held)) 1 noChange) b →
-    Stands asDone WritableChange (getD (changesHeld (l .held)) 2 noChange) c →
-    Stands asDone WritableChange (getD (changesHeld (l .held)) 3 noChange) d →
-    Stands heldDid WritableDid (didHeld l) (record { id = l .id; held = record { count = l .held .count; first = a ∷ b ∷ c ∷ d ∷ [] } })
-unfolding heldDid heldChanges
-did-held l le p q r s =
-    let k = four-stand asDone asChange noChange WritableChange (l .held .count) (l .held .first) blank-change p q r s in
-    let n = padded-length noChange (l .held .count) (firstFour asChange (asDone noChange) (l .held .first)) in
-    record {
-      is = λ i. record { id = l .id; held = record { count = sym n i; first = k .0 i } };
-      writable = record { id = le; changes = k .1 };
-    }
+-- four changes, of which as many as count can be written
+pub places-writable : (l : List Done) → WritableChange (asChange (getD l 0 (asDone noChange))) →
+    WritableChange (asChange (getD l 1 (asDone noChange))) → WritableChange (asChange (getD l 2 (asDone noChange))) →
+    WritableChange (asChange (getD l 3 (asDone noChange))) → (n : ℕ) →
+    Each WritableChange (padded noChange n (firstFour asChange (asDone noChange) l))
+places-writable l p q r s n =
+    four-each noChange WritableChange blank-change n _ _ _ _
+    (λ i h k. four (λ j. WritableChange (getD (firstFour asChange (asDone noChange) l) j noChange)) p q r s i k)
 
 -- the elements of four that count, through a function
 four-take : {A B : Type 0} (g : B → A) (d : B) (blank : A) (n : ℕ) (xs : List B) → length xs ≡ updateLimit → n ≤ updateLimit →
@@ -173,13 +166,16 @@ four-take {A} {B} g d blank n (a ∷ b ∷ c ∷ x ∷ []) e h = go n h
 four-take g d blank n (a ∷ b ∷ c ∷ x ∷ y ∷ xs) e h = absurd (omega arith)
 
 -- what is held is held, whatever stands past the count
+held-these : {A B : Type 0} (g : B → A) (d : B) (blank : A) (n : ℕ) (l : List B) → length l ≡ updateLimit →
+    Holds g n l (padded blank n (firstFour g d l))
+held-these g d blank n l long =
+    record { count = sym (padded-length blank n (firstFour g d l)); first = four-take g d blank n l long }
+
 pub holds-these : (h : AskedHeld) → length (h .first) ≡ updateLimit → HoldsUpdates h (updatesHeld h)
-unfolding updatesOf
-holds-these h long =
-    record {
-      count = sym (padded-length noUpdate (h .count) (firstFour asUpdate (asAsked noUpdate) (h .first)));
-      first = four-take asUpdate (asAsked noUpdate) noUpdate (h .count) (h .first) long;
-    }
+holds-these h long = held-these asUpdate (asAsked noUpdate) noUpdate (h .count) (h .first) long
+
+pub holds-changes : (h : DoneHeld) → length (h .first) ≡ updateLimit → HoldsChanges h (changesHeld h)
+holds-changes h long = held-these asChange (asDone noChange) noChange (h .count) (h .first) long
 
 update-writable : (u : Update) → WritableUpdate u → T (writableUpdate u)
 unfolding writableUpdate

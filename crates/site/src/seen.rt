@@ -1,10 +1,12 @@
 // What the checks of an add and of a redo read of a site, and those that both have.
 ghost use mathlib.Core.Path.{_≡_};
+ghost use Rattle.history.specs.declared.Verdict.the-variants.{Refused};
 ghost use Rattle.history.specs.Asking.{verdictOf};
 ghost use Rattle.site.specs.CheckInputs.{conflictRefusal};
 use forms::Refusal;
 use history::Entry;
 use history::Verdict;
+use history::entries::blank_item;
 
 // What the checks of an operation or of a did line read of a site, beside its histories.
 pub struct CheckInputs {
@@ -22,6 +24,30 @@ pub struct CheckInputs {
 pub struct Admission {
     pub verdict: Verdict,
     pub entry: Entry,
+}
+
+// What the checks of a redo say, and of a did line that passes them its entry and its length, with its end.
+pub struct LineAdmission {
+    pub verdict: Verdict,
+    pub entry: Entry,
+    pub length: usize,
+}
+
+// What is refused has no entry.
+pub fn refused(q: Refusal) -> Admission
+    ensures { λ r. ⌜ r .verdict ≡ Refused q ⌝ }
+{
+    let x = blank_item();
+    let entry = Entry {
+        id: 0,
+        running: false,
+        count: 0,
+        items: [x, x, x, x],
+    };
+    Admission {
+        verdict: Verdict::Refused(q),
+        entry,
+    }
 }
 
 // The checks 7 to 9, 17, 10 and 12, by what each has found.

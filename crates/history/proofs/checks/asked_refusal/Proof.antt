@@ -2,6 +2,7 @@
 use mathlib.Core.Path.{ap, _∙_}
 use mathlib.Core.List.{List}
 use Rattle.forms.specs.Forms.{Update}
+use Rattle.forms.specs.Held.{updatesOf}
 use Rattle.rules.specs.Checks.{updatesRefusal}
 use Rattle.history.specs.Asking.{verdictOf}
 use Rattle.history.specs.AskingLaws.{refused-none, refused-many, only-update}
@@ -32,6 +33,7 @@ several-refusal-requires : tie.Need-several-refusal-requires
 several-refusal-requires c κs = search needs
 
 returns-4 : tie.Need-returns-4
+unfolding updatesOf
 returns-4 c = λ us e.
     c .several-refusal .ensures
     ∙ ap (λ (l : List Update). verdictOf (updatesRefusal (c .before .before .before .before .args .n) l)) (e .first (c .before .before .if2 .left))

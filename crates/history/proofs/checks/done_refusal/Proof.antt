@@ -1,9 +1,8 @@
 -- A did line's updates are asked of as those of an add: held in the same places, with the same verdict.
-use mathlib.Core.Path.{sym, ap, subst, _∙_}
+use mathlib.Core.Path.{ap, _∙_}
 use mathlib.Core.List.{map}
-use Rattle.forms.specs.declared.AskedHeld.{AskedHeld}
-use Rattle.history.specs.Asking.{verdictOf, changeUpdate, HoldsUpdates}
-use Rattle.history.specs.AskingLaws.{held-changes, holds-held, changes-refusal}
+use Rattle.history.specs.Asking.{verdictOf, changeUpdate}
+use Rattle.history.specs.AskingLaws.{holds-reported, changes-refusal}
 use borrow.Author.Needs.{needs}
 use Rattle.history.proofs.checks.done_refusal.Statement.{statement}
 use Rattle.history.proofs.checks.done_refusal.Tie as tie
@@ -38,12 +37,9 @@ asked-refusal-requires c κs = search needs
 returns : tie.Need-returns
 returns c = λ xs e.
     let a = c .before .before .before .before .before .before .before .before .before .before .args in
-    let us = map changeUpdate xs in
-    c .asked-refusal .ensures us
-    (subst (λ (h : AskedHeld). HoldsUpdates h us)
-    (sym (held-changes (a .held) xs e (c .before .before .before .before .asked-of .ensures) (c .before .before .before .asked-of2 .ensures)
-    (c .before .before .asked-of3 .ensures) (c .before .asked-of4 .ensures)))
-    (holds-held us))
+    c .asked-refusal .ensures (map changeUpdate xs)
+    (holds-reported (a .held) xs e (c .before .before .before .before .asked-of .ensures) (c .before .before .before .asked-of2 .ensures)
+    (c .before .before .asked-of3 .ensures) (c .before .asked-of4 .ensures))
     ∙ ap verdictOf (changes-refusal (a .n) xs)
 
 pub done-refusal-spec : {M : Type 1} → statement M

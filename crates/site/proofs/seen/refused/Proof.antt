@@ -1,8 +1,8 @@
 -- The verdict is the refusal that came; the entry is any.
 use mathlib.Core.Path.{refl}
 use borrow.Author.Needs.{needs}
-use Rattle.site.proofs.add.refused.Statement.{statement}
-use Rattle.site.proofs.add.refused.Tie as tie
+use Rattle.site.proofs.seen.refused.Statement.{statement}
+use Rattle.site.proofs.seen.refused.Tie as tie
 
 blank-item-requires : tie.Need-blank-item-requires
 blank-item-requires c κs = search needs
