@@ -1,6 +1,8 @@
 //! The same lists of calls over every program that has a module: all replies are compared, and all
 //! logs after every call.
 
+use std::sync::atomic::{AtomicUsize, Ordering};
+
 use second::module::Module;
 use second::program::{all, Outcome, Program, Second};
 use second::rules::{Flaw, Rules};
@@ -65,13 +67,20 @@ fn told(module: &dyn Slots, logs: &[Vec<u8>]) -> Vec<(usize, Vec<u64>)> {
     (0..=Module::SLOTS).map(of_slot).collect()
 }
 
+/// How many copies had a base line in place of some operations.
+static SHORTER: AtomicUsize = AtomicUsize::new(0);
+
 /// What copies of a slot's log give, of as many operations as are stable or not, with room or without,
 /// and the bytes of the fresh buffer.
 fn trims(module: &dyn Slots, logs: &[Vec<u8>], turn: usize) -> Vec<(Outcome, Vec<u8>)> {
     let slot = turn % (Module::SLOTS + 1);
     let copy = |(n, room): (u64, usize)| {
         let mut fresh = vec![b'y'; room];
-        (module.trim(slot, &logs[slot], n, &mut fresh), fresh)
+        let outcome = module.trim(slot, &logs[slot], n, &mut fresh);
+        if n > 0 && outcome.is_ok() {
+            SHORTER.fetch_add(1, Ordering::Relaxed);
+        }
+        (outcome, fresh)
     };
     [(0, ROOM), (1, ROOM), (turn as u64 % 40, ROOM), (0, 40), (0, 70_000)].map(copy).into()
 }
@@ -106,7 +115,9 @@ fn all_modules_agree() {
             compared += list.len();
         }
     }
-    println!("{compared} calls compared");
+    let shorter = SHORTER.load(Ordering::Relaxed);
+    println!("{compared} calls compared, {shorter} copies without their first operations");
+    assert!(modules.len() == 1 || shorter >= 100);
 }
 
 /// Each broken rule of sites that share a table is noticed beside every module.
