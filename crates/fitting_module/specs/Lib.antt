@@ -13,5 +13,6 @@ pub mod Used
 pub mod Calls
 pub mod CallLaws
 pub mod Trims
+pub mod PastLaws
 pub mod Polls
 pub mod Reached

@@ -61,7 +61,7 @@ formed i m old line c r new f e h =
     subst (λ (z : CommandForm). Obeys i m (formMove i (length (old .log)) line z (c .asked)) old r new) (sym e) h
 
 -- A refused call leaves the module.
-stays : (x : Option Move) (s : ModuleState) (q : Refusal) → lineReply x s ≡ refused q → lineNext x s ≡ s
+pub stays : (x : Option Move) (s : ModuleState) (q : Refusal) → lineReply x s ≡ refused q → lineNext x s ≡ s
 unfolding lineReply lineNext nextOf
 stays none s q e = refl
 stays (some x) s q e = ap (λ (y : Reply). settleIn (slotOf x) y (promiseOf x (slotAt (slotOf x) s)) s) e
