@@ -7,7 +7,7 @@ ghost use Rattle.fitting_ledger.specs.Model.{ValidState, stateAt};
 ghost use Rattle.fitting_ledger.specs.Cards.{madeNumber, madeLines, CardsState};
 use super::counters::Counters;
 use super::counters::session_at;
-use super::start::OUT_OF_TURN;
+use call_words::OUT_OF_TURN;
 use card::Card;
 use card::Made;
 use card::counts::Counts;
