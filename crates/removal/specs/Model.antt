@@ -55,10 +55,10 @@ pub record ReadsLines (s : List ℕ) (j : JournalRead) (pairs lost : List ℕ) :
   pub stands : StandsFrom s (j .head) histories lines
   pub within : j .head ≤ length s
   pub few : length (dids lines) ≤ 2978
-  pub low : j .base ≤ baseTop
-  pub done : j .done ≡ j .base + length (dids lines)
-  pub pairsKnown : PairsKnown pairs (j .base) (j .done)
-  pub lostKnown : LostKnown lost (j .base) (j .done)
+  pub low : j .base .0 ≤ baseTop
+  pub done : j .done .0 ≡ j .base .0 + length (dids lines)
+  pub pairsKnown : PairsKnown pairs (j .base .0) (j .done .0)
+  pub lostKnown : LostKnown lost (j .base .0) (j .done .0)
 
 -- a line is marked exactly if it is removed
 pub record MarksExactly (base : ℕ) (log : List Did) (pairs lost gone : List ℕ) : Type 0 where
@@ -69,5 +69,5 @@ pub record MarksExactly (base : ℕ) (log : List Did) (pairs lost gone : List �
 -- .. whichever lines stand there
 abbrev pub FallsIn : List ℕ → JournalRead → List ℕ → List ℕ → List ℕ → Type 0
 FallsIn s j pairs lost gone =
-    (n : ℕ) (lines : List Line) → StandsFrom s (j .head) n lines → j .done ≡ j .base + length (dids lines) →
-    MarksExactly (j .base) (dids lines) pairs lost gone
+    (n : ℕ) (lines : List Line) → StandsFrom s (j .head) n lines → j .done .0 ≡ j .base .0 + length (dids lines) →
+    MarksExactly (j .base .0) (dids lines) pairs lost gone

@@ -147,10 +147,10 @@ module _ (log : List ℕ) (j : JournalRead) (book notes : List ℕ) (n : ℕ) (�
         formed = H .stand .formed;
       }
 
-  pub read-done : j .done ≡ j .base + length (dids lines)
+  pub read-done : j .done .0 ≡ j .base .0 + length (dids lines)
   read-done = R .holds .done ∙ ap (λ (x : ℕ). x + length (dids lines)) (sym (R .holds .base))
 
-  pub read-lines : (pairs lost : List ℕ) → PairsKnown pairs (j .base) (j .done) → LostKnown lost (j .base) (j .done) →
+  pub read-lines : (pairs lost : List ℕ) → PairsKnown pairs (j .base .0) (j .done .0) → LostKnown lost (j .base .0) (j .done .0) →
       ReadsLines printed j pairs lost
   unfolding logText
   read-lines pairs lost pk lk =
@@ -167,7 +167,7 @@ module _ (log : List ℕ) (j : JournalRead) (book notes : List ℕ) (n : ℕ) (�
         lostKnown = lk;
       }
 
-  pub read-can : (gone : List ℕ) → length gone ≡ 2978 → CanAnswer gone (j .done - j .base) (j .base)
+  pub read-can : (gone : List ℕ) → length gone ≡ 2978 → CanAnswer gone (j .done .0 - j .base .0) (j .base .0)
   read-can gone size =
       record {
         within = omega (arith, read-done, read-few, size);
@@ -243,14 +243,14 @@ module _ (log pairs lost old : List ℕ) (small : length log ≤ logLimit) where
     unfolding reportLog
     on-lines = within ∙ ap (λ (x : Journal). reportLog x (pairsOf pairs) lost (length old)) (S .same)
 
-    at-base : j .base ≡ N
+    at-base : j .base .0 ≡ N
     at-base = S .reads .holds .base
 
-    at-done : j .done ≡ N + length log′
+    at-done : j .done .0 ≡ N + length log′
     at-done = S .reads .holds .done
 
     -- all are known, or one is not
-    known-both : notAmong N log′ (pairsOf pairs) lost ≡ false → PairsKnown pairs (j .base) (j .done) × LostKnown lost (j .base) (j .done)
+    known-both : notAmong N log′ (pairsOf pairs) lost ≡ false → PairsKnown pairs (j .base .0) (j .done .0) × LostKnown lost (j .base .0) (j .done .0)
     unfolding known isLine
     known-both e =
         let K = named-of N log′ (pairsOf pairs) lost e in (
@@ -259,15 +259,15 @@ module _ (log pairs lost old : List ℕ) (small : length log ≤ logLimit) where
               (mem-getD lost k 0 l)),
         )
       where
-        moved : (k : ℕ) → T (isLine N log′ k) → T (known (j .base) (j .done) k)
+        moved : (k : ℕ) → T (isLine N log′ k) → T (known (j .base .0) (j .done .0) k)
         moved k t =
-            subst (λ (x : ℕ). T (known x (j .done) k)) (sym at-base) (subst (λ (x : ℕ). T (known N x k)) (sym at-done) t)
+            subst (λ (x : ℕ). T (known x (j .done .0) k)) (sym at-base) (subst (λ (x : ℕ). T (known N x k)) (sym at-done) t)
 
-    known-line : (k : ℕ) → T (known (j .base) (j .done) k) → T (isLine N log′ k)
+    known-line : (k : ℕ) → T (known (j .base .0) (j .done .0) k) → T (isLine N log′ k)
     unfolding known isLine
-    known-line k t = subst (λ (x : ℕ). T (known N x k)) at-done (subst (λ (x : ℕ). T (known x (j .done) k)) at-base t)
+    known-line k t = subst (λ (x : ℕ). T (known N x k)) at-done (subst (λ (x : ℕ). T (known x (j .done .0) k)) at-base t)
 
-    none-unknown : PairsKnown pairs (j .base) (j .done) × LostKnown lost (j .base) (j .done) → notAmong N log′ (pairsOf pairs) lost ≡ false
+    none-unknown : PairsKnown pairs (j .base .0) (j .done .0) × LostKnown lost (j .base .0) (j .done .0) → notAmong N log′ (pairsOf pairs) lost ≡ false
     unfolding notAmong
     none-unknown both =
         T-false (any (λ p. not (isLine N log′ (p .line))) (pairsOf pairs) || any (λ k. not (isLine N log′ k)) lost) (λ t.
@@ -275,15 +275,15 @@ module _ (log pairs lost old : List ℕ) (small : length log ≤ logLimit) where
         (λ a. let q = any-at (λ (p : Pair). not (isLine N log′ (p .line))) (pairsOf pairs) a in
         let w = pair-place pairs (q .0) (q .1) in
         T-not (isLine N log′ (q .0 .line)) (q .2)
-        (known-line (q .0 .line) (subst (λ (x : ℕ). T (known (j .base) (j .done) x)) (w .line) (both .0 (w .place) (w .within)))))
+        (known-line (q .0 .line) (subst (λ (x : ℕ). T (known (j .base .0) (j .done .0) x)) (w .line) (both .0 (w .place) (w .within)))))
         (λ a. let q = any-at (λ (k : ℕ). not (isLine N log′ k)) lost a in
         let w = mem-place (q .0) lost (q .1) in
         T-not (isLine N log′ (q .0)) (q .2)
-        (known-line (q .0) (subst (λ (x : ℕ). T (known (j .base) (j .done) x)) (w .is) (both .1 (w .place) (w .within)))))
+        (known-line (q .0) (subst (λ (x : ℕ). T (known (j .base .0) (j .done .0) x)) (w .is) (both .1 (w .place) (w .within)))))
         (or-cases (any (λ p. not (isLine N log′ (p .line))) (pairsOf pairs)) (any (λ k. not (isLine N log′ k)) lost) t))
 
     -- 16
-    pub report-unknown : (PairsKnown pairs (j .base) (j .done) × LostKnown lost (j .base) (j .done) → ⊥) →
+    pub report-unknown : (PairsKnown pairs (j .base .0) (j .done .0) × LostKnown lost (j .base .0) (j .done .0) → ⊥) →
         Reports log pairs lost old NotAmong old
     unfolding reportLines refuseIf
     report-unknown not-known =
@@ -303,12 +303,12 @@ module _ (log pairs lost old : List ℕ) (small : length log ≤ logLimit) where
         some-unknown = go (notAmong N log′ (pairsOf pairs) lost) refl
 
     -- the numbers of the marked lines are the least set
-    names-removal : (gone : List ℕ) → PairsKnown pairs (j .base) (j .done) × LostKnown lost (j .base) (j .done) →
-        MarksExactly (j .base) log′ pairs lost gone → names (j .base) gone (j .done - j .base) ≡ removal N log′ (pairsOf pairs) lost
+    names-removal : (gone : List ℕ) → PairsKnown pairs (j .base .0) (j .done .0) × LostKnown lost (j .base .0) (j .done .0) →
+        MarksExactly (j .base .0) log′ pairs lost gone → names (j .base .0) gone (j .done .0 - j .base .0) ≡ removal N log′ (pairsOf pairs) lost
     unfolding names
     names-removal gone both M =
-        ap (λ (x : ℕ). keep (isMarked (j .base) gone) (numbersFrom (j .base) x))
-        (let e : j .done - j .base ≡ length log′ = omega (arith, at-done, at-base) in e)
+        ap (λ (x : ℕ). keep (isMarked (j .base .0) gone) (numbersFrom (j .base .0) x))
+        (let e : j .done .0 - j .base .0 ≡ length log′ = omega (arith, at-done, at-base) in e)
         ∙ ap (λ (x : ℕ). keep (isMarked x gone) (numbersFrom x (length log′))) at-base
         ∙ sifted-removal N log′ (pairsOf pairs) lost (named-of N log′ (pairsOf pairs) lost (none-unknown both)) (isMarked N gone)
         (λ k l. (exact .sound k l, exact .whole k l))
@@ -317,9 +317,9 @@ module _ (log pairs lost old : List ℕ) (small : length log ≤ logLimit) where
         exact = subst (λ (x : ℕ). MarksExactly x log′ pairs lost gone) at-base M
 
     -- the answer
-    pub report-names : PairsKnown pairs (j .base) (j .done) × LostKnown lost (j .base) (j .done) → (gone : List ℕ) →
-        MarksExactly (j .base) log′ pairs lost gone → (r : Removals) (new : List ℕ) →
-        Answers (names (j .base) gone (j .done - j .base)) old r new → Reports log pairs lost old r new
+    pub report-names : PairsKnown pairs (j .base .0) (j .done .0) × LostKnown lost (j .base .0) (j .done .0) → (gone : List ℕ) →
+        MarksExactly (j .base .0) log′ pairs lost gone → (r : Removals) (new : List ℕ) →
+        Answers (names (j .base .0) gone (j .done .0 - j .base .0)) old r new → Reports log pairs lost old r new
     unfolding reportLines
     report-names both gone M r new A =
         subst (λ (x : Report). Says x old r new)
@@ -333,29 +333,29 @@ module _ (log pairs lost old : List ℕ) (small : length log ≤ logLimit) where
 -- ### The marks of a log that was read
 
 pub marks-placed : (s : List ℕ) (j : JournalRead) (pairs lost full : List ℕ) (L : ReadsLines s j pairs lost) → length full ≡ 23824 →
-    SlotsAre (j .base) (dids (L .lines)) full →
-    Placed (net (take (8 * (j .done - j .base)) full) pairs (j .base)) × Lost (take (8 * (j .done - j .base)) full) (j .base) lost
+    SlotsAre (j .base .0) (dids (L .lines)) full →
+    Placed (net (take (8 * (j .done .0 - j .base .0)) full) pairs (j .base .0)) × Lost (take (8 * (j .done .0 - j .base .0)) full) (j .base .0) lost
 marks-placed s j pairs lost full L size S =
-    subst (λ (x : ℕ). Placed (net (take (8 * x) full) pairs (j .base)) × Lost (take (8 * x) full) (j .base) lost)
-    (let e : length (dids (L .lines)) ≡ j .done - j .base = omega (arith, L .done) in e) (
-      laid-placed (j .base) (dids (L .lines)) (take (8 * length (dids (L .lines))) full) pairs lost at,
-      laid-lost (j .base) (dids (L .lines)) (take (8 * length (dids (L .lines))) full) pairs lost at,
+    subst (λ (x : ℕ). Placed (net (take (8 * x) full) pairs (j .base .0)) × Lost (take (8 * x) full) (j .base .0) lost)
+    (let e : length (dids (L .lines)) ≡ j .done .0 - j .base .0 = omega (arith, L .done) in e) (
+      laid-placed (j .base .0) (dids (L .lines)) (take (8 * length (dids (L .lines))) full) pairs lost at,
+      laid-lost (j .base .0) (dids (L .lines)) (take (8 * length (dids (L .lines))) full) pairs lost at,
     )
   where
-    at : Laid (j .base) (dids (L .lines)) (take (8 * length (dids (L .lines))) full) pairs lost
+    at : Laid (j .base .0) (dids (L .lines)) (take (8 * length (dids (L .lines))) full) pairs lost
     at =
-        laid (j .base) (L .histories) (dids (L .lines)) full pairs lost (L .stands .fit) (L .stands .formed) (L .few) (L .low) size S
-        (subst (λ (x : ℕ). PairsKnown pairs (j .base) x) (L .done) (L .pairsKnown))
-        (subst (λ (x : ℕ). LostKnown lost (j .base) x) (L .done) (L .lostKnown))
+        laid (j .base .0) (L .histories) (dids (L .lines)) full pairs lost (L .stands .fit) (L .stands .formed) (L .few) (L .low) size S
+        (subst (λ (x : ℕ). PairsKnown pairs (j .base .0) x) (L .done) (L .pairsKnown))
+        (subst (λ (x : ℕ). LostKnown lost (j .base .0) x) (L .done) (L .lostKnown))
 
 pub marks-fall : (s : List ℕ) (j : JournalRead) (pairs lost full gone : List ℕ) (L : ReadsLines s j pairs lost) → length full ≡ 23824 →
-    ReadsSlots s (j .head) (j .base) full → Marked (net (take (8 * (j .done - j .base)) full) pairs (j .base)) lost gone →
+    ReadsSlots s (j .head) (j .base .0) full → Marked (net (take (8 * (j .done .0 - j .base .0)) full) pairs (j .base .0)) lost gone →
     FallsIn s j pairs lost gone
 marks-fall s j pairs lost full gone L size S M n lines F done =
-    marks-exact (j .base) n (dids lines) full pairs lost (F .fit) (F .formed) (omega (arith, done, L .done, L .few)) (L .low) size
+    marks-exact (j .base .0) n (dids lines) full pairs lost (F .fit) (F .formed) (omega (arith, done, L .done, L .few)) (L .low) size
     (S n lines F)
-    (subst (λ (x : ℕ). PairsKnown pairs (j .base) x) done (L .pairsKnown))
-    (subst (λ (x : ℕ). LostKnown lost (j .base) x) done (L .lostKnown))
+    (subst (λ (x : ℕ). PairsKnown pairs (j .base .0) x) done (L .pairsKnown))
+    (subst (λ (x : ℕ). LostKnown lost (j .base .0) x) done (L .lostKnown))
     gone
-    (subst (λ (x : ℕ). Marked (net (take (8 * x) full) pairs (j .base)) lost gone)
-    (let e : j .done - j .base ≡ length (dids lines) = omega (arith, done) in e) M)
+    (subst (λ (x : ℕ). Marked (net (take (8 * x) full) pairs (j .base .0)) lost gone)
+    (let e : j .done .0 - j .base .0 ≡ length (dids lines) = omega (arith, done) in e) M)

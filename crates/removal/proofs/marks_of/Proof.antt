@@ -36,7 +36,7 @@ slice-aggregate-mark : tie.Need-slice-aggregate-mark
 slice-aggregate-mark c =
     let L = c .before .before .before .before .before .before .before .before .before .pre in
     let size = long (c .before .before) in
-    sym (length-take-le (8 * (c .before .before .before .before .before .before .before .before .before .args .j .done - c .before .before .before .before .before .before .before .before .before .args .j .base)) (c .before .before .read-slots .last .1 .1 .1 .0) (omega (arith, size, L .few, L .done)))
+    sym (length-take-le (8 * (c .before .before .before .before .before .before .before .before .before .args .j .done .0 - c .before .before .before .before .before .before .before .before .before .args .j .base .0)) (c .before .before .read-slots .last .1 .1 .1 .0) (omega (arith, size, L .few, L .done)))
 
 mark-requires : tie.Need-mark-requires
 mark-requires c κs =
