@@ -5,6 +5,7 @@ ghost use Rattle.rules.specs.Calls.{restart};
 ghost use Rattle.table.specs.Ends.{was, left};
 ghost use Rattle.trim.specs.declared.Copied.the-variants.{Used};
 ghost use Rattle.c_api.specs.Trims.{copiedNumber, trimAfter, Trims};
+use forms::LogNumber;
 use forms::ReplyForm;
 use forms::writer::refusal_number;
 use history::book::WIDTH;
@@ -39,6 +40,6 @@ pub extern "C" fn log_trim(log: &[u8], kept: usize, n: u64, fresh: &mut [u8]) ->
     let form = reply.form;
     match form {
         ReplyForm::Refused(q) => refusal_number(q),
-        _ => copied_number(trim(site, log, n, fresh)),
+        _ => copied_number(trim(site, log, LogNumber(n), fresh)),
     }
 }

@@ -8,6 +8,7 @@ use super::counters::Counters;
 use super::counters::session_at;
 use call_words::OUT_OF_TURN;
 use call_words::trims::put_used;
+use forms::LogNumber;
 use history::book::BookWords;
 use table::order::Order;
 use table::rows::Rows;
@@ -33,7 +34,7 @@ pub extern "C" fn fl_trim_parts(
     let s = session_at(counters);
     if s.opened {
         let site = s.site;
-        let c = trim(site, log, n, fresh);
+        let c = trim(site, log, LogNumber(n), fresh);
         return put_used(used, c);
     }
     OUT_OF_TURN

@@ -10,6 +10,7 @@ use super::words::SlotWords;
 use super::words::module_at;
 use call_words::OUT_OF_TURN;
 use call_words::trims::put_used;
+use forms::LogNumber;
 use history::book::BookWords;
 use module::Module;
 use trim::trim;
@@ -41,7 +42,7 @@ pub extern "C" fn fm_trim_parts(
         let own = slots[slot];
         if own.opened {
             let site = own.site;
-            let c = trim(site, log, n, fresh);
+            let c = trim(site, log, LogNumber(n), fresh);
             return put_used(used, c);
         }
         return OUT_OF_TURN;
