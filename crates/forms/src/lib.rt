@@ -98,7 +98,7 @@ pub struct BaseHeld {
 
 // A base line, `(base N (H V P O)...)`: its N, and what is held of its histories.
 pub struct BaseLine {
-    pub number: u64,
+    pub number: LogNumber,
     pub held: BaseHeld,
 }
 

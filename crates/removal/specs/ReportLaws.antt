@@ -250,7 +250,8 @@ module _ (log pairs lost old : List ℕ) (small : length log ≤ logLimit) where
     at-done = S .reads .holds .done
 
     -- all are known, or one is not
-    known-both : notAmong N log′ (pairsOf pairs) lost ≡ false → PairsKnown pairs (j .base .0) (j .done .0) × LostKnown lost (j .base .0) (j .done .0)
+    known-both : notAmong N log′ (pairsOf pairs) lost ≡ false →
+        PairsKnown pairs (j .base .0) (j .done .0) × LostKnown lost (j .base .0) (j .done .0)
     unfolding known isLine
     known-both e =
         let K = named-of N log′ (pairsOf pairs) lost e in (
@@ -267,7 +268,8 @@ module _ (log pairs lost old : List ℕ) (small : length log ≤ logLimit) where
     unfolding known isLine
     known-line k t = subst (λ (x : ℕ). T (known N x k)) at-done (subst (λ (x : ℕ). T (known x (j .done .0) k)) at-base t)
 
-    none-unknown : PairsKnown pairs (j .base .0) (j .done .0) × LostKnown lost (j .base .0) (j .done .0) → notAmong N log′ (pairsOf pairs) lost ≡ false
+    none-unknown : PairsKnown pairs (j .base .0) (j .done .0) × LostKnown lost (j .base .0) (j .done .0) →
+        notAmong N log′ (pairsOf pairs) lost ≡ false
     unfolding notAmong
     none-unknown both =
         T-false (any (λ p. not (isLine N log′ (p .line))) (pairsOf pairs) || any (λ k. not (isLine N log′ k)) lost) (λ t.
@@ -304,7 +306,8 @@ module _ (log pairs lost old : List ℕ) (small : length log ≤ logLimit) where
 
     -- the numbers of the marked lines are the least set
     names-removal : (gone : List ℕ) → PairsKnown pairs (j .base .0) (j .done .0) × LostKnown lost (j .base .0) (j .done .0) →
-        MarksExactly (j .base .0) log′ pairs lost gone → names (j .base .0) gone (j .done .0 - j .base .0) ≡ removal N log′ (pairsOf pairs) lost
+        MarksExactly (j .base .0) log′ pairs lost gone →
+        names (j .base .0) gone (j .done .0 - j .base .0) ≡ removal N log′ (pairsOf pairs) lost
     unfolding names
     names-removal gone both M =
         ap (λ (x : ℕ). keep (isMarked (j .base .0) gone) (numbersFrom (j .base .0) x))
@@ -334,7 +337,8 @@ module _ (log pairs lost old : List ℕ) (small : length log ≤ logLimit) where
 
 pub marks-placed : (s : List ℕ) (j : JournalRead) (pairs lost full : List ℕ) (L : ReadsLines s j pairs lost) → length full ≡ 23824 →
     SlotsAre (j .base .0) (dids (L .lines)) full →
-    Placed (net (take (8 * (j .done .0 - j .base .0)) full) pairs (j .base .0)) × Lost (take (8 * (j .done .0 - j .base .0)) full) (j .base .0) lost
+    Placed (net (take (8 * (j .done .0 - j .base .0)) full) pairs (j .base .0))
+    × Lost (take (8 * (j .done .0 - j .base .0)) full) (j .base .0) lost
 marks-placed s j pairs lost full L size S =
     subst (λ (x : ℕ). Placed (net (take (8 * x) full) pairs (j .base .0)) × Lost (take (8 * x) full) (j .base .0) lost)
     (let e : length (dids (L .lines)) ≡ j .done .0 - j .base .0 = omega (arith, L .done) in e) (
