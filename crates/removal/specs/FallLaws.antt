@@ -11,7 +11,7 @@ use Rattle.forms.specs.Limits.{historyLimit, updateLimit}
 use Rattle.removal.specs.Chains.{countOf, keyAt, Found, Ring}
 use Rattle.removal.specs.ChainLaws.{same-or, less-or, found-once, ring-once}
 use Rattle.removal.specs.Fall.{Net, linesIn, lineIn, Takes, onward, around, Reach, here, on, Fallen, itself, taken, Gone, left}
-use Rattle.removal.specs.Fall.{Placed, Fit, LaterAt, Fell, FellLine, FellPair, Marked, SlotsTo, PairsTo, MarksTo}
+use Rattle.removal.specs.Fall.{Fit, LaterAt, Fell, FellLine, FellPairs, Marked, SlotsTo, PairsTo, MarksTo}
 
 -- zero or not
 zero-or : (n : ℕ) → (n ≡ 0) ⊎ (n ≡ 0 → ⊥)
@@ -64,7 +64,7 @@ fell-taken : (g : Net) (i j : ℕ) (old new : List ℕ) → Takes g i j → Fell
 fell-taken g i j old new t a =
     record { size = a .size; grows = a .grows; closed = a .closed; from = λ k h z. reach-on t (a .from k h z) }
 
-fell-left : (g : Net) (i : ℕ) (old new : List ℕ) → Fell g i old new → left new ≤ left old
+pub fell-left : (g : Net) (i : ℕ) (old new : List ℕ) → Fell g i old new → left new ≤ left old
 fell-left g i old new a = left-grows old new (a .size) (a .grows)
 
 -- i itself, marked first, and then all that it takes
@@ -183,68 +183,55 @@ pairs-none g i m p F =
       all = λ r q l e R. absurd (F .passed r (omega arith) l e);
     }
 
--- a pair of line i
-its-line : (g : Net) (i p : ℕ) → keyAt (g .pairs) 0 p ≡ g .base + 1 + i → lineIn (g .base) (g .pairs) p ≡ i
-its-line g i p e = omega (arith, e)
-
-pub pairs-next : (g : Net) (i : ℕ) (old mid new : List ℕ) (p r : ℕ) → PairsTo g i old mid p → p < countOf (g .pairs) →
-    FellPair g p mid new → Found (g .pairs) 0 (keyAt (g .pairs) 0 p) (suc p) r → PairsTo g i old new r
-pairs-next g i old mid new p r S lt D F =
+-- the next line q of the transaction of pair p has fallen
+pub pairs-next : (g : Net) (i : ℕ) (old mid new : List ℕ) (p q r j : ℕ) → PairsTo g i old mid p → p < countOf (g .pairs) →
+    Ring (g .pairs) p q → j ≡ lineIn (g .base) (g .pairs) q → FellLine g j mid new →
+    Found (g .pairs) 0 (keyAt (g .pairs) 0 p) (suc p) r → PairsTo g i old new r
+pairs-next g i old mid new p q r j S lt R same fallen F =
     let e : keyAt (g .pairs) 0 p ≡ g .base + 1 + i = S .here lt in
+    let D : FellLine g (lineIn (g .base) (g .pairs) q) mid new = subst (λ (x : ℕ). FellLine g x mid new) same fallen in
     record {
-      fell = fell-then g i old mid new (S .fell) (subst (λ (x : ℕ). Fell g x mid new) (its-line g i p e) (D .fell));
+      fell = fell-then g i old mid new (S .fell)
+          (fell-taken g i (lineIn (g .base) (g .pairs) q) mid new (around p q lt e R refl) (D .fell));
       within = F .within;
       here = λ l. F .here l ∙ e;
-      all = λ s q l h R. ⊎-elim
-          (λ k. D .fell .grows (lineIn (g .base) (g .pairs) q) (S .all s q k h R))
+      all = λ s x l h Z. ⊎-elim
+          (λ k. D .fell .grows (lineIn (g .base) (g .pairs) x) (S .all s x k h Z))
           (λ k. ⊎-elim
-          (λ z. D .next q (subst (λ (x : ℕ). Ring (g .pairs) x q) (sym z) R))
+          (λ z. subst (λ (y : ℕ). Gone new (lineIn (g .base) (g .pairs) y))
+          (ring-once (g .pairs) p q x R (subst (λ (y : ℕ). Ring (g .pairs) y x) (sym z) Z)) (D .itself))
           (λ z. absurd (F .passed s z l (h ∙ sym e)))
           (eq-or-lt-of-le k))
           (less-or s p);
     }
 
--- ### A line, and a pair
+pub pairs-all : (g : Net) (i : ℕ) (old new : List ℕ) (p : ℕ) → PairsTo g i old new p → countOf (g .pairs) ≤ p → FellPairs g i old new
+pairs-all g i old new p P sp = record { fell = P .fell; next = λ r q l. P .all r q (omega (arith, l, sp)) }
+
+-- ### A line
 
 pub line-was : (g : Net) (i : ℕ) (m : List ℕ) → Gone m i → FellLine g i m m
 line-was g i m h = record { fell = fell-none g i m; itself = h }
 
-pub line-done : (g : Net) (i : ℕ) (old mid new : List ℕ) (u p : ℕ) → i < length old → getD old i 0 ≡ 0 →
-    SlotsTo g i (set old i 1) mid u → updateLimit ≤ u → PairsTo g i mid new p → countOf (g .pairs) ≤ p → FellLine g i old new
-line-done g i old mid new u p lt z S su P sp =
+pub line-done : (g : Net) (i : ℕ) (old mid new : List ℕ) (u : ℕ) → i < length old → getD old i 0 ≡ 0 →
+    SlotsTo g i (set old i 1) mid u → updateLimit ≤ u → FellPairs g i mid new → FellLine g i old new
+line-done g i old mid new u lt z S su P =
     fell-line g i old new lt z (fell-then g i (set old i 1) mid new (S .fell) (P .fell)) all
   where
     all : (j : ℕ) → Takes g i j → Gone new j
     all j (onward r q a b h F l e) =
         subst (λ (x : ℕ). Gone new x) e
         (P .fell .grows (lineIn (g .base) (g .slots) q) (S .all r q a (omega (arith, b, su)) h F l))
-    all j (around r q l h R e) = subst (λ (x : ℕ). Gone new x) e (P .all r q (omega (arith, l, sp)) h R)
-
-pub pair-done : (g : Net) (p q : ℕ) (old new : List ℕ) (j : ℕ) → Placed g → p < countOf (g .pairs) → Ring (g .pairs) p q →
-    j ≡ lineIn (g .base) (g .pairs) q → FellLine g j old new → FellPair g p old new
-pair-done g p q old new j G lt R same fallen =
-    let D : FellLine g (lineIn (g .base) (g .pairs) q) old new = subst (λ (x : ℕ). FellLine g x old new) same fallen in
-    record {
-      fell = fell-taken g (lineIn (g .base) (g .pairs) p) (lineIn (g .base) (g .pairs) q) old new
-          (around p q lt (let a : g .base < keyAt (g .pairs) 0 p = G .pairs p lt in omega (arith, a)) R refl) (D .fell);
-      next = λ r S. subst (λ (x : ℕ). Gone new (lineIn (g .base) (g .pairs) x)) (ring-once (g .pairs) p q r R S) (D .itself);
-    }
+    all j (around r q l h R e) = subst (λ (x : ℕ). Gone new x) e (P .next r q l h R)
 
 -- ### The number falls
 
 -- by_history has 2 for each line not yet removed, by_transaction one more
-pub less-slot : (g : Net) (i : ℕ) (m new : List ℕ) (t : ℕ) → i < length m → getD m i 0 ≡ 0 → 2 * left m ≡ t → Fell g i (set m i 1) new →
-    2 * left new < t
-less-slot g i m new t lt z e a =
+pub less-line : (g : Net) (i : ℕ) (m new : List ℕ) (t : ℕ) → i < length m → getD m i 0 ≡ 0 → 2 * left m ≡ t → Fell g i (set m i 1) new →
+    2 * left new + 1 < t
+less-line g i m new t lt z e a =
     let h : suc (left (set m i 1)) ≡ left m = left-set m i lt z in
     let k : left new ≤ left (set m i 1) = fell-left g i (set m i 1) new a in
-    omega (arith, h, k, e)
-
-pub less-pair : (g : Net) (i : ℕ) (m mid new : List ℕ) (t : ℕ) → i < length m → getD m i 0 ≡ 0 → 2 * left m ≡ t →
-    Fell g i (set m i 1) mid → Fell g i mid new → 2 * left new + 1 < t
-less-pair g i m mid new t lt z e a b =
-    let h : suc (left (set m i 1)) ≡ left m = left-set m i lt z in
-    let k : left new ≤ left (set m i 1) = fell-left g i (set m i 1) new (fell-then g i (set m i 1) mid new a b) in
     omega (arith, h, k, e)
 
 -- ### The lines lost

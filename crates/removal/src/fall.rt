@@ -3,7 +3,7 @@ ghost use mathlib.Core.Path.{_≡_};
 ghost use Prim.Native.Nat.{_<_, _/_};
 ghost use lib.ListN.{length, replicate};
 ghost use Rattle.removal.specs.Chains.{countOf, Chained};
-ghost use Rattle.removal.specs.Fall.{net, Placed, Fit, FellLine, FellPair, LaterAt, lineIn, IsLineOf, Lost, Marked};
+ghost use Rattle.removal.specs.Fall.{net, Placed, Fit, FellLine, FellPairs, LaterAt, lineIn, IsLineOf, Lost, Marked};
 use super::chains::Chains;
 use super::chains::chain;
 use super::chains::first;
@@ -40,8 +40,7 @@ fn line_of(words: &[u64], base: u64, p: usize) -> usize
     (words[2 * p] - base - 1) as usize
 }
 
-// Removes line i: the next line in each of its histories falls with it, and so all later ones; and for each of its transactions the next
-// line of that.
+// Removes line i: the next line in each of its histories falls with it, and so all later ones; and so do its transactions.
 fn by_history(
     slots: &[u64],
     histories: &Chains,
@@ -76,17 +75,12 @@ fn by_history(
             }
             u += 1;
         }
-        let number = base + 1 + i as u64;
-        let mut p = first(pairs, lines, 0, number);
-        while p < pairs.len() / 2 {
-            by_transaction(slots, histories, pairs, lines, transactions, gone, base, p);
-            p = further(pairs, lines, 0, p);
-        }
+        by_transaction(slots, histories, pairs, lines, transactions, gone, base, i);
     }
 }
 
-// Removes the next line of the transaction of pair p, behind the last one the first again: with that falls the one after it, and so on
-// round to the line of p.
+// Removes the next line of each transaction of line i, behind the last one the first again: with that falls the one after it, and so on
+// round to line i.
 fn by_transaction(
     slots: &[u64],
     histories: &Chains,
@@ -95,24 +89,29 @@ fn by_transaction(
     transactions: &Chains,
     gone: &mut Marks,
     base: u64,
-    p: usize,
+    i: usize,
 )
     requires { ⌜ Fit (net (now slots) (now pairs) base) (now histories) (now lines) (now transactions) (now gone) ⌝ }
-    requires { ⌜ p < countOf (now pairs) ⌝ }
-    ensures { λ _. ⌜ FellPair (net (now (slots .entry)) (now (pairs .entry)) base) p (now (gone .entry)) (now (gone .exit)) ⌝ }
+    requires { ⌜ i < length (now slots) / 8 ⌝ }
+    ensures { λ _. ⌜ FellPairs (net (now (slots .entry)) (now (pairs .entry)) base) i (now (gone .entry)) (now (gone .exit)) ⌝ }
 {
-    let q = mate(pairs, transactions, p);
-    let line = line_of(pairs, base, q);
-    by_history(
-        slots,
-        histories,
-        pairs,
-        lines,
-        transactions,
-        gone,
-        base,
-        line,
-    );
+    let number = base + 1 + i as u64;
+    let mut p = first(pairs, lines, 0, number);
+    while p < pairs.len() / 2 {
+        let q = mate(pairs, transactions, p);
+        let line = line_of(pairs, base, q);
+        by_history(
+            slots,
+            histories,
+            pairs,
+            lines,
+            transactions,
+            gone,
+            base,
+            line,
+        );
+        p = further(pairs, lines, 0, p);
+    }
 }
 
 // No line is marked.
