@@ -222,6 +222,27 @@ module _ (m : Module) (i : ℕ) (w : Lent) (vw : ValidWith m i w) where
       valid-lent m i w (vw .0) (vw .1) (vw .2) on (m .slots) (w .order) (gathers-none (m .slots) (around i w (vw .0) (vw .1)) (vw .2) i) n
       (omega (arith, en)) (omega (arith, en, vw .2 .few i lt)) ls
 
+-- What a call of an opened slot knows of it, and of what its site is lent.
+pub record Lending (m : Module) (i : ℕ) (w : Lent) : Type 0 where
+  pub on : slotIn (m .slots) i .opened ≡ true
+  pub below : i < 4
+  pub size : length (m .slots) ≡ 4
+  pub long : length (w .order) ≡ 256
+  pub few : liveIn (m .slots) i ≤ liveLimit
+  pub valid : (n : ℕ) → n ≡ liveIn (m .slots) i → (ls : List ℕ) →
+      Valid (slotIn (m .slots) i .site) (lent (w .log) (w .rows) (partOf i n (w .order)) (w .book) ls)
+
+pub lending : (m : Module) (i : ℕ) (w : Lent) → ValidWith m i w → slotIn (m .slots) i .opened ≡ true → Lending m i w
+lending m i w vw on =
+    record {
+      on = on;
+      below = with-below m i w vw on;
+      size = with-size m i w vw;
+      long = with-long m i w vw;
+      few = with-few m i w vw (with-below m i w vw on);
+      valid = with-live m i w vw on;
+    }
+
 -- ### An accepted call
 
 module _ (m : Module) (x : Move) (old : Lent) (logs books : ℕ → List ℕ) (v : ValidModule m (around (slotOf x) old logs books))

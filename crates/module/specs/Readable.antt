@@ -14,10 +14,16 @@ use Rattle.forms.specs.Read.{didAnswer}
 use Rattle.forms.specs.Reading.{readDid}
 use Rattle.forms.specs.AnswerLaws.{did-said}
 use Rattle.forms.specs.declared.reader.DidRead.{DidRead}
+use Rattle.forms.specs.declared.Refusal.the-variants.{OutOfTurn}
 use Rattle.rules.specs.Calls.{Call, writable, writableUpdate}
-use Rattle.compact.specs.Module.{readable}
+use Rattle.compact.specs.Module.{At, readable}
+use Rattle.site.specs.Model.{Lent}
 use Rattle.module.specs.Four.{true-false}
-use Rattle.module.specs.CallLaws.{isPlain, numberIn}
+use Rattle.module.specs.declared.Module.{Module}
+use Rattle.module.specs.declared.ModuleResult.{ModuleResult}
+use Rattle.module.specs.Model.{slotIn, Moves}
+use Rattle.module.specs.Calls.{Turns}
+use Rattle.module.specs.CallLaws.{isPlain, numberIn, turns, turned-away}
 
 -- a call with a number that can be written, for a slot that is not opened
 pub readable-plain : (c : Call) → isPlain c ≡ true → numberIn c ≤ top → readable c ≡ true
@@ -32,6 +38,12 @@ readable-plain (Call.Cut k room) e le = absurd (true-false (sym e))
 readable-plain (Call.Changeover n room) e le = absurd (true-false (sym e))
 readable-plain (Call.Redo line) e le = absurd (true-false (sym e))
 readable-plain Call.End e le = refl
+
+-- .. is refused 14
+pub turns-plain : (m : Module) (i : ℕ) (c : Call) (old : Lent) (r : ModuleResult) → isPlain c ≡ true → numberIn c ≤ top →
+    slotIn (m .slots) i .opened ≡ false → Turns m OutOfTurn r → Moves m (At i c) old r old
+turns-plain m i c old r plain le off t =
+    turns m (At i c) old OutOfTurn r t (λ b v. turned-away (m .slots) b v i c off (readable-plain c plain le))
 
 pub readable-cut : (k room : ℕ) → k ≤ top → readable (Call.Cut k room) ≡ true
 unfolding readable writable

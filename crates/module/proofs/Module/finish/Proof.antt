@@ -5,12 +5,11 @@ use native.Mathlib.Omega.{arith}
 use mathlib.Core.Path.{refl, sym}
 use mathlib.Core.List.{[]}
 use Rattle.rules.specs.Calls.{Call}
-use Rattle.compact.specs.Module.{At}
 use Rattle.site.specs.Model.{Lent, lent}
 use Rattle.module.specs.Model.{liveIn}
-use Rattle.module.specs.CallLaws.{past-last, with-size, with-long, with-few, with-live, turns, turned-away}
+use Rattle.module.specs.CallLaws.{past-last, with-size, with-long, with-few, with-live}
 use Rattle.module.specs.HeldLaws.{serves-held}
-use Rattle.module.specs.Readable.{readable-plain}
+use Rattle.module.specs.Readable.{turns-plain}
 use borrow.Author.Needs.{needs}
 use Rattle.module.proofs.Module.finish.Statement.{statement}
 use Rattle.module.proofs.Module.finish.Tie as tie
@@ -87,9 +86,7 @@ returns-2 : tie.Need-returns-2
 returns-2 c =
     let s = c .before .before .before .before .before .before .before in
     let a = s .args in
-    turns (a .self) (At (a .slot) (Call.Finish (a .id))) (lent (now (a .log)) (now (a .rows)) (now (a .numbers)) (now (a .book)) (now (a .lists))) _ _ (c .refuse .ensures)
-    (λ b v. turned-away (a .self .slots) b v (a .slot) (Call.Finish (a .id)) (c .before .if2 .left)
-    (readable-plain (Call.Finish (a .id)) refl (omega (arith, s .fits .id))))
+    turns-plain (a .self) (a .slot) (Call.Finish (a .id)) (lent (now (a .log)) (now (a .rows)) (now (a .numbers)) (now (a .book)) (now (a .lists))) _ refl (omega (arith, s .fits .id)) (c .before .if2 .left) (c .refuse .ensures)
 
 refuse-requires-2 : tie.Need-refuse-requires-2
 refuse-requires-2 c κs = search needs
@@ -98,10 +95,8 @@ returns-3 : tie.Need-returns-3
 returns-3 c =
     let s = c .before .before .before .before .before in
     let a = s .args in
-    turns (a .self) (At (a .slot) (Call.Finish (a .id))) (lent (now (a .log)) (now (a .rows)) (now (a .numbers)) (now (a .book)) (now (a .lists))) _ _ (c .refuse2 .ensures)
-    (λ b v. turned-away (a .self .slots) b v (a .slot) (Call.Finish (a .id))
-    (sym (past-last (a .self .slots) (a .slot) (with-size (a .self) (a .slot) (came s) (s .pre)) (c .before .if1 .left)))
-    (readable-plain (Call.Finish (a .id)) refl (omega (arith, s .fits .id))))
+    turns-plain (a .self) (a .slot) (Call.Finish (a .id)) (lent (now (a .log)) (now (a .rows)) (now (a .numbers)) (now (a .book)) (now (a .lists))) _ refl (omega (arith, s .fits .id))
+    (sym (past-last (a .self .slots) (a .slot) (with-size (a .self) (a .slot) (came s) (s .pre)) (c .before .if1 .left))) (c .refuse2 .ensures)
 
 pub finish-spec : {M : Type 1} → statement M
 finish-spec =

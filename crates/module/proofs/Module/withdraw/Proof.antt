@@ -1,16 +1,13 @@
 -- The site is lent the numbers of its live operations, with which it is valid; its contract is the slot's.
 use denote.Ref.{now}
-use Prim.Native.Nat.{_+_, _*_, _-_, _≤_, _<_}
+use Prim.Native.Nat.{_+_, _*_, _-_}
 use native.Mathlib.Omega.{arith}
-use mathlib.Core.Path.{_≡_, refl, sym, _∙_}
-use mathlib.Core.Bool.{true}
+use mathlib.Core.Path.{refl, sym, _∙_}
 use mathlib.Core.List.{[]}
 use Rattle.rules.specs.Calls.{Call}
-use Rattle.compact.specs.Module.{At}
 use Rattle.site.specs.Model.{Lent, lent}
-use Rattle.module.specs.Model.{slotIn, liveIn}
-use Rattle.module.specs.CallLaws.{with-size, with-long, with-few, with-below, with-live, serves, turns, turned-away}
-use Rattle.module.specs.Readable.{readable-plain}
+use Rattle.module.specs.CallLaws.{with-size, Lending, lending, serves}
+use Rattle.module.specs.Readable.{turns-plain}
 use borrow.Author.Needs.{needs}
 use Rattle.module.proofs.Module.withdraw.Statement.{statement}
 use Rattle.module.proofs.Module.withdraw.Tie as tie
@@ -18,33 +15,27 @@ use Rattle.module.proofs.Module.withdraw.Tie as tie
 abbrev came : tie.Start → Lent
 came s = lent (now (s .args .log)) (now (s .args .rows)) (now (s .args .numbers)) (now (s .args .book)) []
 
--- the slot is opened
-opened : (t : tie.Then1) → slotIn (t .before .before .before .before .before .args .self .slots) (t .before .before .before .before .before .args .slot) .opened ≡ true
-opened t = sym (t .before .is-open .ensures) ∙ t .if1 .taken
-
-below : (t : tie.Then1) → t .before .before .before .before .before .args .slot < 4
-below t = let s = t .before .before .before .before .before in with-below (s .args .self) (s .args .slot) (came s) (s .pre) (opened t)
+-- the slot is opened, and its site valid with what it is lent
+lent-to : (t : tie.Then1) → Lending (t .before .before .before .before .before .args .self) (t .before .before .before .before .before .args .slot) (came (t .before .before .before .before .before))
+lent-to t = let s = t .before .before .before .before .before in lending (s .args .self) (s .args .slot) (came s) (s .pre) (sym (t .before .is-open .ensures) ∙ t .if1 .taken)
 
 is-open-requires : tie.Need-is-open-requires
 is-open-requires c κs = let s = c .before .before .before in with-size (s .args .self) (s .args .slot) (came s) (s .pre)
 
 mul-own : tie.Need-mul-own
-mul-own c = let q = below (c .before) in omega (arith, q)
+mul-own c = omega (arith, lent-to (c .before) .below)
 
 array-copy-out-own : tie.Need-array-copy-out-own
-array-copy-out-own c = below (c .before)
+array-copy-out-own c = lent-to (c .before) .below
 
 mul-a : tie.Need-mul-a
-mul-a c = let q = below (c .before .before .before) in omega (arith, q)
+mul-a c = omega (arith, lent-to (c .before .before .before) .below)
 
 live-requires : tie.Need-live-requires
-live-requires c κs = let s = c .before .before .before .before .before .before .before .before in with-few (s .args .self) (s .args .slot) (came s) (s .pre) (below (c .before .before .before))
-
-few : (l : tie.After-live) → liveIn (l .before .before .before .before .before .before .before .before .before .args .self .slots) (l .before .before .before .before .before .before .before .before .before .args .slot) ≤ 64
-few l = let s = l .before .before .before .before .before .before .before .before .before in with-few (s .args .self) (s .args .slot) (came s) (s .pre) (below (l .before .before .before .before))
+live-requires c κs = lent-to (c .before .before .before) .few
 
 add-e : tie.Need-add-e
-add-e c = let q = below (c .before .before .before .before) in let f = few c in omega (arith, q, f, c .live .ensures)
+add-e c = let k = lent-to (c .before .before .before .before) in omega (arith, k .below, k .few, c .live .ensures)
 
 sub-withdraw : tie.Need-sub-withdraw
 sub-withdraw c = search needs
@@ -53,21 +44,16 @@ part-withdraw-start : tie.Need-part-withdraw-start
 part-withdraw-start c = search needs
 
 part-withdraw-end : tie.Need-part-withdraw-end
-part-withdraw-end c =
-    let s = c .before .before .before .before .before .before .before .before .before in
-    let q = below (c .before .before .before .before) in
-    let f = few c in
-    let w = with-long (s .args .self) (s .args .slot) (came s) (s .pre) in
-    omega (arith, q, f, c .live .ensures, w)
+part-withdraw-end c = let k = lent-to (c .before .before .before .before) in omega (arith, k .below, k .few, k .long, c .live .ensures)
 
 withdraw-requires : tie.Need-withdraw-requires
 withdraw-requires c κs =
     let s = c .before .before .before .before .before .before .before .before .before .before .before .before in
     let l = c .before .before .before in
-    with-live (s .args .self) (s .args .slot) (came s) (s .pre) (opened (c .before .before .before .before .before .before .before)) (64 * s .args .slot + l .live .result - 64 * s .args .slot) (omega (arith, l .live .ensures)) []
+    lent-to (c .before .before .before .before .before .before .before) .valid (64 * s .args .slot + l .live .result - 64 * s .args .slot) (omega (arith, l .live .ensures)) []
 
 conclude-requires : tie.Need-conclude-requires
-conclude-requires c κs = let s = c .before .before .before .before .before .before .before .before .before .before .before .before .before .before .before in (below (c .before .before .before .before .before .before .before .before .before .before), with-size (s .args .self) (s .args .slot) (came s) (s .pre))
+conclude-requires c κs = let k = lent-to (c .before .before .before .before .before .before .before .before .before .before) in (k .below, k .size)
 
 same-length : tie.Need-same-length
 same-length c = search needs
@@ -77,7 +63,7 @@ returns c =
     let s = c .before .before .before .before .before .before .before .before .before .before .before .before .before .before .before .before in
     let a = s .args in
     let l = c .before .before .before .before .before .before .before in
-    serves (a .self) (a .slot) (Call.Withdraw (a .id)) (lent (now (a .log)) (now (a .rows)) (now (a .numbers)) (now (a .book)) (now (a .lists))) refl (opened (c .before .before .before .before .before .before .before .before .before .before .before)) (64 * a .slot + l .live .result - 64 * a .slot) (omega (arith, l .live .ensures)) _ _ _ _ _ _ (search needs) _ (λ z e. sym e) _ (c .conclude .ensures) (c .before .before .before .withdraw .ensures)
+    serves (a .self) (a .slot) (Call.Withdraw (a .id)) (lent (now (a .log)) (now (a .rows)) (now (a .numbers)) (now (a .book)) (now (a .lists))) refl (lent-to (c .before .before .before .before .before .before .before .before .before .before .before) .on) (64 * a .slot + l .live .result - 64 * a .slot) (omega (arith, l .live .ensures)) _ _ _ _ _ _ (search needs) _ (λ z e. sym e) _ (c .conclude .ensures) (c .before .before .before .withdraw .ensures)
 
 refuse-requires : tie.Need-refuse-requires
 refuse-requires c κs = search needs
@@ -86,9 +72,7 @@ returns-2 : tie.Need-returns-2
 returns-2 c =
     let s = c .before .before .before .before .before .before in
     let a = s .args in
-    turns (a .self) (At (a .slot) (Call.Withdraw (a .id))) (lent (now (a .log)) (now (a .rows)) (now (a .numbers)) (now (a .book)) (now (a .lists))) _ _ (c .refuse .ensures)
-    (λ b v. turned-away (a .self .slots) b v (a .slot) (Call.Withdraw (a .id)) (sym (c .before .before .is-open .ensures) ∙ c .before .if1 .left)
-    (readable-plain (Call.Withdraw (a .id)) refl (omega (arith, s .fits .id))))
+    turns-plain (a .self) (a .slot) (Call.Withdraw (a .id)) (lent (now (a .log)) (now (a .rows)) (now (a .numbers)) (now (a .book)) (now (a .lists))) _ refl (omega (arith, s .fits .id)) (sym (c .before .before .is-open .ensures) ∙ c .before .if1 .left) (c .refuse .ensures)
 
 pub withdraw-spec : {M : Type 1} → statement M
 withdraw-spec =
