@@ -1,5 +1,5 @@
-// How long a line can be at most, told without counting: its numbers have 64 bits, and only reading a number tells the prover that. The
-// functions compute nothing, and nothing of them is left in a compiled program.
+// That a line's numbers can be written, and how long it is at most, told without counting: its numbers have 64 bits, and only reading a
+// number tells the prover that. The functions compute nothing, and nothing of them is left in a compiled program.
 use super::Done;
 use super::DoneHeld;
 use super::ReplyForm;
@@ -9,19 +9,20 @@ use super::writer::refusal_number;
 ghost use Prim.Native.Nat.{_+_, _≤_};
 ghost use lib.ListN.{length};
 ghost use Rattle.forms.specs.Limits.{liveLimit, replyLimit};
-ghost use Rattle.forms.specs.Decimal.{digits};
-ghost use Rattle.forms.specs.Forms.{fieldsText, changeText};
+ghost use Rattle.forms.specs.Decimal.{top};
+ghost use Rattle.forms.specs.Forms.{fieldsText};
 ghost use Rattle.forms.specs.Held.{asChange};
+ghost use Rattle.forms.specs.Writable.{WritableChange};
 ghost use Rattle.forms.specs.Write.{HeldInRange, ListsInRange, heldText, lineText, replySize};
 
-// A number has at most 20 digits.
-fn bound_number(n: u64)
-    ensures { λ r. ⌜ length (digits n) ≤ 20 ⌝ }
+// A number has 64 bits.
+pub fn bound_number(n: u64)
+    ensures { λ r. ⌜ n ≤ top ⌝ }
 {}
 
 // An update that was done.
-fn bound_change(d: Done)
-    ensures { λ r. ⌜ length (changeText (asChange d)) ≤ 89 ⌝ }
+pub fn bound_change(d: Done)
+    ensures { λ r. ⌜ WritableChange (asChange d) ⌝ }
 {
     bound_number(d.history);
     bound_number(d.version.0);

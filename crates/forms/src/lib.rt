@@ -1,7 +1,7 @@
 // The line forms, the lowest part: the values that the lines of document 01 carry, and the refusals; `reader` reads lines and `writer`
 // writes them. How each is printed and what each line means is said in specs/.
 pub mod base;
-mod bounds;
+pub mod bounds;
 mod lengths;
 pub mod limits;
 pub mod line;

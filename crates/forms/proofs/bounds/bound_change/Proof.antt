@@ -1,7 +1,4 @@
--- The length of an update's text is that of its four numbers and nine bytes around them.
-use native.Mathlib.Omega.{arith}
-use Rattle.forms.specs.Held.{asChange}
-use Rattle.forms.specs.TextLaws.{change-size}
+-- Its four numbers have 64 bits each.
 use borrow.Author.Needs.{needs}
 use Rattle.forms.proofs.bounds.bound_change.Statement.{statement}
 use Rattle.forms.proofs.bounds.bound_change.Tie as tie
@@ -20,8 +17,12 @@ bound-number-requires-4 c κs = search needs
 
 returns : tie.Need-returns
 returns c =
-    let size = change-size (asChange (c .before .before .before .before .args .d)) in
-    omega (arith, size, c .before .before .before .bound-number .ensures, c .before .before .bound-number2 .ensures, c .before .bound-number3 .ensures, c .bound-number4 .ensures)
+    record {
+      history = c .before .before .before .bound-number .ensures;
+      version = c .before .before .bound-number2 .ensures;
+      place = c .before .bound-number3 .ensures;
+      operand = c .bound-number4 .ensures;
+    }
 
 pub bound-change-spec : {M : Type 1} → statement M
 bound-change-spec =

@@ -9,6 +9,8 @@ use Rattle.forms.specs.Held.{asChange}
 use Rattle.forms.specs.declared.Done.{Done}
 use Rattle.forms.specs.Write.{heldText, noDone}
 use Rattle.forms.specs.TextLaws.{items-none, items-suc-length}
+use Rattle.forms.specs.DecimalLaws.{digits-at-most}
+use Rattle.forms.specs.LengthLaws.{change-at-most}
 use borrow.Author.Needs.{needs}
 use Rattle.forms.proofs.bounds.bound_changes.Statement.{statement}
 use Rattle.forms.proofs.bounds.bound_changes.Tie as tie
@@ -51,7 +53,8 @@ loop-again c =
     let l = c .before .before .before .loop in
     let first = c .before .before .before .before .before .args .h .first in
     let size = items-suc-length (λ (d : Done). changeText (asChange d)) first (l .i) noDone (omega arith) in
-    record { some = omega arith; few = l .inv .few; four = l .inv .four; small = omega (arith, size, l .inv .small, c .bound-change .ensures) }
+    let w = c .bound-change .ensures in
+    record { some = omega arith; few = l .inv .few; four = l .inv .four; small = omega (arith, size, change-at-most _ w, digits-at-most _ (w .history), l .inv .small) }
 
 returns : tie.Need-returns Inv-loop μ-loop
 returns c =

@@ -6,7 +6,9 @@ use mathlib.Core.List.{List}
 use lib.ListN.{length, take, getD}
 use denote.Ref.{now}
 use Rattle.forms.specs.Forms.{fieldText, itemsText}
-use Rattle.forms.specs.TextLaws.{items-none, items-suc-length, items-all, fields-items, field-size}
+use Rattle.forms.specs.TextLaws.{items-none, items-suc-length, items-all, fields-items}
+use Rattle.forms.specs.LengthLaws.{field-length}
+use Rattle.forms.specs.DecimalLaws.{digits-at-most}
 use borrow.Author.Needs.{needs}
 use Rattle.forms.proofs.bounds.bound_fields.Statement.{statement}
 use Rattle.forms.proofs.bounds.bound_fields.Tie as tie
@@ -48,8 +50,8 @@ loop-again c =
     let l = c .before .before .before .loop in
     let ns = now (c .before .before .before .before .before .args .ns) in
     let size = items-suc-length fieldText ns (l .i) 0 (omega arith) in
-    let field = field-size (getD ns (l .i) 0) in
-    record { some = omega arith; few = l .inv .few; small = omega (arith, size, field, l .inv .small, c .bound-number .ensures) }
+    let field = field-length (getD ns (l .i) 0) in
+    record { some = omega arith; few = l .inv .few; small = omega (arith, size, field, l .inv .small, digits-at-most _ (c .bound-number .ensures)) }
 
 returns : tie.Need-returns Inv-loop μ-loop
 returns c =

@@ -5,6 +5,7 @@ use lib.ListN.{length}
 use native.Mathlib.Omega.{arith}
 use Rattle.forms.specs.Decimal.{digits}
 use Rattle.forms.specs.Write.{replySize}
+use Rattle.forms.specs.DecimalLaws.{digits-at-most}
 use borrow.Author.Needs.{needs}
 use Rattle.forms.proofs.bounds.bound_form.Statement.{statement}
 use Rattle.forms.proofs.bounds.bound_form.Tie as tie
@@ -70,7 +71,7 @@ returns : tie.Need-returns
 unfolding replySize
 returns c =
     let a = ap (λ (n : ℕ). length (digits n)) (c .before .refusal-number .ensures) in
-    rw (c .before .before .before .form .given .1) (omega (arith, a, c .bound-number .ensures))
+    rw (c .before .before .before .form .given .1) (omega (arith, a, digits-at-most _ (c .bound-number .ensures)))
 
 returns-2 : tie.Need-returns-2
 unfolding replySize
@@ -82,7 +83,7 @@ returns-3 c = rw (c .enum-told2 .given .1) (omega arith)
 
 returns-4 : tie.Need-returns-4
 unfolding replySize
-returns-4 c = rw (c .before .before .form2 .given .1) (omega (arith, c .bound-number2 .ensures))
+returns-4 c = rw (c .before .before .form2 .given .1) (omega (arith, digits-at-most _ (c .bound-number2 .ensures)))
 
 returns-5 : tie.Need-returns-5
 unfolding replySize
@@ -101,11 +102,11 @@ returns-8 c = rw (c .before .before .form3 .given .1) (c .bound-shown .ensures)
 
 returns-9 : tie.Need-returns-9
 unfolding replySize
-returns-9 c = rw (c .before .before .before .form4 .given .1) (omega (arith, c .before .bound-number3 .ensures, c .bound-number4 .ensures))
+returns-9 c = rw (c .before .before .before .form4 .given .1) (omega (arith, digits-at-most _ (c .before .bound-number3 .ensures), digits-at-most _ (c .bound-number4 .ensures)))
 
 returns-10 : tie.Need-returns-10
 unfolding replySize
-returns-10 c = rw (c .before .before .before .form5 .given .1) (omega (arith, c .before .bound-number5 .ensures, c .bound-number6 .ensures))
+returns-10 c = rw (c .before .before .before .form5 .given .1) (omega (arith, digits-at-most _ (c .before .bound-number5 .ensures), digits-at-most _ (c .bound-number6 .ensures)))
 
 returns-11 : tie.Need-returns-11
 unfolding replySize

@@ -4,6 +4,7 @@ use denote.Ref.{now}
 use native.Mathlib.Omega.{arith}
 use Rattle.forms.specs.TextLaws.{site-size, stable-size}
 use Rattle.forms.specs.BoundLaws.{did-most, reply-most}
+use Rattle.forms.specs.DecimalLaws.{digits-at-most}
 use borrow.Author.Needs.{needs}
 use Rattle.forms.proofs.bounds.bound_line.Statement.{statement}
 use Rattle.forms.proofs.bounds.bound_line.Tie as tie
@@ -42,16 +43,16 @@ bound-form-requires : tie.Need-bound-form-requires
 bound-form-requires c κs = search needs
 
 returns : tie.Need-returns
-returns c = rw (c .before .before .line .given .1) (omega (arith, site-size (c .before .before .line .given .0 .0) refl, c .bound-number .ensures))
+returns c = rw (c .before .before .line .given .1) (omega (arith, site-size (c .before .before .line .given .0 .0) refl, digits-at-most _ (c .bound-number .ensures)))
 
 returns-2 : tie.Need-returns-2
 returns-2 c =
     let p = c .before .before .before .before .before .before .before in
     let id = c .before .before .before .line2 .given .0 .0 in
-    rw (c .before .before .before .line2 .given .1) (did-most (record { id = id; held = p .args .held }) (p .pre .held) (c .before .bound-number2 .ensures) (c .bound-changes .ensures))
+    rw (c .before .before .before .line2 .given .1) (did-most (record { id = id; held = p .args .held }) (p .pre .held) (digits-at-most _ (c .before .bound-number2 .ensures)) (c .bound-changes .ensures))
 
 returns-3 : tie.Need-returns-3
-returns-3 c = rw (c .before .before .line3 .given .1) (omega (arith, stable-size (c .before .before .line3 .given .0 .0) refl, c .bound-number3 .ensures))
+returns-3 c = rw (c .before .before .line3 .given .1) (omega (arith, stable-size (c .before .before .line3 .given .0 .0) refl, digits-at-most _ (c .bound-number3 .ensures)))
 
 returns-4 : tie.Need-returns-4
 returns-4 c =

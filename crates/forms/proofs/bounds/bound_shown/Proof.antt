@@ -1,6 +1,7 @@
 -- Six numbers, each with the space before it, and the bytes around them.
 use native.Mathlib.Omega.{arith}
 use Rattle.forms.specs.Write.{replySize}
+use Rattle.forms.specs.DecimalLaws.{digits-at-most}
 use borrow.Author.Needs.{needs}
 use Rattle.forms.proofs.bounds.bound_shown.Statement.{statement}
 use Rattle.forms.proofs.bounds.bound_shown.Tie as tie
@@ -28,12 +29,12 @@ unfolding replySize
 returns c =
     omega (
       arith,
-      c .before .before .before .before .before .bound-number .ensures,
-      c .before .before .before .before .bound-number2 .ensures,
-      c .before .before .before .bound-number3 .ensures,
-      c .before .before .bound-number4 .ensures,
-      c .before .bound-number5 .ensures,
-      c .bound-number6 .ensures,
+      digits-at-most _ (c .before .before .before .before .before .bound-number .ensures),
+      digits-at-most _ (c .before .before .before .before .bound-number2 .ensures),
+      digits-at-most _ (c .before .before .before .bound-number3 .ensures),
+      digits-at-most _ (c .before .before .bound-number4 .ensures),
+      digits-at-most _ (c .before .bound-number5 .ensures),
+      digits-at-most _ (c .bound-number6 .ensures),
     )
 
 pub bound-shown-spec : {M : Type 1} → statement M
