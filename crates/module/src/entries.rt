@@ -19,7 +19,7 @@ use forms::ReplyNumbers;
 use forms::reader::read_did;
 use history::book::BookWords;
 use site::Site;
-use site::add::trimmed_asked;
+use site::bounds::bound_asked;
 
 // The lesser of two numbers.
 fn lesser(a: usize, b: usize) -> usize
@@ -134,10 +134,10 @@ impl Module {
                 let r = site.add(log, rows, &numbers[a..e], book, lists, id, asked);
                 return after.settle(numbers, slot, loan, r, own.promise);
             }
-            trimmed_asked(asked);
+            bound_asked(asked);
             return self.refuse(Refusal::OutOfTurn);
         }
-        trimmed_asked(asked);
+        bound_asked(asked);
         self.refuse(Refusal::OutOfTurn)
     }
 

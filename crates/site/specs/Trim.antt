@@ -7,8 +7,9 @@ use lib.ListN.{length}
 pub use Rattle.forms.specs.Lists.{padded}
 use Rattle.forms.specs.Forms.{Update, Change, Did}
 use Rattle.forms.specs.Held.{asUpdate, asAsked, asChange, asDone, noUpdate, noChange, firstFour}
-use Rattle.forms.specs.Writable.{WritableChange, WritableDid, Each}
+use Rattle.forms.specs.Writable.{WritableUpdate, WritableChange, WritableDid, Each}
 use Rattle.forms.specs.Limits.{updateLimit}
+use Rattle.forms.specs.declared.Asked.{Asked}
 use Rattle.forms.specs.declared.Done.{Done}
 use Rattle.forms.specs.declared.AskedHeld.{AskedHeld}
 use Rattle.forms.specs.declared.DoneHeld.{DoneHeld}
@@ -48,17 +49,18 @@ Redoes s old d r new = Does s old (redoWithin (length (old .order)) (didHeld d) 
 
 -- ### What can be written
 
--- Four places of changes, of which as many as count can be written, whatever stands there.
-pub record BoundedChanges (places : List Done) : Type 0 where
+-- Four places, of which as many as count can be written, whatever stands there.
+pub record Bounded {A B : Type 0} (g : B → A) (d : B) (blank : A) (W : A → Type 0) (places : List B) : Type 0 where
   pub long : length places ≡ updateLimit
-  pub each : (n : ℕ) → Each WritableChange (padded noChange n (firstFour asChange (asDone noChange) places))
+  pub each : (n : ℕ) → Each W (padded blank n (firstFour g d places))
+
+abbrev pub BoundedUpdates : List Asked → Type 0
+BoundedUpdates places = Bounded asUpdate (asAsked noUpdate) noUpdate WritableUpdate places
+
+abbrev pub BoundedChanges : List Done → Type 0
+BoundedChanges places = Bounded asChange (asDone noChange) noChange WritableChange places
 
 -- .. so that the did line that is held can be written
 pub record BoundedDid (d : DidLine) : Type 0 where
   pub long : length (d .held .first) ≡ updateLimit
   pub writable : WritableDid (didHeld d)
-
--- The code's value y holds the value x of the forms, which can be written.
-pub record Stands {A B : Type 0} (hold : A → B) (W : A → Type 0) (x : A) (y : B) : Type 0 where
-  pub is : y ≡ hold x
-  pub writable : W x

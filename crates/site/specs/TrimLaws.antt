@@ -18,7 +18,7 @@ use Rattle.forms.specs.Forms.{Update, Change, Did}
 use Rattle.forms.specs.Writable.{WritableUpdate, WritableChange, Each}
 use Rattle.forms.specs.Held.{asUpdate, asAsked, asChange, asDone, noUpdate, noChange, firstFour, heldUpdates, heldChanges, heldDid}
 use Rattle.forms.specs.HeldLaws.{four-at}
-use Rattle.forms.specs.BaseHeldLaws.{padded-length, padded-at}
+use Rattle.forms.specs.BaseHeldLaws.{padded-length}
 use Rattle.forms.specs.Limits.{updateLimit}
 use Rattle.forms.specs.declared.Asked.{Asked}
 use Rattle.forms.specs.declared.Done.{Done}
@@ -31,7 +31,7 @@ use Rattle.rules.specs.State.{State, Reply, refused}
 use Rattle.rules.specs.Calls.{Call, writableUpdate, unless, step, add, addRefusal, redoRefusal, delivered}
 use Rattle.history.specs.Asking.{Holds, HoldsUpdates, HoldsChanges}
 use Rattle.site.specs.AddLaws.{add-performs}
-use Rattle.site.specs.Trim.{padded, updatesHeld, changesHeld, didHeld, redoOf, redoFull, Stands}
+use Rattle.site.specs.Trim.{padded, updatesHeld, changesHeld, didHeld, redoOf, redoFull}
 use Rattle.rules.specs.Checks.{changesRefusalWith}
 
 -- ### What stands in the places
@@ -44,13 +44,6 @@ each-cons {A} W y l w ws x m = one (List·Memᴰ·cases-cons m)
     one (inr k) = ws x k
 
 module _ {A : Type 0} (blank : A) where
-  -- past the count there is none
-  padded-past : (n : ℕ) (xs : List A) (i : ℕ) → n ≤ i → getD (padded blank n xs) i blank ≡ blank
-  padded-past zero xs i h = refl
-  padded-past (suc n) xs zero h = absurd (omega arith)
-  padded-past (suc n) [] (suc i) h = padded-past n [] i (omega arith)
-  padded-past (suc n) (x ∷ xs) (suc i) h = padded-past n xs i (omega arith)
-
   -- at most four are all held
   padded-all : (xs : List A) → length xs ≤ updateLimit → padded blank (length xs) (firstFour (λ x. x) blank xs) ≡ xs
   padded-all [] h = refl
@@ -94,30 +87,11 @@ four P a b c d (suc (suc zero)) h = c
 four P a b c d (suc (suc (suc zero))) h = d
 four P a b c d (suc (suc (suc (suc i)))) h = absurd (omega arith)
 
--- Values of the code: n are counted, and the first four stand in places.
-module _ {A B : Type 0} (f : A → B) (g : B → A) (blank : A) (W : A → Type 0) (n : ℕ) (xs : List B) where
-  -- what the code finds in place i stands for what is held there
-  pub stands-below : (i : ℕ) (r : B) → i < n → i < updateLimit → Stands f W (g (getD xs i (f blank))) r →
-      Stands f W (getD (padded blank n (firstFour g (f blank) xs)) i blank) r
-  stands-below i r h k s =
-      subst (λ (x : A). Stands f W x r) (sym (padded-at blank n (firstFour g (f blank) xs) i h ∙ four-at g (f blank) xs i blank k)) s
-
-  pub stands-past : (i : ℕ) (r : B) → n ≤ i → Stands f W blank r → Stands f W (getD (padded blank n (firstFour g (f blank) xs)) i blank) r
-  stands-past i r h s = subst (λ (x : A). Stands f W x r) (sym (padded-past blank n (firstFour g (f blank) xs) i h)) s
-
-  -- four values that stand for what is held in the four places
-  four-stand : W blank → {a b c d : B} → Stands f W (getD (padded blank n (firstFour g (f blank) xs)) 0 blank) a →
-      Stands f W (getD (padded blank n (firstFour g (f blank) xs)) 1 blank) b →
-      Stands f W (getD (padded blank n (firstFour g (f blank) xs)) 2 blank) c →
-      Stands f W (getD (padded blank n (firstFour g (f blank) xs)) 3 blank) d →
-      ((a ∷ b ∷ c ∷ d ∷ []) ≡ firstFour f blank (padded blank n (firstFour g (f blank) xs))) × Each W
-      (padded blank n (firstFour g (f blank) xs))
-  four-stand empty p q r s = (
-    (λ i. p .is i ∷ q .is i ∷ r .is i ∷ s .is i ∷ []),
-    four-each blank W empty n _ _ _ _ (λ i l k. subst W (padded-at blank n (firstFour g (f blank) xs) i l)
-        (four (λ j. W (getD (padded blank n (firstFour g (f blank) xs)) j blank)) (p .writable) (q .writable) (r .writable)
-        (s .writable) i k)),
-  )
+-- four places, of which as many as count can be written
+four-writable : {A B : Type 0} (g : B → A) (d : B) (blank : A) (W : A → Type 0) → W blank → (l : List B) →
+    W (g (getD l 0 d)) → W (g (getD l 1 d)) → W (g (getD l 2 d)) → W (g (getD l 3 d)) → (n : ℕ) → Each W (padded blank n (firstFour g d l))
+four-writable g d blank W empty l p q r s n =
+    four-each blank W empty n _ _ _ _ (λ i h k. four (λ j. W (getD (firstFour g d l) j blank)) p q r s i k)
 
 -- ### Updates and did lines
 
@@ -128,24 +102,17 @@ blank-update = record { history = omega arith; version = omega arith; operand = 
 blank-change : WritableChange noChange
 blank-change = record { history = omega arith; version = omega arith; place = omega arith; operand = omega arith }
 
-pub asked-held : (h : AskedHeld) → {a b c d : Asked} →
-    Stands asAsked WritableUpdate (getD (updatesHeld h) 0 noUpdate) a → Stands asAsked WritableUpdate (getD (updatesHeld h) 1 noUpdate) b →
-    Stands asAsked WritableUpdate (getD (updatesHeld h) 2 noUpdate) c → Stands asAsked WritableUpdate (getD (updatesHeld h) 3 noUpdate) d →
-    Stands heldUpdates (Each WritableUpdate) (updatesHeld h) (record { count = h .count; first = a ∷ b ∷ c ∷ d ∷ [] })
-unfolding heldUpdates
-asked-held h p q r s =
-    let k = four-stand asAsked asUpdate noUpdate WritableUpdate (h .count) (h .first) blank-update p q r s in
-    let n = padded-length noUpdate (h .count) (firstFour asUpdate (asAsked noUpdate) (h .first)) in
-    record { is = λ i. record { count = sym n i; first = k .0 i }; writable = k .1 }
+pub asked-writable : (l : List Asked) → WritableUpdate (asUpdate (getD l 0 (asAsked noUpdate))) →
+    WritableUpdate (asUpdate (getD l 1 (asAsked noUpdate))) → WritableUpdate (asUpdate (getD l 2 (asAsked noUpdate))) →
+    WritableUpdate (asUpdate (getD l 3 (asAsked noUpdate))) → (n : ℕ) →
+    Each WritableUpdate (padded noUpdate n (firstFour asUpdate (asAsked noUpdate) l))
+asked-writable = four-writable asUpdate (asAsked noUpdate) noUpdate WritableUpdate blank-update
 
--- four changes, of which as many as count can be written
-pub places-writable : (l : List Done) → WritableChange (asChange (getD l 0 (asDone noChange))) →
+pub done-writable : (l : List Done) → WritableChange (asChange (getD l 0 (asDone noChange))) →
     WritableChange (asChange (getD l 1 (asDone noChange))) → WritableChange (asChange (getD l 2 (asDone noChange))) →
     WritableChange (asChange (getD l 3 (asDone noChange))) → (n : ℕ) →
     Each WritableChange (padded noChange n (firstFour asChange (asDone noChange) l))
-places-writable l p q r s n =
-    four-each noChange WritableChange blank-change n _ _ _ _
-    (λ i h k. four (λ j. WritableChange (getD (firstFour asChange (asDone noChange) l) j noChange)) p q r s i k)
+done-writable = four-writable asChange (asDone noChange) noChange WritableChange blank-change
 
 -- the elements of four that count, through a function
 four-take : {A B : Type 0} (g : B → A) (d : B) (blank : A) (n : ℕ) (xs : List B) → length xs ≡ updateLimit → n ≤ updateLimit →

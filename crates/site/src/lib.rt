@@ -12,7 +12,7 @@ use forms::ReplyLine;
 use table::Table;
 
 pub mod add;
-mod bounds;
+pub mod bounds;
 pub mod end;
 pub mod entry_of;
 pub mod finish;

@@ -153,8 +153,8 @@ returns-2 c =
     serves-add (a .self) (a .slot) (lent (now (a .log)) (now (a .rows)) (now (a .numbers)) (now (a .book)) (now (a .lists))) (c .before .before .before .before .before .before .before .before .before .before .before .before .before .before .before .before .before .before .before .before .before .before .if2 .taken) n _ _ (c .before .before .before .before .before .before .before .before .before .before .before .before .before .before .lend .ensures)
     (64 * a .slot + n - 64 * a .slot) (omega arith) _ _ _ _ _ _ refl _ _ (c .before .before .before .before .before .before .before .before .before .before .before .before .before .before .before .before .before .before .before .before .before .before .before .before .if1 .taken) (count (c .before .before .before .before .before .before .before .before .before .before .before .before .before .before .before .before .before .before)) (a .id) (updatesHeld (a .asked)) refl (c .before .before .before .before .before .before .add2 .ensures) (c .before .before .settle .ensures)
 
-trimmed-asked-requires : tie.Need-trimmed-asked-requires
-trimmed-asked-requires c κs = search needs
+bound-asked-requires : tie.Need-bound-asked-requires
+bound-asked-requires c κs = search needs
 
 refuse-requires : tie.Need-refuse-requires
 refuse-requires c κs = search needs
@@ -165,10 +165,10 @@ returns-3 c =
     let a = s .args in
     turns (a .self) (At (a .slot) (Call.Add (a .id) (updatesHeld (a .asked)))) (lent (now (a .log)) (now (a .rows)) (now (a .numbers)) (now (a .book)) (now (a .lists))) _ _ (c .refuse .ensures)
     (λ b v. turned-away (a .self .slots) b v (a .slot) (Call.Add (a .id) (updatesHeld (a .asked))) (c .before .before .if2 .left)
-    (readable-add (a .id) (updatesHeld (a .asked)) (omega (arith, s .fits .id)) (updates-writable _ (c .before .trimmed-asked .ensures .writable))))
+    (readable-add (a .id) (updatesHeld (a .asked)) (omega (arith, s .fits .id)) (updates-writable _ (c .before .bound-asked .ensures))))
 
-trimmed-asked-requires-2 : tie.Need-trimmed-asked-requires-2
-trimmed-asked-requires-2 c κs = search needs
+bound-asked-requires-2 : tie.Need-bound-asked-requires-2
+bound-asked-requires-2 c κs = search needs
 
 refuse-requires-2 : tie.Need-refuse-requires-2
 refuse-requires-2 c κs = search needs
@@ -180,7 +180,7 @@ returns-4 c =
     turns (a .self) (At (a .slot) (Call.Add (a .id) (updatesHeld (a .asked)))) (lent (now (a .log)) (now (a .rows)) (now (a .numbers)) (now (a .book)) (now (a .lists))) _ _ (c .refuse2 .ensures)
     (λ b v. turned-away (a .self .slots) b v (a .slot) (Call.Add (a .id) (updatesHeld (a .asked)))
     (sym (past-last (a .self .slots) (a .slot) (with-size (a .self) (a .slot) (came s) (s .pre)) (c .before .before .if1 .left)))
-    (readable-add (a .id) (updatesHeld (a .asked)) (omega (arith, s .fits .id)) (updates-writable _ (c .before .trimmed-asked2 .ensures .writable))))
+    (readable-add (a .id) (updatesHeld (a .asked)) (omega (arith, s .fits .id)) (updates-writable _ (c .before .bound-asked2 .ensures))))
 
 pub add-spec : {M : Type 1} → statement M
 add-spec =
@@ -213,9 +213,9 @@ add-spec =
     same-length-3
     same-length-4
     returns-2
-    trimmed-asked-requires
+    bound-asked-requires
     refuse-requires
     returns-3
-    trimmed-asked-requires-2
+    bound-asked-requires-2
     refuse-requires-2
     returns-4)

@@ -40,8 +40,8 @@ use borrow.Author.Needs.{needs}
 use Rattle.site.proofs.Site.add.Statement.{statement}
 use Rattle.site.proofs.Site.add.Tie as tie
 
-trimmed-asked-requires : tie.Need-trimmed-asked-requires
-trimmed-asked-requires c κs = search needs
+bound-asked-requires : tie.Need-bound-asked-requires
+bound-asked-requires c κs = search needs
 
 abbrev came : tie.Start → Lent
 came e = lent (now (e .args .log)) (now (e .args .rows)) (now (e .args .order)) (now (e .args .book)) (now (e .args .lists))
@@ -143,10 +143,10 @@ returns c =
     let r = c .before .before .before .before .before in
     let e = c .before .before .before .before .before .before .before .before .before .before .before .before .before .before .before .before .before in
     let a = e .args in
-    let t = c .before .before .before .before .before .before .before .before .before .before .before .before .before .trimmed-asked .ensures in
+    let t = c .before .before .before .before .before .before .before .before .before .before .before .before .before .bound-asked .ensures in
     let le : a .id ≤ top = omega (arith, e .fits .id) in
     refuses (a .self) (came e) _ _ _
-    (add-refused (entries e) (a .id) _ (view (a .self) (came e)) le (updates-writable _ (t .writable)) _
+    (add-refused (entries e) (a .id) _ (view (a .self) (came e)) le (updates-writable _ t) _
     (refused-is _ _ (sym (c .before .before .verdict .given .1) ∙ said r .verdict))) (c .refusal .ensures (now (a .lists))) refl
 
 same-length-2 : tie.Need-same-length-2
@@ -157,7 +157,7 @@ returns-2 c =
     let e = c .before .before .before .before .before .before .before .before .before .before .before .before .before .before .before .before .before .before .before .before .before .before .before .before .before .before .before in
     let a = e .args in
     let m = came e in
-    let t = c .before .before .before .before .before .before .before .before .before .before .before .before .before .before .before .before .before .before .before .before .before .before .before .trimmed-asked .ensures in
+    let t = c .before .before .before .before .before .before .before .before .before .before .before .before .before .before .before .before .before .before .before .before .before .before .before .bound-asked .ensures in
     let le : a .id ≤ top = omega (arith, e .fits .id) in
     let f = passed (c .before .before .before .before .before .before .before .before .before .before .before .before) in
     let y = enters (c .before .before .before .before .before .before .before .before .before .before .before .before) in
@@ -177,7 +177,7 @@ returns-2 c =
     (try .ensures .noted
     ∙ (ap (λ (z : Table). marksIn z (m .order) (p .push .last .1 .1 .0)) (p .push .ensures .0)
     ∙ marks-pushed (a .self .table) (m .order) (m .rows) (e .pre .owns) _ _ (a .self .table .queue + 1) (p .push .ensures .1))) refl
-    (add-does (site e) (m .log) (e .pre .sound) (a .id) _ le (updates-writable _ (t .writable)) f _ y
+    (add-does (site e) (m .log) (e .pre .sound) (a .id) _ le (updates-writable _ t) f _ y
     q (b .queueIs) (queueRows (p .push .result) (m .order) rows)
     (try .ensures .queue ∙ ap (λ (hs : List History). tryAllIn (cellsOf hs) (operationsOf q)) (counts .histories)) _
     (means-is (means-one (try .ensures .ready))
@@ -191,7 +191,7 @@ pub add-spec : {M : Type 1} → statement M
 add-spec =
     tie.close
     (tie.spec
-    trimmed-asked-requires
+    bound-asked-requires
     add-live
     has-id-requires
     has-id-requires-2
