@@ -1,5 +1,6 @@
 pub mod Answers
 pub mod AnswerLaws
+pub mod Counters
 pub mod Adding
 pub mod AddingLaws
 pub mod Trims

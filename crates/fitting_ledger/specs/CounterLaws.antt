@@ -1,35 +1,18 @@
 -- Counters that were written are read as they were.
 use Prim.Native.Nat.{ℕ}
 use mathlib.Core.Path.{_≡_, sym, ap, subst, _∙_}
-use mathlib.Core.List.{List}
+use mathlib.Core.List.{List, []}
 use Rattle.site.specs.Model.{Lent}
 use Rattle.session.specs.declared.Session.{Session}
 use Rattle.session.specs.Model.{ValidSession}
-use Rattle.call_words.specs.AnswerLaws.{bit-read}
+use Rattle.call_words.specs.Counters.{open-words, site-words}
 use Rattle.fitting_ledger.specs.Counters.{sessionAt, wordsOf}
 use Rattle.fitting_ledger.specs.Model.{ValidState}
 
 -- The session of a session's counters is that session.
 pub session-words : (s : Session) → sessionAt (wordsOf s) ≡ s
 unfolding sessionAt wordsOf
-session-words s = λ i.
-    record {
-      opened = bit-read (s .opened) i;
-      site =
-          record {
-            count = s .site .count;
-            used = s .site .used;
-            head = s .site .head;
-            base = s .site .base;
-            done = s .site .done;
-            persistent = s .site .persistent;
-            stable = s .site .stable;
-            left = s .site .left;
-            restoring = bit-read (s .site .restoring) i;
-            reserved = s .site .reserved;
-            table = s .site .table;
-          };
-    }
+session-words s = λ i. record { opened = open-words (s .opened) (s .site) [] i; site = site-words (s .opened) (s .site) [] i }
 
 pub session-of : (s : Session) (ws : List ℕ) → ws ≡ wordsOf s → sessionAt ws ≡ s
 session-of s ws e = ap sessionAt e ∙ session-words s

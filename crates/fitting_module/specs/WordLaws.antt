@@ -6,29 +6,17 @@ use lib.ListN.{length}
 use Rattle.module.specs.declared.Slot.{Slot}
 use Rattle.module.specs.declared.Module.{Module}
 use Rattle.module.specs.Model.{slotIn}
-use Rattle.call_words.specs.AnswerLaws.{bit-read}
+use Rattle.call_words.specs.Counters.{open-words, site-words, siteWords}
 use Rattle.fitting_module.specs.Words.{slotAt, wordsOf, moduleAt, wordsIn}
 
 -- The slot of a slot's counters is that slot.
 pub slot-words : (s : Slot) → slotAt (wordsOf s) ≡ s
-unfolding slotAt wordsOf
-slot-words s = λ i.
-    record {
-      site =
-          record {
-            count = s .site .count;
-            used = s .site .used;
-            head = s .site .head;
-            base = s .site .base;
-            done = s .site .done;
-            persistent = s .site .persistent;
-            stable = s .site .stable;
-            left = s .site .left;
-            restoring = bit-read (s .site .restoring) i;
-            reserved = s .site .reserved;
-            table = s .site .table;
-          };
-      opened = bit-read (s .opened) i;
+unfolding slotAt wordsOf siteWords
+slot-words s =
+    let rest = s .promise ∷ s .held ∷ [] in
+    λ i. record {
+      site = site-words (s .opened) (s .site) rest i;
+      opened = open-words (s .opened) (s .site) rest i;
       promise = s .promise;
       held = s .held;
     }

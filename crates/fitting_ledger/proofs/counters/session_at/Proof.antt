@@ -1,5 +1,6 @@
 -- Each field is read off its word, as the definition does.
 use mathlib.Core.Path.{refl}
+use Rattle.call_words.specs.Counters.{siteAt}
 use Rattle.fitting_ledger.specs.Counters.{sessionAt}
 use borrow.Author.Needs.{needs}
 use Rattle.fitting_ledger.proofs.counters.session_at.Statement.{statement}
@@ -45,7 +46,7 @@ element-copy-out-t6-3 : tie.Need-element-copy-out-t6-3
 element-copy-out-t6-3 c = search needs
 
 returns : tie.Need-returns
-unfolding sessionAt
+unfolding sessionAt siteAt
 returns c = refl
 
 pub session-at-spec : {M : Type 1} → statement M

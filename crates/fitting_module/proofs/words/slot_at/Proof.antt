@@ -1,4 +1,5 @@
 -- Each field is read off its word, as the definition does.
+use Rattle.call_words.specs.Counters.{siteAt}
 use Rattle.fitting_module.specs.Words.{slotAt}
 use mathlib.Core.Path.{refl}
 use borrow.Author.Needs.{needs}
@@ -51,7 +52,7 @@ element-copy-out-t42-2 : tie.Need-element-copy-out-t42-2
 element-copy-out-t42-2 c = search needs
 
 returns : tie.Need-returns
-unfolding slotAt
+unfolding slotAt siteAt
 returns c = refl
 
 pub slot-at-spec : {M : Type 1} → statement M
