@@ -8,6 +8,7 @@ ghost use Rattle.table.specs.Ends.{was, left};
 ghost use Rattle.table.specs.Order.{moved, turned};
 ghost use Rattle.table.specs.Rows.{HasRow, rowAt, PutRow, PutMark, PutNoted};
 ghost use Rattle.table.specs.Tables.{liveCount};
+use forms::LogNumber;
 use forms::limits::HISTORIES;
 use history::Entry;
 use order::move_back;
@@ -119,12 +120,12 @@ impl Table {
 
     // The operation at place i of those not done is done, the stable mark being m: it keeps its entry, whose number is the last of the done
     // ones, and the mark is noted in its row.
-    pub fn finish(self, order: &mut [u8], rows: &mut [u64], i: usize, m: u64) -> Table
+    pub fn finish(self, order: &mut [u8], rows: &mut [u64], i: usize, m: LogNumber) -> Table
         requires { ⌜ (i < self .queue) × (liveCount self ≤ length (now order))
             × HasRow (now rows) (getD (now order) (self .finished + i) 0) ⌝ }
         ensures { λ r. ⌜ (r ≡ record { finished = self .finished + 1; queue = self .queue - 1 }) ×
             (left order ≡ moved (self .finished + i) (self .finished) (was order)) ×
-            PutMark (getD (was order) (self .finished + i) 0) m (was rows) (left rows) ⌝ }
+            PutMark (getD (was order) (self .finished + i) 0) (m .0) (was rows) (left rows) ⌝ }
     {
         let number = order[self.finished + i];
         put_mark(rows, number as usize, m);
@@ -137,10 +138,10 @@ impl Table {
 
     // One done operation more behind the done ones, in the first entry that is free, with the stable mark m when its line was written. None
     // is future, in progress or waiting, and the caller sees to it that an entry is free.
-    pub fn push_done(self, order: &[u8], rows: &mut [u64], e: Entry, m: u64) -> Table
+    pub fn push_done(self, order: &[u8], rows: &mut [u64], e: Entry, m: LogNumber) -> Table
         requires { ⌜ (self .finished < length (now order)) × HasRow (now rows) (getD (now order) (self .finished) 0) ⌝ }
         ensures { λ r. ⌜ (r ≡ record { finished = self .finished + 1; queue = self .queue }) ×
-            PutNoted (getD (was order) (self .finished) 0) e m (was rows) (left rows) ⌝ }
+            PutNoted (getD (was order) (self .finished) 0) e (m .0) (was rows) (left rows) ⌝ }
     {
         let at = self.finished;
         let number = order[at];

@@ -7,6 +7,7 @@ ghost use Rattle.history.specs.Entries.{noItem};
 ghost use Rattle.history.specs.Words.{within};
 ghost use Rattle.table.specs.Ends.{was, left};
 ghost use Rattle.table.specs.Rows.{ruleNumber, ruleNamed, itemAt, PutItem, begun, rowAt, markAt, HasRow, PutRow, PutMark};
+use forms::LogNumber;
 use forms::Place;
 use forms::Rule;
 use forms::Version;
@@ -156,17 +157,17 @@ pub fn start_row(words: &mut [u64], e: usize)
 }
 
 // The stable mark noted in the row of entry e.
-pub fn mark_at(words: &[u64], e: usize) -> u64
+pub fn mark_at(words: &[u64], e: usize) -> LogNumber
     requires { ⌜ HasRow (now words) e ⌝ }
-    ensures { λ r. ⌜ r ≡ markAt (was words) e ⌝ }
+    ensures { λ r. ⌜ r .0 ≡ markAt (was words) e ⌝ }
 {
-    words[e * ROW + 23]
+    LogNumber(words[e * ROW + 23])
 }
 
 // Notes the stable mark m in the row of entry e.
-pub fn put_mark(words: &mut [u64], e: usize, m: u64)
+pub fn put_mark(words: &mut [u64], e: usize, m: LogNumber)
     requires { ⌜ HasRow (now words) e ⌝ }
-    ensures { λ u. ⌜ PutMark e m (was words) (left words) ⌝ }
+    ensures { λ u. ⌜ PutMark e (m .0) (was words) (left words) ⌝ }
 {
-    words[e * ROW + 23] = m;
+    words[e * ROW + 23] = m.0;
 }

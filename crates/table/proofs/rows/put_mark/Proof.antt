@@ -21,7 +21,7 @@ same-length : tie.Need-same-length
 same-length c = search needs
 
 returns : tie.Need-returns
-returns c = mark-put (now (c .args .words)) (c .args .e) (c .args .m) (c .pre)
+returns c = mark-put (now (c .args .words)) (c .args .e) (c .args .m .0) (c .pre)
 
 pub put-mark-spec : {M : Type 1} → statement M
 put-mark-spec =
