@@ -2,26 +2,15 @@
 ghost use mathlib.Core.Path.{_≡_};
 ghost use mathlib.Core.List.{map};
 ghost use Rattle.table.specs.Ends.{was, left};
-ghost use Rattle.site.specs.Polls.{polledOf};
-ghost use Rattle.c_api.specs.Polls.{polledNumber, sessionPoll, OpenWith, WithBook, PlaysPolls};
+ghost use Rattle.c_api.specs.Polls.{sessionPoll, OpenWith, WithBook, PlaysPolls};
+use call_words::OUT_OF_TURN;
+use call_words::polls::poll_number;
 use history::book::BookWords;
 use history::book::WIDTH;
 use session::Session;
 use site::Site;
-use site::poll::PollAnswer;
 use stream::run_session;
 use table::rows::ROW;
-
-// The number for what a poll says.
-fn poll_number(p: PollAnswer) -> u64
-    ensures { λ n. ⌜ n ≡ polledNumber (polledOf p) ⌝ }
-{
-    match p {
-        PollAnswer::Dry => 1001,
-        PollAnswer::Busy => 1000,
-        PollAnswer::NoSuchHistory => 3,
-    }
-}
 
 // The poll of a history of the session's site: 14 "before site".
 fn session_poll(session: Session, book: &BookWords, h: u64) -> u64
@@ -32,7 +21,7 @@ fn session_poll(session: Session, book: &BookWords, h: u64) -> u64
     if session.opened {
         return poll_number(site.poll(book, h));
     }
-    14
+    OUT_OF_TURN
 }
 
 // Each number becomes what the poll of the history with this number gives.
