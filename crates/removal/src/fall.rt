@@ -10,6 +10,7 @@ use super::chains::first;
 use super::chains::further;
 use super::chains::mate;
 use super::slots::NO_HISTORY;
+use forms::LogNumber;
 use forms::limits::UPDATES;
 
 // The most did lines that a log of 65,536 bytes has: the shortest has 22.
@@ -33,11 +34,12 @@ fn later(slots: &[u64], chains: &Chains, p: usize) -> usize
 }
 
 // The line of pair p, counted from 0.
-fn line_of(words: &[u64], base: u64, p: usize) -> usize
-    requires { ⌜ IsLineOf (now words) base p ⌝ }
-    ensures { λ r. ⌜ r ≡ lineIn base (now (words .entry)) p ⌝ }
+fn line_of(words: &[u64], base: LogNumber, p: usize) -> usize
+    requires { ⌜ IsLineOf (now words) (base .0) p ⌝ }
+    ensures { λ r. ⌜ r ≡ lineIn (base .0) (now (words .entry)) p ⌝ }
 {
-    (words[2 * p] - base - 1) as usize
+    let low = base.0;
+    (words[2 * p] - low - 1) as usize
 }
 
 // Removes line i: the next line in each of its histories falls with it, and so all later ones; and so do its transactions.
@@ -48,12 +50,12 @@ fn by_history(
     lines: &Chains,
     transactions: &Chains,
     gone: &mut Marks,
-    base: u64,
+    base: LogNumber,
     i: usize,
 )
-    requires { ⌜ Fit (net (now slots) (now pairs) base) (now histories) (now lines) (now transactions) (now gone) ⌝ }
+    requires { ⌜ Fit (net (now slots) (now pairs) (base .0)) (now histories) (now lines) (now transactions) (now gone) ⌝ }
     requires { ⌜ i < length (now slots) / 8 ⌝ }
-    ensures { λ _. ⌜ FellLine (net (now (slots .entry)) (now (pairs .entry)) base) i (now (gone .entry)) (now (gone .exit)) ⌝ }
+    ensures { λ _. ⌜ FellLine (net (now (slots .entry)) (now (pairs .entry)) (base .0)) i (now (gone .entry)) (now (gone .exit)) ⌝ }
 {
     if gone[i] == 0 {
         gone[i] = 1;
@@ -88,14 +90,15 @@ fn by_transaction(
     lines: &Chains,
     transactions: &Chains,
     gone: &mut Marks,
-    base: u64,
+    base: LogNumber,
     i: usize,
 )
-    requires { ⌜ Fit (net (now slots) (now pairs) base) (now histories) (now lines) (now transactions) (now gone) ⌝ }
+    requires { ⌜ Fit (net (now slots) (now pairs) (base .0)) (now histories) (now lines) (now transactions) (now gone) ⌝ }
     requires { ⌜ i < length (now slots) / 8 ⌝ }
-    ensures { λ _. ⌜ FellPairs (net (now (slots .entry)) (now (pairs .entry)) base) i (now (gone .entry)) (now (gone .exit)) ⌝ }
+    ensures { λ _. ⌜ FellPairs (net (now (slots .entry)) (now (pairs .entry)) (base .0)) i (now (gone .entry)) (now (gone .exit)) ⌝ }
 {
-    let number = base + 1 + i as u64;
+    let low = base.0;
+    let number = low + 1 + i as u64;
     let mut p = first(pairs, lines, 0, number);
     while p < pairs.len() / 2 {
         let q = mate(pairs, transactions, p);
@@ -122,17 +125,18 @@ fn no_marks() -> Marks
 }
 
 // Marks the lines that fall with those lost.
-pub fn mark(slots: &[u64], pairs: &[u64], lost: &[u64], base: u64) -> Marks
-    requires { ⌜ Placed (net (now slots) (now pairs) base) × Lost (now slots) base (now lost) ⌝ }
-    ensures { λ r. ⌜ Marked (net (now (slots .entry)) (now (pairs .entry)) base) (now (lost .entry)) r ⌝ }
+pub fn mark(slots: &[u64], pairs: &[u64], lost: &[u64], base: LogNumber) -> Marks
+    requires { ⌜ Placed (net (now slots) (now pairs) (base .0)) × Lost (now slots) (base .0) (now lost) ⌝ }
+    ensures { λ r. ⌜ Marked (net (now (slots .entry)) (now (pairs .entry)) (base .0)) (now (lost .entry)) r ⌝ }
 {
+    let low = base.0;
     let histories = chain(slots, 1);
     let lines = chain(pairs, 0);
     let transactions = chain(pairs, 1);
     let mut gone = no_marks();
     let mut k = 0;
     while k < lost.len() {
-        let line = (lost[k] - base - 1) as usize;
+        let line = (lost[k] - low - 1) as usize;
         by_history(
             slots,
             &histories,

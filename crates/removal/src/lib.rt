@@ -33,8 +33,9 @@ fn marks_of(s: &[u8], j: JournalRead, pairs: &[u64], lost: &[u64]) -> Marks
     requires { ⌜ ReadsLines (now s) j (now pairs) (now lost) ⌝ }
     ensures { λ r. ⌜ FallsIn (now (s .entry)) j (now (pairs .entry)) (now (lost .entry)) r ⌝ }
 {
-    let base = j.base.0;
-    let n = (j.done.0 - base) as usize;
+    let base = j.base;
+    let low = base.0;
+    let n = (j.done.0 - low) as usize;
     let mut slots = blank_slots();
     read_slots(s, j.head, base, &mut slots);
     mark(&slots[..8 * n], pairs, lost, base)
@@ -52,12 +53,14 @@ pub fn report(log: &[u8], pairs: &[u64], lost: &[u64], out: &mut [u64]) -> Remov
     let j = read_log(log, &mut book, &mut notes);
     let ok = j.ok;
     if ok {
-        let base = j.base.0;
-        let done = j.done.0;
+        let base = j.base;
+        let done = j.done;
+        let low = base.0;
+        let high = done.0;
         let used = j.used;
         if all_known(pairs, lost, base, done) {
             let gone = marks_of(&log[..used], j, pairs, lost);
-            return answer(&gone, (done - base) as usize, base, out);
+            return answer(&gone, (high - low) as usize, base, out);
         }
         return Removals::NotAmong;
     }

@@ -4,25 +4,30 @@ ghost use Prim.Native.Nat.{_+_, _≤_};
 ghost use lib.ListN.{length};
 ghost use Rattle.removal.specs.Names.{KnownIf, PairsKnown, LostKnown, known, names, CanName, Writes, CanAnswer, Answers};
 use super::Removals;
+use forms::LogNumber;
 use forms::Refusal;
 
 // Whether a number is among those of the lines: above base, and not above done.
-fn is_known(k: u64, base: u64, done: u64) -> bool
-    ensures { λ r. ⌜ r ≡ known base done k ⌝ }
+fn is_known(k: LogNumber, base: LogNumber, done: LogNumber) -> bool
+    ensures { λ r. ⌜ r ≡ known (base .0) (done .0) (k .0) ⌝ }
 {
-    if base < k {
-        return k <= done;
+    let number = k.0;
+    let low = base.0;
+    let high = done.0;
+    if low < number {
+        return number <= high;
     }
     false
 }
 
 // Whether the line of every pair is known.
-fn pairs_known(pairs: &[u64], base: u64, done: u64) -> bool
-    ensures { λ r. ⌜ KnownIf r (PairsKnown (now (pairs .entry)) base done) ⌝ }
+fn pairs_known(pairs: &[u64], base: LogNumber, done: LogNumber) -> bool
+    ensures { λ r. ⌜ KnownIf r (PairsKnown (now (pairs .entry)) (base .0) (done .0)) ⌝ }
 {
     let mut p = 0;
     while p < pairs.len() / 2 {
-        if is_known(pairs[2 * p], base, done) {
+        let number = pairs[2 * p];
+        if is_known(LogNumber(number), base, done) {
             p += 1;
             continue;
         }
@@ -32,12 +37,13 @@ fn pairs_known(pairs: &[u64], base: u64, done: u64) -> bool
 }
 
 // Whether every line lost is known.
-fn lost_known(lost: &[u64], base: u64, done: u64) -> bool
-    ensures { λ r. ⌜ KnownIf r (LostKnown (now (lost .entry)) base done) ⌝ }
+fn lost_known(lost: &[u64], base: LogNumber, done: LogNumber) -> bool
+    ensures { λ r. ⌜ KnownIf r (LostKnown (now (lost .entry)) (base .0) (done .0)) ⌝ }
 {
     let mut k = 0;
     while k < lost.len() {
-        if is_known(lost[k], base, done) {
+        let number = lost[k];
+        if is_known(LogNumber(number), base, done) {
             k += 1;
             continue;
         }
@@ -47,8 +53,8 @@ fn lost_known(lost: &[u64], base: u64, done: u64) -> bool
 }
 
 // 16: "a log number that is not among the lines".
-pub fn all_known(pairs: &[u64], lost: &[u64], base: u64, done: u64) -> bool
-    ensures { λ r. ⌜ KnownIf r (PairsKnown (now (pairs .entry)) base done × LostKnown (now (lost .entry)) base done) ⌝ }
+pub fn all_known(pairs: &[u64], lost: &[u64], base: LogNumber, done: LogNumber) -> bool
+    ensures { λ r. ⌜ KnownIf r (PairsKnown (now (pairs .entry)) (base .0) (done .0) × LostKnown (now (lost .entry)) (base .0) (done .0)) ⌝ }
 {
     if pairs_known(pairs, base, done) {
         return lost_known(lost, base, done);
@@ -57,9 +63,9 @@ pub fn all_known(pairs: &[u64], lost: &[u64], base: u64, done: u64) -> bool
 }
 
 // How many of the first n lines are marked.
-fn count_marks(gone: &[u8], n: usize, base: u64) -> usize
+fn count_marks(gone: &[u8], n: usize, base: LogNumber) -> usize
     requires { ⌜ n ≤ length (now gone) ⌝ }
-    ensures { λ r. ⌜ r ≡ length (names base (now (gone .entry)) n) ⌝ }
+    ensures { λ r. ⌜ r ≡ length (names (base .0) (now (gone .entry)) n) ⌝ }
 {
     let mut i = 0;
     let mut sum: usize = 0;
@@ -73,15 +79,16 @@ fn count_marks(gone: &[u8], n: usize, base: u64) -> usize
 }
 
 // Writes the log numbers of those of the first n lines that are marked.
-fn write_names(gone: &[u8], n: usize, base: u64, out: &mut [u64])
-    requires { ⌜ CanName (now gone) n base (length (now out)) ⌝ }
-    ensures { λ _. ⌜ Writes (names base (now (gone .entry)) n) (now (out .entry)) (now (out .exit)) ⌝ }
+fn write_names(gone: &[u8], n: usize, base: LogNumber, out: &mut [u64])
+    requires { ⌜ CanName (now gone) n (base .0) (length (now out)) ⌝ }
+    ensures { λ _. ⌜ Writes (names (base .0) (now (gone .entry)) n) (now (out .entry)) (now (out .exit)) ⌝ }
 {
+    let low = base.0;
     let mut i = 0;
     let mut at: usize = 0;
     while i < n {
         if gone[i] != 0 {
-            out[at] = base + 1 + i as u64;
+            out[at] = low + 1 + i as u64;
             at += 1;
         }
         i += 1;
@@ -89,9 +96,9 @@ fn write_names(gone: &[u8], n: usize, base: u64, out: &mut [u64])
 }
 
 // The log numbers of those of the first n lines that are marked, or 12 if they do not fit.
-pub fn answer(gone: &[u8], n: usize, base: u64, out: &mut [u64]) -> Removals
-    requires { ⌜ CanAnswer (now gone) n base ⌝ }
-    ensures { λ r. ⌜ Answers (names base (now (gone .entry)) n) (now (out .entry)) r (now (out .exit)) ⌝ }
+pub fn answer(gone: &[u8], n: usize, base: LogNumber, out: &mut [u64]) -> Removals
+    requires { ⌜ CanAnswer (now gone) n (base .0) ⌝ }
+    ensures { λ r. ⌜ Answers (names (base .0) (now (gone .entry)) n) (now (out .entry)) r (now (out .exit)) ⌝ }
 {
     let count = count_marks(gone, n, base);
     if out.len() < count {

@@ -34,19 +34,19 @@ array-share-prefix-slots c = search needs
 
 slice-aggregate-mark : tie.Need-slice-aggregate-mark
 slice-aggregate-mark c =
-    let L = c .before .before .before .before .before .before .before .before .before .pre in
+    let L = c .before .before .before .before .before .before .before .before .before .before .pre in
     let size = long (c .before .before) in
-    sym (length-take-le (8 * (c .before .before .before .before .before .before .before .before .before .args .j .done .0 - c .before .before .before .before .before .before .before .before .before .args .j .base .0)) (c .before .before .read-slots .last .1 .1 .1 .0) (omega (arith, size, L .few, L .done)))
+    sym (length-take-le (8 * (c .before .before .before .before .before .before .before .before .before .before .args .j .done .0 - c .before .before .before .before .before .before .before .before .before .before .args .j .base .0)) (c .before .before .read-slots .last .1 .1 .1 .0) (omega (arith, size, L .few, L .done)))
 
 mark-requires : tie.Need-mark-requires
 mark-requires c κs =
-    let p = c .before .before .before .before .before .before .before .before .before in
+    let p = c .before .before .before .before .before .before .before .before .before .before in
     marks-placed (now (p .args .s)) (p .args .j) (now (p .args .pairs)) (now (p .args .lost)) (c .before .before .read-slots .last .1 .1 .1 .0) (p .pre) (long (c .before .before))
     (c .before .before .read-slots .ensures (p .pre .histories) (p .pre .lines) (p .pre .stands))
 
 returns : tie.Need-returns
 returns c =
-    let p = c .before .before .before .before .before .before .before .before .before .before in
+    let p = c .before .before .before .before .before .before .before .before .before .before .before in
     marks-fall (now (p .args .s)) (p .args .j) (now (p .args .pairs)) (now (p .args .lost)) (c .before .before .before .read-slots .last .1 .1 .1 .0) (c .mark .result) (p .pre) (long (c .before .before .before))
     (c .before .before .before .read-slots .ensures) (c .mark .ensures)
 

@@ -20,17 +20,17 @@ all-known-requires c κs = search needs
 
 slice-aggregate-marks-of : tie.Need-slice-aggregate-marks-of
 slice-aggregate-marks-of c =
-    let p = c .before .before .before .before .before .before .before .before .before .before .before .before in
-    let x = c .before .before .before .before .read-log in
-    let S = read-some (now (p .args .log)) (now (p .args .pairs)) (now (p .args .lost)) (now (p .args .out)) (c .before .before .before .before .before .before .before .if1 .left) (x .result) _ _ (x .ensures) (c .before .before .before .if2 .taken) in
+    let p = c .before .before .before .before .before .before .before .before .before .before .before .before .before .before in
+    let x = c .before .before .before .before .before .before .read-log in
+    let S = read-some (now (p .args .log)) (now (p .args .pairs)) (now (p .args .lost)) (now (p .args .out)) (c .before .before .before .before .before .before .before .before .before .if1 .left) (x .result) _ _ (x .ensures) (c .before .before .before .before .before .if2 .taken) in
     sym (length-take-le (x .result .used) (now (p .args .log)) (S .reads .holds .within))
 
 marks-of-requires : tie.Need-marks-of-requires
 marks-of-requires c κs =
-    let p = c .before .before .before .before .before .before .before .before .before .before .before .before in
-    let x = c .before .before .before .before .read-log in
-    let small = c .before .before .before .before .before .before .before .if1 .left in
-    let S = read-some (now (p .args .log)) (now (p .args .pairs)) (now (p .args .lost)) (now (p .args .out)) small (x .result) _ _ (x .ensures) (c .before .before .before .if2 .taken) in
+    let p = c .before .before .before .before .before .before .before .before .before .before .before .before .before .before in
+    let x = c .before .before .before .before .before .before .read-log in
+    let small = c .before .before .before .before .before .before .before .before .before .if1 .left in
+    let S = read-some (now (p .args .log)) (now (p .args .pairs)) (now (p .args .lost)) (now (p .args .out)) small (x .result) _ _ (x .ensures) (c .before .before .before .before .before .if2 .taken) in
     let both = known-yes _ (c .before .before .all-known .result) (c .before .before .all-known .ensures) (c .before .if3 .taken) in
     read-lines (now (p .args .log)) (x .result) _ _ (S .histories) (S .baseLine) (S .lines) (S .reads) small (now (p .args .pairs)) (now (p .args .lost)) (both .0) (both .1)
 
@@ -39,18 +39,18 @@ slice-aggregate-answer c = search needs
 
 sub-answer : tie.Need-sub-answer
 sub-answer c =
-    let p = c .before .before .before .before .before .before .before .before .before .before .before .before .before .before in
-    let x = c .before .before .before .before .before .before .read-log in
-    let S = read-some (now (p .args .log)) (now (p .args .pairs)) (now (p .args .lost)) (now (p .args .out)) (c .before .before .before .before .before .before .before .before .before .if1 .left) (x .result) _ _ (x .ensures) (c .before .before .before .before .before .if2 .taken) in
-    let d = read-done (now (p .args .log)) (x .result) _ _ (S .histories) (S .baseLine) (S .lines) (S .reads) (c .before .before .before .before .before .before .before .before .before .if1 .left) in
+    let p = c .before .before .before .before .before .before .before .before .before .before .before .before .before .before .before .before in
+    let x = c .before .before .before .before .before .before .before .before .read-log in
+    let S = read-some (now (p .args .log)) (now (p .args .pairs)) (now (p .args .lost)) (now (p .args .out)) (c .before .before .before .before .before .before .before .before .before .before .before .if1 .left) (x .result) _ _ (x .ensures) (c .before .before .before .before .before .before .before .if2 .taken) in
+    let d = read-done (now (p .args .log)) (x .result) _ _ (S .histories) (S .baseLine) (S .lines) (S .reads) (c .before .before .before .before .before .before .before .before .before .before .before .if1 .left) in
     omega (arith, d)
 
 answer-requires : tie.Need-answer-requires
 answer-requires c κs =
-    let p = c .before .before .before .before .before .before .before .before .before .before .before .before .before .before .before in
-    let x = c .before .before .before .before .before .before .before .read-log in
-    let small = c .before .before .before .before .before .before .before .before .before .before .if1 .left in
-    let S = read-some (now (p .args .log)) (now (p .args .pairs)) (now (p .args .lost)) (now (p .args .out)) small (x .result) _ _ (x .ensures) (c .before .before .before .before .before .before .if2 .taken) in
+    let p = c .before .before .before .before .before .before .before .before .before .before .before .before .before .before .before .before .before in
+    let x = c .before .before .before .before .before .before .before .before .before .read-log in
+    let small = c .before .before .before .before .before .before .before .before .before .before .before .before .if1 .left in
+    let S = read-some (now (p .args .log)) (now (p .args .pairs)) (now (p .args .lost)) (now (p .args .out)) small (x .result) _ _ (x .ensures) (c .before .before .before .before .before .before .before .before .if2 .taken) in
     let M = c .before .before .marks-of .ensures (S .histories) (S .lines)
     (read-stands (now (p .args .log)) (x .result) _ _ (S .histories) (S .baseLine) (S .lines) (S .reads) small)
     (read-done (now (p .args .log)) (x .result) _ _ (S .histories) (S .baseLine) (S .lines) (S .reads) small) in
@@ -61,10 +61,10 @@ same-length c = search needs
 
 returns-2 : tie.Need-returns-2
 returns-2 c =
-    let p = c .before .before .before .before .before .before .before .before .before .before .before .before .before .before .before .before .before .before in
-    let x = c .before .before .before .before .before .before .before .before .before .before .read-log in
-    let small = c .before .before .before .before .before .before .before .before .before .before .before .before .before .if1 .left in
-    let S = read-some (now (p .args .log)) (now (p .args .pairs)) (now (p .args .lost)) (now (p .args .out)) small (x .result) _ _ (x .ensures) (c .before .before .before .before .before .before .before .before .before .if2 .taken) in
+    let p = c .before .before .before .before .before .before .before .before .before .before .before .before .before .before .before .before .before .before .before .before in
+    let x = c .before .before .before .before .before .before .before .before .before .before .before .before .read-log in
+    let small = c .before .before .before .before .before .before .before .before .before .before .before .before .before .before .before .if1 .left in
+    let S = read-some (now (p .args .log)) (now (p .args .pairs)) (now (p .args .lost)) (now (p .args .out)) small (x .result) _ _ (x .ensures) (c .before .before .before .before .before .before .before .before .before .before .before .if2 .taken) in
     let both = known-yes _ (c .before .before .before .before .before .before .before .before .all-known .result) (c .before .before .before .before .before .before .before .before .all-known .ensures) (c .before .before .before .before .before .before .before .if3 .taken) in
     let M = c .before .before .before .before .before .marks-of .ensures (S .histories) (S .lines)
     (read-stands (now (p .args .log)) (x .result) _ _ (S .histories) (S .baseLine) (S .lines) (S .reads) small)
@@ -74,10 +74,10 @@ returns-2 c =
 
 returns-3 : tie.Need-returns-3
 returns-3 c =
-    let p = c .before .before .before .before .before .before .before .before .before .before .before in
-    let x = c .before .before .before .read-log in
-    let small = c .before .before .before .before .before .before .if1 .left in
-    let S = read-some (now (p .args .log)) (now (p .args .pairs)) (now (p .args .lost)) (now (p .args .out)) small (x .result) _ _ (x .ensures) (c .before .before .if2 .taken) in
+    let p = c .before .before .before .before .before .before .before .before .before .before .before .before .before in
+    let x = c .before .before .before .before .before .read-log in
+    let small = c .before .before .before .before .before .before .before .before .if1 .left in
+    let S = read-some (now (p .args .log)) (now (p .args .pairs)) (now (p .args .lost)) (now (p .args .out)) small (x .result) _ _ (x .ensures) (c .before .before .before .before .if2 .taken) in
     report-unknown (now (p .args .log)) (now (p .args .pairs)) (now (p .args .lost)) (now (p .args .out)) small (x .result) _ _ S
     (known-no _ (c .before .all-known .result) (c .before .all-known .ensures) (c .if3 .left))
 

@@ -52,16 +52,16 @@ abbrev by-transaction-calls : ℕ → by-transaction-lts.Claims
 by-transaction-calls t = (first-reads.Asked, first-reads.Learnt, mate-reads.Asked, mate-reads.Learnt, line-of-reads.Asked, line-of-reads.Learnt, by-history-below t, by-history.Post, further-reads.Asked, further-reads.Learnt)
 
 abbrev by-history-Inv-loop : by-history-lts.InvT-loop
-by-history-Inv-loop slots histories pairs lines transactions gone₀ base i u₀ gone u = SlotsTo (net slots pairs base) i gone₀ gone u
+by-history-Inv-loop slots histories pairs lines transactions gone₀ base i u₀ gone u = SlotsTo (net slots pairs (base .0)) i gone₀ gone u
 
 abbrev by-history-μ-loop : by-history-lts.MeasureT-loop
 by-history-μ-loop slots histories pairs lines transactions gone₀ base i u₀ gone u = 4 - u
 
 abbrev by-transaction-Inv-loop : by-transaction-lts.InvT-loop
-by-transaction-Inv-loop slots histories pairs lines transactions gone₀ base i number p₀ gone p = PairsTo (net slots pairs base) i gone₀ gone p
+by-transaction-Inv-loop slots histories pairs lines transactions gone₀ base i low number p₀ gone p = PairsTo (net slots pairs low) i gone₀ gone p
 
 abbrev by-transaction-μ-loop : by-transaction-lts.MeasureT-loop
-by-transaction-μ-loop slots histories pairs lines transactions gone₀ base i number p₀ gone p = countOf pairs - p
+by-transaction-μ-loop slots histories pairs lines transactions gone₀ base i low number p₀ gone p = countOf pairs - p
 
 by-history-element-copy-out-if1 : (t : ℕ) → by-history-lts.Need-element-copy-out-if1 (by-history-calls t) (by-history-at t) by-history.Post by-history-Inv-loop by-history-μ-loop
 by-history-element-copy-out-if1 t c = omega (arith, c .before .before .pre .1 .1, c .before .before .pre .1 .0 .placed .most)
@@ -105,7 +105,7 @@ by-history-loop-again t c =
     let s = c .before .before .before .before .before .before .before .before in
     let a = s .args in
     let l = c .before .before .before .loop in
-    let g = net (a .slots .now) (a .pairs .now) (a .base) in
+    let g = net (a .slots .now) (a .pairs .now) (a .base .0) in
     let next : List ℕ → Type 0 = λ m. SlotsTo g (a .i) (set (a .gone .now) (a .i) 1) m (l .u + 1) in
     ⊎-elim
     (λ w. subst next (sym (w .4)) (slots-next g (a .i) _ (l .gone) (l .u) (c .before .later .result) (l .inv) (c .before .before .loop-test .taken) (c .before .later .ensures) _ (w .1 .result) (w .1 .ensures) (w .0 .taken) (w .3 .ensures)))

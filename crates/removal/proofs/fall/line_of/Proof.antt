@@ -26,7 +26,7 @@ sub-result-2 c = omega (arith, same-at (c .before .args .words .now) (c .before 
 
 returns : tie.Need-returns
 returns c =
-    ap (λ (i : ℕ). getD (now (c .before .args .words)) i 0 - c .before .args .base - 1) (let e : 2 * c .before .args .p ≡ 2 * c .before .args .p + 0 = omega arith in e)
+    ap (λ (i : ℕ). getD (now (c .before .args .words)) i 0 - c .before .args .base .0 - 1) (let e : 2 * c .before .args .p ≡ 2 * c .before .args .p + 0 = omega arith in e)
 
 pub line-of-spec : {M : Type 1} → statement M
 line-of-spec =

@@ -9,10 +9,10 @@ use Rattle.removal.proofs.fall.mark.Statement.{statement}
 use Rattle.removal.proofs.fall.mark.Tie as tie
 
 abbrev Inv-loop : tie.InvT-loop
-Inv-loop slots pairs lost base histories lines transactions gone₀ k₀ gone k = MarksTo (net slots pairs base) lost gone k
+Inv-loop slots pairs lost base low histories lines transactions gone₀ k₀ gone k = MarksTo (net slots pairs low) lost gone k
 
 abbrev μ-loop : tie.MeasureT-loop
-μ-loop slots pairs lost base histories lines transactions gone₀ k₀ gone k = length lost - k
+μ-loop slots pairs lost base low histories lines transactions gone₀ k₀ gone k = length lost - k
 
 chain-requires : tie.Need-chain-requires Inv-loop μ-loop
 chain-requires c κs = search needs
@@ -27,7 +27,7 @@ no-marks-requires : tie.Need-no-marks-requires Inv-loop μ-loop
 no-marks-requires c κs = search needs
 
 loop-holds : tie.Need-loop-holds Inv-loop μ-loop
-loop-holds c = marks-none (net (c .before .before .before .before .before .before .before .args .slots .now) (c .before .before .before .before .before .before .before .args .pairs .now) (c .before .before .before .before .before .before .before .args .base)) (c .before .before .before .before .before .before .before .args .lost .now) (c .no-marks .result) (c .no-marks .ensures)
+loop-holds c = marks-none (net (c .before .before .before .before .before .before .before .args .slots .now) (c .before .before .before .before .before .before .before .args .pairs .now) (c .before .before .before .before .before .before .before .args .base .0)) (c .before .before .before .before .before .before .before .args .lost .now) (c .no-marks .result) (c .no-marks .ensures)
 
 mul-line : tie.Need-mul-line Inv-loop μ-loop
 mul-line c = search needs

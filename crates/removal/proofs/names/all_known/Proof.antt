@@ -15,13 +15,13 @@ lost-known-requires c κs = search needs
 returns : tie.Need-returns
 returns c =
     let a = c .before .before .before .before .before .args in
-    both-known (PairsKnown (now (a .pairs)) (a .base) (a .done)) (LostKnown (now (a .lost)) (a .base) (a .done))
+    both-known (PairsKnown (now (a .pairs)) (a .base .0) (a .done .0)) (LostKnown (now (a .lost)) (a .base .0) (a .done .0))
     (c .before .before .pairs-known .result) (c .before .before .pairs-known .ensures) (c .before .if1 .taken) (c .lost-known .result) (c .lost-known .ensures)
 
 returns-2 : tie.Need-returns-2
 returns-2 c =
     let a = c .before .before .before .before .args in
-    first-unknown (PairsKnown (now (a .pairs)) (a .base) (a .done)) (LostKnown (now (a .lost)) (a .base) (a .done))
+    first-unknown (PairsKnown (now (a .pairs)) (a .base .0) (a .done .0)) (LostKnown (now (a .lost)) (a .base .0) (a .done .0))
     (c .before .pairs-known .result) (c .before .pairs-known .ensures) (c .if1 .left)
 
 pub all-known-spec : {M : Type 1} → statement M

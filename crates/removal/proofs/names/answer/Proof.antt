@@ -13,7 +13,7 @@ count-marks-requires c κs = search needs
 returns : tie.Need-returns
 returns c =
     let a = c .before .before .before .before .args in
-    answers-nothing (names (a .base) (now (a .gone)) (a .n)) (now (a .out)) (omega (arith, c .before .count-marks .ensures, c .if1 .taken))
+    answers-nothing (names (a .base .0) (now (a .gone)) (a .n)) (now (a .out)) (omega (arith, c .before .count-marks .ensures, c .if1 .taken))
 
 write-names-requires : tie.Need-write-names-requires
 write-names-requires c κs = search needs
@@ -24,7 +24,7 @@ same-length c = search needs
 returns-2 : tie.Need-returns-2
 returns-2 c =
     let a = c .before .before .before .before .before .before .before .before .args in
-    answers-names (names (a .base) (now (a .gone)) (a .n)) (now (a .out)) (c .before .before .write-names .last .1 .1 .1 .0) (c .before .before .before .before .before .count-marks .result) (omega (arith, c .before .before .before .before .before .count-marks .ensures, c .before .before .before .before .if1 .left)) (c .before .before .before .before .before .count-marks .ensures)
+    answers-names (names (a .base .0) (now (a .gone)) (a .n)) (now (a .out)) (c .before .before .write-names .last .1 .1 .1 .0) (c .before .before .before .before .before .count-marks .result) (omega (arith, c .before .before .before .before .before .count-marks .ensures, c .before .before .before .before .if1 .left)) (c .before .before .before .before .before .count-marks .ensures)
     (c .before .before .write-names .ensures)
 
 pub answer-spec : {M : Type 1} → statement M

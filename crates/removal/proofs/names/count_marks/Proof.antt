@@ -12,21 +12,21 @@ use Rattle.removal.proofs.names.count_marks.Statement.{statement}
 use Rattle.removal.proofs.names.count_marks.Tie as tie
 
 abbrev Inv-loop : tie.InvT-loop
-Inv-loop gone n base i₀ sum₀ i sum = (sum ≡ length (names base gone i)) × (i ≤ n)
+Inv-loop gone n i₀ sum₀ i sum = ((base : ℕ) → sum ≡ length (names base gone i)) × (i ≤ n)
 
 abbrev μ-loop : tie.MeasureT-loop
-μ-loop gone n base i₀ sum₀ i sum = n - i
+μ-loop gone n i₀ sum₀ i sum = n - i
 
 loop-holds : tie.Need-loop-holds Inv-loop μ-loop
-loop-holds c = (sym (ap length (names-none (c .args .base) (c .args .gone .now))), omega arith)
+loop-holds c = (λ base. sym (ap length (names-none base (c .args .gone .now))), omega arith)
 
 shared-slice-read-if1 : tie.Need-shared-slice-read-if1 Inv-loop μ-loop
 shared-slice-read-if1 c = omega (arith, c .before .loop-test .taken, c .before .before .before .pre)
 
 add-sum : tie.Need-add-sum Inv-loop μ-loop
 add-sum c =
-    let s = c .before .before .before .loop .inv .0 in
-    let f = names-few (c .before .before .before .before .args .base) (c .before .before .before .before .args .gone .now) (c .before .before .before .loop .i) in
+    let s = c .before .before .before .loop .inv .0 (c .before .before .before .before .args .base .0) in
+    let f = names-few (c .before .before .before .before .args .base .0) (c .before .before .before .before .args .gone .now) (c .before .before .before .loop .i) in
     let t = c .before .before .loop-test .taken in
     let p = c .before .before .before .before .pre in
     search needs
@@ -41,9 +41,9 @@ loop-again : tie.Need-loop-again Inv-loop μ-loop
 loop-again c =
     let a = c .before .before .before .before .args in
     let l = c .before .before .before .loop in (
-      ⊎-elim
-          (λ w. w .1 ∙ ap (λ (x : ℕ). x + 1) (l .inv .0) ∙ sym (names-marked (a .base) (a .gone .now) (l .i) (w .0 .taken) .1))
-          (λ w. w .1 ∙ l .inv .0 ∙ sym (ap length (names-unmarked (a .base) (a .gone .now) (l .i) (w .0 .left))))
+      λ base. ⊎-elim
+          (λ w. w .1 ∙ ap (λ (x : ℕ). x + 1) (l .inv .0 base) ∙ sym (names-marked base (a .gone .now) (l .i) (w .0 .taken) .1))
+          (λ w. w .1 ∙ l .inv .0 base ∙ sym (ap length (names-unmarked base (a .gone .now) (l .i) (w .0 .left))))
           (c .if1 .came),
       omega (arith, c .before .before .loop-test .taken),
     )
@@ -52,7 +52,7 @@ returns : tie.Need-returns Inv-loop μ-loop
 returns c =
     let a = c .before .before .args in
     let l = c .before .loop in
-    l .inv .0 ∙ ap (λ (x : ℕ). length (names (a .base) (now (a .gone)) x)) (let e : l .i ≡ a .n = omega (arith, l .inv .1, c .loop-test .left) in e)
+    l .inv .0 (a .base .0) ∙ ap (λ (x : ℕ). length (names (a .base .0) (now (a .gone)) x)) (let e : l .i ≡ a .n = omega (arith, l .inv .1, c .loop-test .left) in e)
 
 pub count-marks-spec : {M : Type 1} → statement M
 count-marks-spec =

@@ -10,7 +10,7 @@ use Rattle.removal.proofs.names.lost_known.Statement.{statement}
 use Rattle.removal.proofs.names.lost_known.Tie as tie
 
 abbrev Inv-loop : tie.InvT-loop
-Inv-loop lost base done k₀ k = (n : ℕ) → n < k → T (known base done (getD lost n 0))
+Inv-loop lost base done k₀ k = (n : ℕ) → n < k → T (known (base .0) (done .0) (getD lost n 0))
 
 abbrev μ-loop : tie.MeasureT-loop
 μ-loop lost base done k₀ k = length lost - k
@@ -18,11 +18,11 @@ abbrev μ-loop : tie.MeasureT-loop
 loop-holds : tie.Need-loop-holds Inv-loop μ-loop
 loop-holds c = λ n l. absurd (omega (arith, l))
 
-mul-is-known : tie.Need-mul-is-known Inv-loop μ-loop
-mul-is-known c = search needs
+mul-number : tie.Need-mul-number Inv-loop μ-loop
+mul-number c = search needs
 
-shared-slice-read-is-known : tie.Need-shared-slice-read-is-known Inv-loop μ-loop
-shared-slice-read-is-known c = omega (arith, c .before .loop-test .taken)
+shared-slice-read-number : tie.Need-shared-slice-read-number Inv-loop μ-loop
+shared-slice-read-number c = omega (arith, c .before .loop-test .taken)
 
 is-known-requires : tie.Need-is-known-requires Inv-loop μ-loop
 is-known-requires c κs = search needs
@@ -36,7 +36,7 @@ loop-less c = omega (arith, c .before .before .before .loop-test .taken)
 loop-again : tie.Need-loop-again Inv-loop μ-loop
 loop-again c =
     let a = c .before .before .before .before .before .before .args in
-    known-next (a .base) (a .done) (λ (i : ℕ). getD (a .lost .now) i 0) (c .before .before .before .before .loop .k) (c .before .before .before .before .loop .inv)
+    known-next (a .base .0) (a .done .0) (λ (i : ℕ). getD (a .lost .now) i 0) (c .before .before .before .before .loop .k) (c .before .before .before .before .loop .inv)
     (known-said (c .before .is-known .result) _ (c .before .is-known .ensures) (c .if1 .taken))
 
 returns : tie.Need-returns Inv-loop μ-loop
@@ -55,8 +55,8 @@ lost-known-spec =
     Inv-loop
     μ-loop
     loop-holds
-    mul-is-known
-    shared-slice-read-is-known
+    mul-number
+    shared-slice-read-number
     is-known-requires
     add-k
     loop-less

@@ -10,7 +10,7 @@ use Rattle.removal.proofs.names.pairs_known.Statement.{statement}
 use Rattle.removal.proofs.names.pairs_known.Tie as tie
 
 abbrev Inv-loop : tie.InvT-loop
-Inv-loop pairs base done p₀ p = (n : ℕ) → n < p → T (known base done (keyAt pairs 0 n))
+Inv-loop pairs base done p₀ p = (n : ℕ) → n < p → T (known (base .0) (done .0) (keyAt pairs 0 n))
 
 abbrev μ-loop : tie.MeasureT-loop
 μ-loop pairs base done p₀ p = countOf pairs - p
@@ -18,14 +18,14 @@ abbrev μ-loop : tie.MeasureT-loop
 loop-holds : tie.Need-loop-holds Inv-loop μ-loop
 loop-holds c = λ n l. absurd (omega (arith, l))
 
-mul-is-known : tie.Need-mul-is-known Inv-loop μ-loop
-mul-is-known c = search needs
+mul-number : tie.Need-mul-number Inv-loop μ-loop
+mul-number c = search needs
 
-mul-is-known-2 : tie.Need-mul-is-known-2 Inv-loop μ-loop
-mul-is-known-2 c = search needs
+mul-number-2 : tie.Need-mul-number-2 Inv-loop μ-loop
+mul-number-2 c = search needs
 
-shared-slice-read-is-known : tie.Need-shared-slice-read-is-known Inv-loop μ-loop
-shared-slice-read-is-known c = omega (arith, c .before .loop-test .taken)
+shared-slice-read-number : tie.Need-shared-slice-read-number Inv-loop μ-loop
+shared-slice-read-number c = omega (arith, c .before .loop-test .taken)
 
 is-known-requires : tie.Need-is-known-requires Inv-loop μ-loop
 is-known-requires c κs = search needs
@@ -39,13 +39,13 @@ loop-less c = omega (arith, c .before .before .before .loop-test .taken)
 loop-again : tie.Need-loop-again Inv-loop μ-loop
 loop-again c =
     let a = c .before .before .before .before .before .before .args in
-    known-next (a .base) (a .done) (keyAt (a .pairs .now) 0) (c .before .before .before .before .loop .p) (c .before .before .before .before .loop .inv)
-    (known-pair (a .base) (a .done) (a .pairs .now) (c .before .before .before .before .loop .p) (c .before .is-known .result) (c .before .is-known .ensures) (c .if1 .taken))
+    known-next (a .base .0) (a .done .0) (keyAt (a .pairs .now) 0) (c .before .before .before .before .loop .p) (c .before .before .before .before .loop .inv)
+    (known-pair (a .base .0) (a .done .0) (a .pairs .now) (c .before .before .before .before .loop .p) (c .before .is-known .result) (c .before .is-known .ensures) (c .if1 .taken))
 
 returns : tie.Need-returns Inv-loop μ-loop
 returns c =
     let a = c .before .before .before .before .before .before .args in
-    λ all. known-not (a .base) (a .done) (a .pairs .now) (c .before .before .before .before .loop .p) (c .before .is-known .result) (c .before .is-known .ensures) (c .if1 .left)
+    λ all. known-not (a .base .0) (a .done .0) (a .pairs .now) (c .before .before .before .before .loop .p) (c .before .is-known .result) (c .before .is-known .ensures) (c .if1 .left)
     (all (c .before .before .before .before .loop .p) (c .before .before .before .loop-test .taken))
 
 returns-2 : tie.Need-returns-2 Inv-loop μ-loop
@@ -58,9 +58,9 @@ pairs-known-spec =
     Inv-loop
     μ-loop
     loop-holds
-    mul-is-known
-    mul-is-known-2
-    shared-slice-read-is-known
+    mul-number
+    mul-number-2
+    shared-slice-read-number
     is-known-requires
     add-p
     loop-less
