@@ -1,5 +1,6 @@
 // A keeper's calls. The first `used` bytes of a buffer are the kept lines; a call returns a refusal's number, or 1,000 more than
 // a number of bytes.
+use forms::Place;
 use forms::limits::HISTORIES;
 use history::Verdict;
 use keeper::HandOut;
@@ -53,7 +54,7 @@ pub extern "C" fn keeper_drop(buf: &mut [u8], used: usize, history: u64, place: 
     let Resumed::Found(k) = Keeper::resume(buf, used) else {
         return NO_KEEPER;
     };
-    let r = k.drop_lines(buf, history, place);
+    let r = k.drop_lines(buf, history, Place(place));
     kept_number(r)
 }
 
