@@ -5,6 +5,7 @@ use mathlib.Core.Path.{_≡_, sym, ap, _∙_, subst}
 use mathlib.Core.Bool.{Bool}
 use mathlib.Core.List.{List, _∷_, _++_}
 use lib.ListN.{length}
+use Rattle.forms.specs.Limits.{liveLimit}
 use Rattle.forms.specs.Lists.{below}
 use Rattle.forms.specs.Forms.{Did, Opened}
 use Rattle.rules.specs.State.{State, Reply, ok, settle, logBytes}
@@ -55,14 +56,14 @@ module _ (n room : ℕ) (i : Instance n room) (lends : Lent) (size : length (len
   accepted : openSite n (length (lends .log)) ≡ ok (i .site) Opened
   accepted = ap (openSite n) size ∙ i .opened
 
-  begun : AcceptedAs (below 64) lends (i .site) Opened r new
+  begun : AcceptedAs (below liveLimit) lends (i .site) Opened r new
   begun = subst (λ (reply : Reply). Opens blankSite lends reply r new) accepted opening
 
   begins : StartsSite 0 start
   begins = opens n lends r new (i .site) Opened opening accepted
 
   a : RunsAs before (run (i .earlier) (stateIn start))
-  a = calls-run (begun .valid) (alone-after (below 64) lends (i .site) Opened r new (below-long 64) begun) first
+  a = calls-run (begun .valid) (alone-after (below liveLimit) lends (i .site) Opened r new (below-long liveLimit) begun) first
 
   -- Before the cut, behind it, and at the end the site is the state that the instance says.
   at-before : stateIn before ≡ stateBefore i

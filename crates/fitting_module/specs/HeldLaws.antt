@@ -9,6 +9,7 @@ use lib.Dec.{T, leb, eqb}
 use lib.ListN.{length, getD}
 use borrow.Author.Tests.{leb-true, leb-false, le-leb, lt-ltb}
 use Rattle.forms.specs.Decimal.{top}
+use Rattle.forms.specs.Limits.{updateLimit}
 use Rattle.forms.specs.Lists.{all, any, padded}
 use Rattle.forms.specs.ListLaws.{true-T, T-true, and-intro, and-left, and-right}
 use Rattle.forms.specs.Forms.{Update}
@@ -23,7 +24,7 @@ use Rattle.rules.specs.When.{addWhen, performWhen, stepWhen}
 use Rattle.site.specs.Trim.{updatesHeld}
 
 -- at most four are all held
-held-all : (us : List Update) → length us ≤ 4 → updatesHeld (heldUpdates us) ≡ us
+held-all : (us : List Update) → length us ≤ updateLimit → updatesHeld (heldUpdates us) ≡ us
 unfolding heldUpdates
 held-all [] h = refl
 held-all (a ∷ []) h = refl
@@ -71,14 +72,14 @@ held-writable us t = padded-all (length us) (firstFour asUpdate (asAsked noUpdat
 
 -- ### More than four are refused
 
-many-refused : {A : Type 0} (history : A → ℕ) (misfits : A → Bool) (n : ℕ) (xs : List A) → 4 < length xs →
+many-refused : {A : Type 0} (history : A → ℕ) (misfits : A → Bool) (n : ℕ) (xs : List A) → updateLimit < length xs →
     formRefusal history misfits n xs ≡ some WrongCount
 unfolding formRefusal wrongCount check
 many-refused history misfits n xs h =
     ap (λ (b : Bool). check b WrongCount (check (noSuchHistory n (map history xs)) NoSuchHistory
     (check (historyTwice (map history xs)) HistoryTwice
     (check (any misfits xs) OperandRange none))))
-    (ap (λ (b : Bool). eqb (length xs) 0 || b) (lt-ltb 4 (length xs) h) ∙ or-true (eqb (length xs) 0))
+    (ap (λ (b : Bool). eqb (length xs) 0 || b) (lt-ltb updateLimit (length xs) h) ∙ or-true (eqb (length xs) 0))
 
 -- an order of checks of which the second refuses
 second-refuses : (b : Bool) (o later : Option Refusal) (x : Reply) → o ≡ some WrongCount →
@@ -87,7 +88,7 @@ unfolding unless check andThen
 second-refuses true o later x e = refl
 second-refuses false o later x e = rw e refl
 
-many-add : (full : Bool) (i : ℕ) (us : List Update) (st : State) → 4 < length us →
+many-add : (full : Bool) (i : ℕ) (us : List Update) (st : State) → updateLimit < length us →
     addWhen full i us st ≡ refused (cond (st .restoring) OutOfTurn WrongCount)
 unfolding addWhen updatesRefusal
 many-add full i us st h = second-refuses (st .restoring) _ _ _ (many-refused _ _ (st .histories) us h)
@@ -107,17 +108,17 @@ when-performs full c st e = rw e refl
 pub add-held : (full : Bool) (i : ℕ) (us : List Update) (st : State) → i ≤ top → T (all writableUpdate us) →
     stepWhen full (Call.Add i (updatesHeld (heldUpdates us))) st ≡ stepWhen full (Call.Add i us) st
 unfolding performWhen
-add-held full i us st le w = go (leb (length us) 4) refl
+add-held full i us st le w = go (leb (length us) updateLimit) refl
   where
     vs : List Update
     vs = updatesHeld (heldUpdates us)
 
-    go : (b : Bool) → leb (length us) 4 ≡ b → stepWhen full (Call.Add i vs) st ≡ stepWhen full (Call.Add i us) st
-    go true h = ap (λ (l : List Update). stepWhen full (Call.Add i l) st) (held-all us (leb-true (length us) 4 h))
+    go : (b : Bool) → leb (length us) updateLimit ≡ b → stepWhen full (Call.Add i vs) st ≡ stepWhen full (Call.Add i us) st
+    go true h = ap (λ (l : List Update). stepWhen full (Call.Add i l) st) (held-all us (leb-true (length us) updateLimit h))
     go false h =
-        let m : 4 < length us = leb-false (length us) 4 h in
+        let m : updateLimit < length us = leb-false (length us) updateLimit h in
         when-performs full (Call.Add i vs) st (writable-add i vs le (held-writable us w))
-        ∙ many-add full i vs st (subst (λ (k : ℕ). 4 < k) (sym (held-long us)) m)
+        ∙ many-add full i vs st (subst (λ (k : ℕ). updateLimit < k) (sym (held-long us)) m)
         ∙ sym (when-performs full (Call.Add i us) st (writable-add i us le w) ∙ many-add full i us st m)
 
 -- .. and it can be read where the list can

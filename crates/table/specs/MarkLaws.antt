@@ -77,7 +77,7 @@ marking-next i e m₀ m b x u lt is a q = record {
       (omega (arith, u .few, u .long)) low q (λ h. ap (λ (y : Item). strongIn h (itemUpdate y)) is) (a .strongs);
 }
   where
-    low : x .history < 16
+    low : x .history < historyLimit
     low = omega (arith, u .each i lt .history, ap (λ (y : Item). y .history) is)
 
 pub marking-end : (i : ℕ) (e : Entry) (m₀ m : Marks) → i ≡ e .count → Marking i e m₀ m → More m m₀ (entryUpdates e)
