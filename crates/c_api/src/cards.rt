@@ -12,7 +12,7 @@ use site::Site;
 use table::rows::ROW;
 
 // A site taken up from a log, or why there is none.
-#[derive(Drop)]
+#[derive(Clone, Copy)]
 enum Taken {
     Up(Site),
     Refused(Refusal),

@@ -1,4 +1,6 @@
 // What programs in other languages call, on numbers and byte slices alone. Nothing is required of what they lend.
+#![tactic(auto)]
+
 pub mod cards;
 pub mod finds;
 pub mod keepers;

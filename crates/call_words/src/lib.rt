@@ -1,5 +1,7 @@
 // What a library's calls take and answer in words, for a site alone and for one of a module: the updates of an add, the answer of a reply,
 // the number of a poll and of a copy of the log. Only `put_reply` requires something: that the reply can be printed and has room.
+#![tactic(auto)]
+
 ghost use Rattle.std.specs.Prelude.{◌≡◌, cond};
 
 pub mod adding;

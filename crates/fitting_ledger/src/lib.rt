@@ -1,6 +1,8 @@
 // The library that a controller is built on: a site that lives on from call to call in numbers and bytes that its owner lends.
 // `fl_start` and `fl_restart` establish the invariant, whatever they answer, and require nothing; every other call on a state requires it
 // and keeps it. `fl_upgrade` is lent a log alone.
+#![tactic(auto)]
+
 pub mod adding;
 pub mod answer;
 pub mod calls;

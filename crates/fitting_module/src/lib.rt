@@ -1,5 +1,7 @@
 // The library for a compact module: up to four sites that share one table, and live on from call to call in numbers and bytes that their
 // owner lends. `fm_start` establishes the invariant and requires nothing; every other call requires it and keeps it.
+#![tactic(auto)]
+
 pub mod adding;
 pub mod answer;
 pub mod calls;

@@ -1,5 +1,7 @@
 // The line forms, the lowest part: the values that the lines of document 01 carry, and the refusals; `reader` reads lines and `writer`
 // writes them. How each is printed and what each line means is said in specs/.
+#![tactic(auto)]
+
 pub mod base;
 pub mod bounds;
 mod lengths;
@@ -15,7 +17,7 @@ pub mod writer;
 use limits::{HISTORIES, LIVE, UPDATES};
 
 // The rule of an update that is asked for.
-#[derive(Drop)]
+#[derive(Clone, Copy)]
 pub enum Rule {
     Inc,
     Set,
@@ -24,7 +26,7 @@ pub enum Rule {
 }
 
 // The rule of an update that was done: the words of a log are inc, set and not, and `unk` is logged as `inc`.
-#[derive(Drop)]
+#[derive(Clone, Copy)]
 pub enum DoneRule {
     DidInc,
     DidSet,
@@ -32,7 +34,7 @@ pub enum DoneRule {
 }
 
 // 02 (b): "The test of an update against its history's version says from now on one of now, later or never."
-#[derive(Drop)]
+#[derive(Clone, Copy)]
 pub enum Timing {
     Now,
     Later,
@@ -40,19 +42,19 @@ pub enum Timing {
 }
 
 // The version of a history: a counter.
-#[derive(Drop)]
+#[derive(Clone, Copy)]
 pub struct Version(pub u64);
 
 // The place of a history: how many updates were done in it.
-#[derive(Drop)]
+#[derive(Clone, Copy)]
 pub struct Place(pub u64);
 
 // The log number of an operation: its position among the operations that the site has done.
-#[derive(Drop)]
+#[derive(Clone, Copy)]
 pub struct LogNumber(pub u64);
 
 // An update that is asked for, (RULE H U O).
-#[derive(Drop)]
+#[derive(Clone, Copy)]
 pub struct Asked {
     pub rule: Rule,
     pub history: u64,
@@ -61,7 +63,7 @@ pub struct Asked {
 }
 
 // An update that was done, (RULE H V P O): the version and the place after it.
-#[derive(Drop)]
+#[derive(Clone, Copy)]
 pub struct Done {
     pub rule: DoneRule,
     pub history: u64,
@@ -71,28 +73,28 @@ pub struct Done {
 }
 
 // The first four updates of an add line, and how many it has.
-#[derive(Drop)]
+#[derive(Clone, Copy)]
 pub struct AskedHeld {
     pub count: usize,
     pub first: [Asked; UPDATES],
 }
 
 // The first four updates of a did line, and how many it has.
-#[derive(Drop)]
+#[derive(Clone, Copy)]
 pub struct DoneHeld {
     pub count: usize,
     pub first: [Done; UPDATES],
 }
 
 // A did line: the operation's id, and what is held of its updates.
-#[derive(Drop)]
+#[derive(Clone, Copy)]
 pub struct DidLine {
     pub id: u64,
     pub held: DoneHeld,
 }
 
 // A history of a base line, (H V P O): its number, and its version, place and profile.
-#[derive(Drop)]
+#[derive(Clone, Copy)]
 pub struct BaseHistory {
     pub history: u64,
     pub version: Version,
@@ -101,21 +103,21 @@ pub struct BaseHistory {
 }
 
 // The first sixteen histories of a base line, and how many it has.
-#[derive(Drop)]
+#[derive(Clone, Copy)]
 pub struct BaseHeld {
     pub count: usize,
     pub first: [BaseHistory; HISTORIES],
 }
 
 // A base line, `(base N (H V P O)...)`: its N, and what is held of its histories.
-#[derive(Drop)]
+#[derive(Clone, Copy)]
 pub struct BaseLine {
     pub number: LogNumber,
     pub held: BaseHeld,
 }
 
 // Why a call is refused. The papers' numbers are given by `number_of` in specs/Refusals.antt.
-#[derive(Drop)]
+#[derive(Clone, Copy)]
 pub enum Refusal {
     Unreadable,
     WrongCount,
@@ -144,7 +146,7 @@ pub enum Refusal {
 pub type ReplyNumbers = [u64; UPDATES + LIVE];
 
 // A history as `show` gives it.
-#[derive(Drop)]
+#[derive(Clone, Copy)]
 pub struct Shown {
     pub history: u64,
     pub version: Version,
@@ -156,7 +158,7 @@ pub struct Shown {
 
 // Which form a reply has, with its single numbers. Its lists stand beside it. Of the second list of a finish the first `overtaken`
 // ids are those overtaken, and the others those made ready.
-#[derive(Drop)]
+#[derive(Clone, Copy)]
 pub enum ReplyForm {
     Refused(Refusal),
     Opened,
@@ -173,7 +175,7 @@ pub enum ReplyForm {
 
 // A reply: its form, and how many numbers the lists have that the form has, in their printed order. The numbers stand in an array that
 // is lent, those of the second list behind those of the first. `outcome_of` in specs/Held.antt says what it means.
-#[derive(Drop)]
+#[derive(Clone, Copy)]
 pub struct ReplyLine {
     pub form: ReplyForm,
     pub first: usize,

@@ -9,7 +9,7 @@ ghost use Rattle.forms.specs.Reading.{field};
 ghost use Rattle.forms.specs.Read.{digit_of, GrownTo, Is, number_seen, word_seen};
 
 // A digit of a line, or another byte.
-#[derive(Drop)]
+#[derive(Clone, Copy)]
 enum Digit {
     Value(u8),
     Other,
@@ -36,7 +36,7 @@ fn is_letter(b: u8) -> bool
 }
 
 // A value with one more digit.
-#[derive(Drop)]
+#[derive(Clone, Copy)]
 enum Grown {
     Value(u64),
     Refused,
@@ -67,7 +67,7 @@ fn grow(value: u64, d: u8) -> Grown
 }
 
 // A number that was read, with the position behind it.
-#[derive(Drop)]
+#[derive(Clone, Copy)]
 pub(crate) enum Number {
     At { value: u64, next: usize },
     Bad,
@@ -102,7 +102,7 @@ pub(crate) fn read_number(s: &[u8], at: usize) -> Number
 }
 
 // The position behind what was read, where something was read.
-#[derive(Drop)]
+#[derive(Clone, Copy)]
 pub(crate) enum Word {
     Behind(usize),
     Bad,

@@ -1,4 +1,6 @@
 // The fitting ledger: a session's forms from standard input, as they come, and its replies to standard output.
+#![tactic(auto)]
+
 ghost use Rattle.std.specs.Prelude.{[], ◌≤◌, length};
 ghost use Rattle.forms.specs.Limits.{reply_limit};
 ghost use Rattle.session.specs.Feeding.{UsablePartial};
@@ -15,7 +17,7 @@ use table::order::Order;
 use table::rows::{ROW, Rows};
 
 // The stream after some input, and whether to go on.
-#[derive(Drop)]
+#[derive(Clone, Copy)]
 struct Serving {
     stream: Stream,
     on: bool,

@@ -1,5 +1,7 @@
 // Reads lines from standard input and prints what each reads as, as a command, a did line and a site line, and the bytes of the last two
 // written again. Then it writes replies of every form, and lines where there is room and where there is one byte too little.
+#![tactic(auto)]
+
 use forms::reader::{CommandForm, SiteRead};
 use forms::{Asked, AskedHeld, DidLine, Done, DoneRule, Place, Rule, Version};
 

@@ -1,6 +1,8 @@
 // The compact module: up to four sites that share one table of 128 entries. Every call names a slot; a slot above 3, and one that is not
 // opened, is refused 14. A call requires the invariant, which `Module::new` establishes and every call keeps, and nothing else; a refused
 // one leaves all that is lent as it was.
+#![tactic(auto)]
+
 ghost use Rattle.std.specs.Prelude.{◌≡◌, cond, eqb, ◌≤◌, ◌<◌, max, length};
 ghost use Rattle.table.specs.Ends.{was, left};
 ghost use Rattle.table.specs.Tables.{live_count};
@@ -22,7 +24,7 @@ pub mod poll;
 pub mod start;
 
 // A place for a site.
-#[derive(Drop)]
+#[derive(Clone, Copy)]
 pub struct Slot {
     pub site: Site,
     // whether the site is opened
@@ -35,20 +37,20 @@ pub struct Slot {
 
 // A module by value. What the caller lends to each call of a slot: the buffer of its site's log, the rows of the table, the numbers of all
 // entries, the words of its site's histories, and an array for the lists of the reply.
-#[derive(Drop)]
+#[derive(Clone, Copy)]
 pub struct Module {
     pub slots: [Slot; 4],
 }
 
 // What a call hands back: the module after it, and the reply.
-#[derive(Drop)]
+#[derive(Clone, Copy)]
 pub struct ModuleResult {
     pub after: Module,
     pub reply: ReplyLine,
 }
 
 // The slots after one of them was lent free numbers of its neighbours, and its part of the numbers as it was.
-#[derive(Drop)]
+#[derive(Clone, Copy)]
 struct Loan {
     slots: [Slot; 4],
     saved: [u8; PART],

@@ -7,7 +7,7 @@ use history::book::BookWords;
 use site::poll::PollAnswer;
 
 // What a poll of a slot says.
-#[derive(Drop)]
+#[derive(Clone, Copy)]
 pub enum SlotPoll {
     NotOpened,
     Site(PollAnswer),

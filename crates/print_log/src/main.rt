@@ -1,6 +1,8 @@
 // Prints the log that a session leaves: reads the session from standard input and writes each line of its log to standard output,
 // with the log's length up to and including that line beneath it. What is written is proved, from the bytes read to the bytes
 // printed (`list_session`); that they are read and written is not.
+#![tactic(auto)]
+
 mod listing;
 mod paper;
 

@@ -2,6 +2,8 @@
 // which of these hold full details, which reported it persistent. They stand in an array of numbers that the caller lends, and nothing else
 // is lent to these calls. A public call requires that at most 64 are in use and that the array has room for 64; a refused call changes
 // nothing, and no call changes a number past those in use after it.
+#![tactic(auto)]
+
 mod masks;
 mod words;
 
@@ -19,13 +21,13 @@ use masks::{bit, has_site, is_outside, ones};
 use words::{Record, WIDTH, close_gap, id_at, put_record, record_at};
 
 // How many records there are. They stand in the first numbers of an array that is lent.
-#[derive(Drop)]
+#[derive(Clone, Copy)]
 pub struct Records {
     pub count: usize,
 }
 
 // What a call replies.
-#[derive(Drop)]
+#[derive(Clone, Copy)]
 pub enum Answer {
     Refused(Refusal),
     Done,
@@ -34,14 +36,14 @@ pub enum Answer {
 }
 
 // The records after a call, and its reply.
-#[derive(Drop)]
+#[derive(Clone, Copy)]
 pub struct RecordsResult {
     pub records: Records,
     pub answer: Answer,
 }
 
 // Where a record stands among the others.
-#[derive(Drop)]
+#[derive(Clone, Copy)]
 enum Found {
     At(usize),
     Nothing,

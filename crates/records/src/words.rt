@@ -8,7 +8,7 @@ ghost use Rattle.records.specs.Model.{width, numbers_of, record_from, GapClosed}
 pub(crate) const WIDTH: usize = 5;
 
 // A record: its masks have one bit a site.
-#[derive(Drop)]
+#[derive(Clone, Copy)]
 pub(crate) struct Record {
     pub id: u64,
     pub sent: u8,

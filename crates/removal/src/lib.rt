@@ -1,5 +1,7 @@
 // Which fittings must be taken back (02 (a)): the lines that fall with lines lost for good. The log, the pairs and the lines lost are only
 // read; a refused report changes nothing, and no report changes a number behind its answer. Nothing is required of what is lent.
+#![tactic(auto)]
+
 pub mod chains;
 pub mod fall;
 mod names;
@@ -17,7 +19,7 @@ use names::{all_known, answer};
 use slots::{blank_slots, read_slots};
 
 // How many log numbers a report names, or why it names none; 16 is met by no other call.
-#[derive(Drop)]
+#[derive(Clone, Copy)]
 pub enum Removals {
     Named(usize),
     Refused(Refusal),

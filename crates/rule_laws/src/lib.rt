@@ -1,1 +1,3 @@
 // No code: laws about the specification stand in specs/.
+
+#![tactic(auto)]

@@ -1,4 +1,6 @@
 // A session: one form a line in, one reply a line out, over a site whose log stands in a lent buffer.
+#![tactic(auto)]
+
 ghost use Rattle.std.specs.Prelude.{◌≡◌, ◌+◌, false, ◌&&◌, [], leb};
 ghost use Rattle.forms.specs.Held.{replied};
 ghost use Rattle.forms.specs.Limits.{live_limit};
@@ -18,28 +20,28 @@ use table::order::Order;
 use table::rows::Rows;
 
 // A session by value: whether its site is open, and that site. Its log buffer is lent to each call.
-#[derive(Drop)]
+#[derive(Clone, Copy)]
 pub struct Session {
     pub opened: bool,
     pub site: Site,
 }
 
 // What a line gives: the session after it, and the reply.
-#[derive(Drop)]
+#[derive(Clone, Copy)]
 pub struct LineResult {
     pub session: Session,
     pub reply: ReplyLine,
 }
 
 // What a line gives with its reply written: the session after it, and where the reply ends.
-#[derive(Drop)]
+#[derive(Clone, Copy)]
 pub struct Answered {
     pub session: Session,
     pub next: Written,
 }
 
 // The unended line so far: its first `len` bytes, or that it is above 1,024 bytes.
-#[derive(Drop)]
+#[derive(Clone, Copy)]
 pub struct PartialLine {
     pub bytes: [u8; LINE_BYTES],
     pub len: usize,

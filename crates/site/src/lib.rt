@@ -1,4 +1,6 @@
 // One site: its counters, and, in what is lent to it, its histories, its table of live operations and its log.
+#![tactic(auto)]
+
 ghost use Rattle.std.specs.Prelude.{◌≡◌, List, [], ℕ, max};
 ghost use Rattle.forms.specs.Forms.{Refused};
 ghost use Rattle.forms.specs.Held.{replied, outcome_with};
@@ -24,7 +26,7 @@ pub mod withdraw;
 
 // A site by value. What the caller lends to each call: a buffer whose first `used` bytes are its log, the rows of its table, the order of
 // its entries, the numbers of its histories, and an array for the lists of the reply, one behind the other.
-#[derive(Drop)]
+#[derive(Clone, Copy)]
 pub struct Site {
     // how many histories there are
     pub count: usize,
@@ -46,7 +48,7 @@ pub struct Site {
 }
 
 // What a call hands back: the site after it, and the reply.
-#[derive(Drop)]
+#[derive(Clone, Copy)]
 pub struct CallResult {
     pub site: Site,
     pub reply: ReplyLine,

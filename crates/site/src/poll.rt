@@ -6,7 +6,7 @@ use super::Site;
 use history::book::{BUSY, BookWords, WIDTH};
 
 // What a poll says of a history.
-#[derive(Drop)]
+#[derive(Clone, Copy)]
 pub enum PollAnswer {
     Dry,
     Busy,

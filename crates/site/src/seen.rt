@@ -9,7 +9,7 @@ use history::entries::blank_item;
 use history::{Entry, Verdict};
 
 // What the checks of an operation or of a did line read of a site, beside its histories.
-#[derive(Drop)]
+#[derive(Clone, Copy)]
 pub struct CheckInputs {
     pub restoring: bool,
     // how many histories there are
@@ -22,14 +22,14 @@ pub struct CheckInputs {
 }
 
 // What the checks of an add say, and the entry of an operation that passes them.
-#[derive(Drop)]
+#[derive(Clone, Copy)]
 pub struct Admission {
     pub verdict: Verdict,
     pub entry: Entry,
 }
 
 // What the checks of a redo say, and of a did line that passes them its entry and its length, with its end.
-#[derive(Drop)]
+#[derive(Clone, Copy)]
 pub struct LineAdmission {
     pub verdict: Verdict,
     pub entry: Entry,

@@ -1,5 +1,7 @@
 // The table of a site's live operations. Their rows stand in an array of numbers and the order of their entries in a list of entry numbers,
 // both lent by the caller; an operation keeps its entry until it leaves, and only its number changes its place.
+#![tactic(auto)]
+
 ghost use Rattle.std.specs.Prelude.{◌≡◌, ◌+◌, ◌-◌, ◌≤◌, ◌<◌, length, get_or};
 ghost use Rattle.forms.specs.Limits.{live_limit};
 ghost use Rattle.table.specs.Ends.{was, left};
@@ -23,39 +25,39 @@ pub mod tries;
 pub mod versions;
 
 // The number of an entry. (In the field's terms: a slot of the table.)
-#[derive(Drop)]
+#[derive(Clone, Copy)]
 pub struct EntryNumber(pub u8);
 
 // Where an entry was found, counted from the first that was looked at.
-#[derive(Drop)]
+#[derive(Clone, Copy)]
 pub enum Found {
     At(usize),
     Nothing,
 }
 
 // The entry of an id.
-#[derive(Drop)]
+#[derive(Clone, Copy)]
 pub enum Lookup {
     At(EntryNumber),
     Nothing,
 }
 
 // Of each history: whether an update of those counted is in it, and whether a strong one is.
-#[derive(Drop)]
+#[derive(Clone, Copy)]
 pub struct Marks {
     pub any: [bool; HISTORIES],
     pub strong: [bool; HISTORIES],
 }
 
 // The table by value: how many entries are done and have not left it, and how many are not done (or wait).
-#[derive(Drop)]
+#[derive(Clone, Copy)]
 pub struct Table {
     pub finished: usize,
     pub queue: usize,
 }
 
 // The table after operations that were overtaken have left it, and how many they were.
-#[derive(Drop)]
+#[derive(Clone, Copy)]
 pub struct Dropped {
     pub table: Table,
     pub count: usize,

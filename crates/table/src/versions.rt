@@ -16,7 +16,7 @@ use forms::limits::HISTORIES;
 use history::book::known_length;
 
 // What a reply names histories for: a version that rose, or that the last update which kept it from being dry is gone.
-#[derive(Drop)]
+#[derive(Clone, Copy)]
 pub enum Naming {
     Risen,
     Dried,

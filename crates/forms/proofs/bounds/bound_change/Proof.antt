@@ -3,33 +3,33 @@ use borrow.Author.Rules.{rules}
 use Rattle.forms.proofs.bounds.bound_change.Statement.{statement}
 use Rattle.forms.proofs.bounds.bound_change.Tie as tie
 
-bound-number-requires : tie.Need-bound-number-requires
-bound-number-requires c κs = search rules
+bound_number-requires : tie.Need-bound_number-requires
+bound_number-requires c κs = search rules
 
-bound-number-requires-2 : tie.Need-bound-number-requires-2
-bound-number-requires-2 c κs = search rules
+bound_number-requires-2 : tie.Need-bound_number-requires-2
+bound_number-requires-2 c κs = search rules
 
-bound-number-requires-3 : tie.Need-bound-number-requires-3
-bound-number-requires-3 c κs = search rules
+bound_number-requires-3 : tie.Need-bound_number-requires-3
+bound_number-requires-3 c κs = search rules
 
-bound-number-requires-4 : tie.Need-bound-number-requires-4
-bound-number-requires-4 c κs = search rules
+bound_number-requires-4 : tie.Need-bound_number-requires-4
+bound_number-requires-4 c κs = search rules
 
 returns : tie.Need-returns
 returns c =
     record {
-      history = c.before.before.before.bound-number.ensures;
-      version = c.before.before.bound-number2.ensures;
-      place = c.before.bound-number3.ensures;
-      operand = c.bound-number4.ensures;
+      history = c.bound_number.ensures;
+      version = c.bound_number-2.ensures;
+      place = c.bound_number-3.ensures;
+      operand = c.bound_number-4.ensures;
     }
 
-pub bound-change-spec : {M : Type 1} → statement M
-bound-change-spec =
+pub bound_change_spec : {M : Type 1} → statement M
+bound_change_spec =
     tie.close
     (tie.spec
-    bound-number-requires
-    bound-number-requires-2
-    bound-number-requires-3
-    bound-number-requires-4
+    bound_number-requires
+    bound_number-requires-2
+    bound_number-requires-3
+    bound_number-requires-4
     returns)

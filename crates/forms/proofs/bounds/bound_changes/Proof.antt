@@ -21,59 +21,58 @@ record Inv (count : ℕ) (first : List Done) (i : ℕ) : Type 0 where
   four : length first ≡ 4
   small : length (held_text i first) ≤ 89 * i
 
-abbrev invariant-loop : tie.invariant-loop
-invariant-loop count first i₀ i = Inv count first i
+abbrev invariant-loop-i : tie.invariant-loop-i
+invariant-loop-i count first i₀ i = Inv count first i
 
-abbrev decreases-loop : tie.decreases-loop
-decreases-loop count first i₀ i = count - i
+abbrev decreases-loop-i : tie.decreases-loop-i
+decreases-loop-i count first i₀ i = count - i
 
-loop-holds : tie.Need-loop-init invariant-loop decreases-loop
-loop-holds c =
-    let s = c.before in
-    let none = ap length (items_none (λ (d : Done). change_text (as_change d)) s.args.h.first) in
-    record { some = omega arith; few = s.requires.count; four = s.requires.first; small = omega (arith, none) }
+loop-i-init : tie.Need-loop-i-init invariant-loop-i decreases-loop-i
+loop-i-init c =
+    let none = ap length (items_none (λ (d : Done). change_text (as_change d)) c.args.h.first) in
+    record { some = omega arith; few = c.requires.count; four = c.requires.first; small = omega (arith, none) }
 
-mul-d : tie.Need-overflow-mul-d invariant-loop decreases-loop
-mul-d c = omega arith
+offset_bounds-first-i : tie.Need-offset_bounds-first-i invariant-loop-i decreases-loop-i
+offset_bounds-first-i c = omega arith
 
-array-copy-out-d : tie.Need-array-copy-out-d invariant-loop decreases-loop
-array-copy-out-d c = omega arith
+bounds-first-i : tie.Need-bounds-first-i invariant-loop-i decreases-loop-i
+bounds-first-i c = omega arith
 
-bound-change-requires : tie.Need-bound-change-requires invariant-loop decreases-loop
-bound-change-requires c κs = search rules
+bound_change-requires : tie.Need-bound_change-requires invariant-loop-i decreases-loop-i
+bound_change-requires c κs = search rules
 
-add-i : tie.Need-overflow-add-i invariant-loop decreases-loop
-add-i c = omega arith
+overflow_add-i : tie.Need-overflow_add-i invariant-loop-i decreases-loop-i
+overflow_add-i c = omega arith
 
-loop-less : tie.Need-loop-smaller invariant-loop decreases-loop
-loop-less c = omega arith
+loop-i-smaller : tie.Need-loop-i-smaller invariant-loop-i decreases-loop-i
+loop-i-smaller c = omega arith
 
-loop-again : tie.Need-loop-preserved invariant-loop decreases-loop
-loop-again c =
-    let l = c.before.before.before.loop in
-    let first = c.before.before.before.before.before.args.h.first in
+loop-i-preserved : tie.Need-loop-i-preserved invariant-loop-i decreases-loop-i
+loop-i-preserved c =
+    let l = c.loop-i in
+    let first = c.args.h.first in
     let size = items-suc-length (λ (d : Done). change_text (as_change d)) first l.i no_done (omega arith) in
-    let w = c.bound-change.ensures in
+    let w = c.bound_change.ensures in
     record { some = omega arith; few = l.invariant.few; four = l.invariant.four; small = omega (arith, size, change-at_most _ w, digits-at_most _ w.history, l.invariant.small) }
 
-returns : tie.Need-returns invariant-loop decreases-loop
+returns : tie.Need-returns invariant-loop-i decreases-loop-i
 returns c =
-    let l = c.before.loop in
-    let h = c.before.before.before.args.h in
-    let last : l.i ≡ h.count = omega (arith, l.invariant.some, c.loop-test.false) in
+    let l = c.loop-i in
+    let h = c.args.h in
+    let last : l.i ≡ h.count = omega (arith, l.invariant.some, c.loop-i-test.false) in
     subst (λ (k : ℕ). length (held_text k h.first) ≤ 356) last (omega (arith, l.invariant.small, l.invariant.some, l.invariant.few))
 
-pub bound-changes-spec : {M : Type 1} → statement M
-bound-changes-spec =
+pub bound_changes_spec : {M : Type 1} → statement M
+bound_changes_spec =
     tie.close
     (tie.spec
-    invariant-loop
-    decreases-loop
-    loop-holds
-    mul-d
-    array-copy-out-d
-    bound-change-requires
-    add-i
-    loop-less
-    loop-again
+    invariant-loop-i
+    decreases-loop-i
+    loop-i-init
+    offset_bounds-first-i
+    bounds-first-i
+    bound_change-requires
+    overflow_add-i
+    loop-i-smaller
+    loop-i-preserved
     returns)

@@ -17,59 +17,58 @@ record Inv (ns : List ℕ) (i : ℕ) : Type 0 where
   few : length ns ≤ 64
   small : length (items_text field_text (take i ns)) ≤ 21 * i
 
-abbrev invariant-loop : tie.invariant-loop
-invariant-loop ns i₀ i = Inv ns i
+abbrev invariant-loop-i : tie.invariant-loop-i
+invariant-loop-i ns i₀ i = Inv ns i
 
-abbrev decreases-loop : tie.decreases-loop
-decreases-loop ns i₀ i = length ns - i
+abbrev decreases-loop-i : tie.decreases-loop-i
+decreases-loop-i ns i₀ i = length ns - i
 
-loop-holds : tie.Need-loop-init invariant-loop decreases-loop
-loop-holds c =
-    let s = c.before in
-    let none = ap length (items_none field_text s.args.ns.now) in
-    record { some = omega arith; few = s.requires; small = omega (arith, none) }
+loop-i-init : tie.Need-loop-i-init invariant-loop-i decreases-loop-i
+loop-i-init c =
+    let none = ap length (items_none field_text c.args.ns.now) in
+    record { some = omega arith; few = c.requires; small = omega (arith, none) }
 
-mul-n : tie.Need-overflow-mul-n invariant-loop decreases-loop
-mul-n c = omega arith
+offset_bounds-ns-i : tie.Need-offset_bounds-ns-i invariant-loop-i decreases-loop-i
+offset_bounds-ns-i c = omega arith
 
-shared-slice-read-n : tie.Need-shared-slice-read-n invariant-loop decreases-loop
-shared-slice-read-n c = omega arith
+bounds-ns-i : tie.Need-bounds-ns-i invariant-loop-i decreases-loop-i
+bounds-ns-i c = omega arith
 
-bound-number-requires : tie.Need-bound-number-requires invariant-loop decreases-loop
-bound-number-requires c κs = search rules
+bound_number-requires : tie.Need-bound_number-requires invariant-loop-i decreases-loop-i
+bound_number-requires c κs = search rules
 
-add-i : tie.Need-overflow-add-i invariant-loop decreases-loop
-add-i c = omega arith
+overflow_add-i : tie.Need-overflow_add-i invariant-loop-i decreases-loop-i
+overflow_add-i c = omega arith
 
-loop-less : tie.Need-loop-smaller invariant-loop decreases-loop
-loop-less c = omega arith
+loop-i-smaller : tie.Need-loop-i-smaller invariant-loop-i decreases-loop-i
+loop-i-smaller c = omega arith
 
-loop-again : tie.Need-loop-preserved invariant-loop decreases-loop
-loop-again c =
-    let l = c.before.before.before.loop in
-    let ns = c.before.before.before.before.before.args.ns.now in
+loop-i-preserved : tie.Need-loop-i-preserved invariant-loop-i decreases-loop-i
+loop-i-preserved c =
+    let l = c.loop-i in
+    let ns = c.args.ns.now in
     let size = items-suc-length field_text ns l.i 0 (omega arith) in
     let field = field-length (get_or ns l.i 0) in
-    record { some = omega arith; few = l.invariant.few; small = omega (arith, size, field, l.invariant.small, digits-at_most _ c.bound-number.ensures) }
+    record { some = omega arith; few = l.invariant.few; small = omega (arith, size, field, l.invariant.small, digits-at_most _ c.bound_number.ensures) }
 
-returns : tie.Need-returns invariant-loop decreases-loop
+returns : tie.Need-returns invariant-loop-i decreases-loop-i
 returns c =
-    let l = c.before.loop in
-    let ns = c.before.before.before.args.ns.now in
-    let all = ap length (items-all field_text ns l.i c.loop-test.false ∙ sym (fields_items ns)) in
+    let l = c.loop-i in
+    let ns = c.args.ns.now in
+    let all = ap length (items-all field_text ns l.i c.loop-i-test.false ∙ sym (fields_items ns)) in
     omega (arith, all, l.invariant.small, l.invariant.some, l.invariant.few)
 
-pub bound-fields-spec : {M : Type 1} → statement M
-bound-fields-spec =
+pub bound_fields_spec : {M : Type 1} → statement M
+bound_fields_spec =
     tie.close
     (tie.spec
-    invariant-loop
-    decreases-loop
-    loop-holds
-    mul-n
-    shared-slice-read-n
-    bound-number-requires
-    add-i
-    loop-less
-    loop-again
+    invariant-loop-i
+    decreases-loop-i
+    loop-i-init
+    offset_bounds-ns-i
+    bounds-ns-i
+    bound_number-requires
+    overflow_add-i
+    loop-i-smaller
+    loop-i-preserved
     returns)

@@ -10,139 +10,139 @@ use borrow.Author.Rules.{rules}
 use Rattle.forms.proofs.bounds.bound_form.Statement.{statement}
 use Rattle.forms.proofs.bounds.bound_form.Tie as tie
 
-enum-known-form : tie.Need-enum-known-form
-enum-known-form c = search rules
+enum_known-form : tie.Need-enum_known-form
+enum_known-form c = search rules
 
-refusal-number-requires : tie.Need-refusal-number-requires
-refusal-number-requires c κs = search rules
+refusal_number-requires : tie.Need-refusal_number-requires
+refusal_number-requires c κs = search rules
 
-bound-number-requires : tie.Need-bound-number-requires
-bound-number-requires c κs = search rules
+bound_number-requires : tie.Need-bound_number-requires
+bound_number-requires c κs = search rules
 
-enum_told : tie.Need-enum-told
-enum_told c = search rules
+enum_told-1 : tie.Need-enum_told-1
+enum_told-1 c = search rules
 
-enum-told-2 : tie.Need-enum-told-2
-enum-told-2 c = search rules
+enum_told-in-Added : tie.Need-enum_told-in-Added
+enum_told-in-Added c = search rules
 
-enum-known-form-2 : tie.Need-enum-known-form-2
-enum-known-form-2 c = search rules
+enum_known-form-in-Finished-1 : tie.Need-enum_known-form-in-Finished-1
+enum_known-form-in-Finished-1 c = search rules
 
-bound-number-requires-2 : tie.Need-bound-number-requires-2
-bound-number-requires-2 c κs = search rules
+bound_number-requires-in-Finished : tie.Need-bound_number-requires-in-Finished
+bound_number-requires-in-Finished c κs = search rules
 
-enum-told-3 : tie.Need-enum-told-3
-enum-told-3 c = search rules
+enum_told-in-Withdrawn : tie.Need-enum_told-in-Withdrawn
+enum_told-in-Withdrawn c = search rules
 
-enum-told-4 : tie.Need-enum-told-4
-enum-told-4 c = search rules
+enum_told-in-Persisted : tie.Need-enum_told-in-Persisted
+enum_told-in-Persisted c = search rules
 
-enum-told-5 : tie.Need-enum-told-5
-enum-told-5 c = search rules
+enum_told-in-Stabilised : tie.Need-enum_told-in-Stabilised
+enum_told-in-Stabilised c = search rules
 
-enum-known-form-3 : tie.Need-enum-known-form-3
-enum-known-form-3 c = search rules
+enum_known-form-in-Shows-1 : tie.Need-enum_known-form-in-Shows-1
+enum_known-form-in-Shows-1 c = search rules
 
-bound-shown-requires : tie.Need-bound-shown-requires
-bound-shown-requires c κs = search rules
+bound_shown-requires : tie.Need-bound_shown-requires
+bound_shown-requires c κs = search rules
 
-enum-known-form-4 : tie.Need-enum-known-form-4
-enum-known-form-4 c = search rules
+enum_known-form-in-Restarted-1 : tie.Need-enum_known-form-in-Restarted-1
+enum_known-form-in-Restarted-1 c = search rules
 
-bound-number-requires-3 : tie.Need-bound-number-requires-3
-bound-number-requires-3 c κs = search rules
+bound_number-requires-in-Restarted : tie.Need-bound_number-requires-in-Restarted
+bound_number-requires-in-Restarted c κs = search rules
 
-bound-number-requires-4 : tie.Need-bound-number-requires-4
-bound-number-requires-4 c κs = search rules
+bound_number-requires-in-Restarted-2 : tie.Need-bound_number-requires-in-Restarted-2
+bound_number-requires-in-Restarted-2 c κs = search rules
 
-enum-known-form-5 : tie.Need-enum-known-form-5
-enum-known-form-5 c = search rules
+enum_known-form-in-Redone-1 : tie.Need-enum_known-form-in-Redone-1
+enum_known-form-in-Redone-1 c = search rules
 
-bound-number-requires-5 : tie.Need-bound-number-requires-5
-bound-number-requires-5 c κs = search rules
+bound_number-requires-in-Redone : tie.Need-bound_number-requires-in-Redone
+bound_number-requires-in-Redone c κs = search rules
 
-bound-number-requires-6 : tie.Need-bound-number-requires-6
-bound-number-requires-6 c κs = search rules
+bound_number-requires-in-Redone-2 : tie.Need-bound_number-requires-in-Redone-2
+bound_number-requires-in-Redone-2 c κs = search rules
 
-enum-told-6 : tie.Need-enum-told-6
-enum-told-6 c = search rules
+enum_told-in-Ended : tie.Need-enum_told-in-Ended
+enum_told-in-Ended c = search rules
 
-returns : tie.Need-returns
+returns-in-Refused : tie.Need-returns-in-Refused
 unfolding reply_size
-returns c =
-    let a = ap (λ (n : ℕ). length (digits n)) c.before.refusal-number.ensures in
-    rw c.before.before.before.form.given.1 (omega (arith, a, digits-at_most _ c.bound-number.ensures))
+returns-in-Refused c =
+    let a = ap (λ (n : ℕ). length (digits n)) c.refusal_number.ensures in
+    rw c.in-Refused.is (omega (arith, a, digits-at_most _ c.bound_number.ensures))
 
-returns-2 : tie.Need-returns-2
+returns-in-Opened : tie.Need-returns-in-Opened
 unfolding reply_size
-returns-2 c = rw c.enum_told.given.1 (omega arith)
+returns-in-Opened c = rw c.in-Opened.is (omega arith)
 
-returns-3 : tie.Need-returns-3
+returns-in-Added : tie.Need-returns-in-Added
 unfolding reply_size
-returns-3 c = rw c.enum-told2.given.1 (omega arith)
+returns-in-Added c = rw c.in-Added.is (omega arith)
 
-returns-4 : tie.Need-returns-4
+returns-in-Finished : tie.Need-returns-in-Finished
 unfolding reply_size
-returns-4 c = rw c.before.before.form2.given.1 (omega (arith, digits-at_most _ c.bound-number2.ensures))
+returns-in-Finished c = rw c.in-Finished.is (omega (arith, digits-at_most _ c.bound_number-in-Finished.ensures))
 
-returns-5 : tie.Need-returns-5
+returns-in-Withdrawn : tie.Need-returns-in-Withdrawn
 unfolding reply_size
-returns-5 c = rw c.enum-told3.given.1 (omega arith)
+returns-in-Withdrawn c = rw c.in-Withdrawn.is (omega arith)
 
-returns-6 : tie.Need-returns-6
+returns-in-Persisted : tie.Need-returns-in-Persisted
 unfolding reply_size
-returns-6 c = rw c.enum-told4.given.1 (omega arith)
+returns-in-Persisted c = rw c.in-Persisted.is (omega arith)
 
-returns-7 : tie.Need-returns-7
+returns-in-Stabilised : tie.Need-returns-in-Stabilised
 unfolding reply_size
-returns-7 c = rw c.enum-told5.given.1 (omega arith)
+returns-in-Stabilised c = rw c.in-Stabilised.is (omega arith)
 
-returns-8 : tie.Need-returns-8
-returns-8 c = rw c.before.before.form3.given.1 c.bound-shown.ensures
+returns-in-Shows : tie.Need-returns-in-Shows
+returns-in-Shows c = rw c.in-Shows.is c.bound_shown.ensures
 
-returns-9 : tie.Need-returns-9
+returns-in-Restarted : tie.Need-returns-in-Restarted
 unfolding reply_size
-returns-9 c = rw c.before.before.before.form4.given.1 (omega (arith, digits-at_most _ c.before.bound-number3.ensures, digits-at_most _ c.bound-number4.ensures))
+returns-in-Restarted c = rw c.in-Restarted.is (omega (arith, digits-at_most _ c.bound_number-in-Restarted.ensures, digits-at_most _ c.bound_number-in-Restarted-2.ensures))
 
-returns-10 : tie.Need-returns-10
+returns-in-Redone : tie.Need-returns-in-Redone
 unfolding reply_size
-returns-10 c = rw c.before.before.before.form5.given.1 (omega (arith, digits-at_most _ c.before.bound-number5.ensures, digits-at_most _ c.bound-number6.ensures))
+returns-in-Redone c = rw c.in-Redone.is (omega (arith, digits-at_most _ c.bound_number-in-Redone.ensures, digits-at_most _ c.bound_number-in-Redone-2.ensures))
 
-returns-11 : tie.Need-returns-11
+returns-in-Ended : tie.Need-returns-in-Ended
 unfolding reply_size
-returns-11 c = rw c.enum-told6.given.1 (omega arith)
+returns-in-Ended c = rw c.in-Ended.is (omega arith)
 
-pub bound-form-spec : {M : Type 1} → statement M
-bound-form-spec =
+pub bound_form_spec : {M : Type 1} → statement M
+bound_form_spec =
     tie.close
     (tie.spec
-    enum-known-form
-    refusal-number-requires
-    bound-number-requires
-    enum_told
-    enum-told-2
-    enum-known-form-2
-    bound-number-requires-2
-    enum-told-3
-    enum-told-4
-    enum-told-5
-    enum-known-form-3
-    bound-shown-requires
-    enum-known-form-4
-    bound-number-requires-3
-    bound-number-requires-4
-    enum-known-form-5
-    bound-number-requires-5
-    bound-number-requires-6
-    enum-told-6
-    returns
-    returns-2
-    returns-3
-    returns-4
-    returns-5
-    returns-6
-    returns-7
-    returns-8
-    returns-9
-    returns-10
-    returns-11)
+    enum_known-form
+    refusal_number-requires
+    bound_number-requires
+    enum_told-1
+    enum_told-in-Added
+    enum_known-form-in-Finished-1
+    bound_number-requires-in-Finished
+    enum_told-in-Withdrawn
+    enum_told-in-Persisted
+    enum_told-in-Stabilised
+    enum_known-form-in-Shows-1
+    bound_shown-requires
+    enum_known-form-in-Restarted-1
+    bound_number-requires-in-Restarted
+    bound_number-requires-in-Restarted-2
+    enum_known-form-in-Redone-1
+    bound_number-requires-in-Redone
+    bound_number-requires-in-Redone-2
+    enum_told-in-Ended
+    returns-in-Refused
+    returns-in-Opened
+    returns-in-Added
+    returns-in-Finished
+    returns-in-Withdrawn
+    returns-in-Persisted
+    returns-in-Stabilised
+    returns-in-Shows
+    returns-in-Restarted
+    returns-in-Redone
+    returns-in-Ended)

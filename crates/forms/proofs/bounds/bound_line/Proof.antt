@@ -8,74 +8,73 @@ use borrow.Author.Rules.{rules}
 use Rattle.forms.proofs.bounds.bound_line.Statement.{statement}
 use Rattle.forms.proofs.bounds.bound_line.Tie as tie
 
-enum-known-line : tie.Need-enum-known-line
-enum-known-line c = search rules
+enum_known-line : tie.Need-enum_known-line
+enum_known-line c = search rules
 
-bound-number-requires : tie.Need-bound-number-requires
-bound-number-requires c κs = search rules
+bound_number-requires : tie.Need-bound_number-requires
+bound_number-requires c κs = search rules
 
-enum-known-line-2 : tie.Need-enum-known-line-2
-enum-known-line-2 c = search rules
+enum_known-line-in-Did-1 : tie.Need-enum_known-line-in-Did-1
+enum_known-line-in-Did-1 c = search rules
 
-bound-number-requires-2 : tie.Need-bound-number-requires-2
-bound-number-requires-2 c κs = search rules
+bound_number-requires-in-Did : tie.Need-bound_number-requires-in-Did
+bound_number-requires-in-Did c κs = search rules
 
-bound-changes-requires : tie.Need-bound-changes-requires
-bound-changes-requires c κs = search rules
+bound_changes-requires : tie.Need-bound_changes-requires
+bound_changes-requires c κs = search rules
 
-enum-known-line-3 : tie.Need-enum-known-line-3
-enum-known-line-3 c = search rules
+enum_known-line-in-Stable-1 : tie.Need-enum_known-line-in-Stable-1
+enum_known-line-in-Stable-1 c = search rules
 
-bound-number-requires-3 : tie.Need-bound-number-requires-3
-bound-number-requires-3 c κs = search rules
+bound_number-requires-in-Stable : tie.Need-bound_number-requires-in-Stable
+bound_number-requires-in-Stable c κs = search rules
 
-enum-known-line-4 : tie.Need-enum-known-line-4
-enum-known-line-4 c = search rules
+enum_known-line-in-Reply-1 : tie.Need-enum_known-line-in-Reply-1
+enum_known-line-in-Reply-1 c = search rules
 
-bound-fields-requires : tie.Need-bound-fields-requires
-bound-fields-requires c κs = search rules
+bound_fields-requires : tie.Need-bound_fields-requires
+bound_fields-requires c κs = search rules
 
-bound-fields-requires-2 : tie.Need-bound-fields-requires-2
-bound-fields-requires-2 c κs = search rules
+bound_fields-requires-in-Reply : tie.Need-bound_fields-requires-in-Reply
+bound_fields-requires-in-Reply c κs = search rules
 
-bound-form-requires : tie.Need-bound-form-requires
-bound-form-requires c κs = search rules
+bound_form-requires : tie.Need-bound_form-requires
+bound_form-requires c κs = search rules
 
-returns : tie.Need-returns
-returns c = rw c.before.before.line.given.1 (omega (arith, site_size c.before.before.line.given.0.0 refl, digits-at_most _ c.bound-number.ensures))
+returns-in-Site : tie.Need-returns-in-Site
+returns-in-Site c = rw c.in-Site.is (omega (arith, site_size c.in-Site.n refl, digits-at_most _ c.bound_number.ensures))
 
-returns-2 : tie.Need-returns-2
-returns-2 c =
-    let p = c.before.before.before.before.before.before.before in
-    let id = c.before.before.before.line2.given.0.0 in
-    rw c.before.before.before.line2.given.1 (did_most (record { id = id; held = p.args.held }) p.requires.held (digits-at_most _ c.before.bound-number2.ensures) c.bound-changes.ensures)
+returns-in-Did : tie.Need-returns-in-Did
+returns-in-Did c =
+    let id = c.in-Did.id in
+    rw c.in-Did.is (did_most (record { id = id; held = c.args.held }) c.requires.held (digits-at_most _ c.bound_number-in-Did.ensures) c.bound_changes.ensures)
 
-returns-3 : tie.Need-returns-3
-returns-3 c = rw c.before.before.line3.given.1 (omega (arith, stable_size c.before.before.line3.given.0.0 refl, digits-at_most _ c.bound-number3.ensures))
+returns-in-Stable : tie.Need-returns-in-Stable
+returns-in-Stable c = rw c.in-Stable.is (omega (arith, stable_size c.in-Stable.n refl, digits-at_most _ c.bound_number-in-Stable.ensures))
 
-returns-4 : tie.Need-returns-4
-returns-4 c =
-    let a = c.before.before.before.before.before.before.before.before.args in
-    let form = c.before.before.before.before.line4.given.0.0 in
-    rw c.before.before.before.before.line4.given.1
-    (reply_most form a.xs.now a.ys.now c.before.before.bound-fields.ensures c.before.bound-fields2.ensures c.bound-form.ensures)
+returns-in-Reply : tie.Need-returns-in-Reply
+returns-in-Reply c =
+    let a = c.args in
+    let form = c.in-Reply.form in
+    rw c.in-Reply.is
+    (reply_most form a.xs.now a.ys.now c.bound_fields.ensures c.bound_fields-in-Reply.ensures c.bound_form.ensures)
 
-pub bound-line-spec : {M : Type 1} → statement M
-bound-line-spec =
+pub bound_line_spec : {M : Type 1} → statement M
+bound_line_spec =
     tie.close
     (tie.spec
-    enum-known-line
-    bound-number-requires
-    enum-known-line-2
-    bound-number-requires-2
-    bound-changes-requires
-    enum-known-line-3
-    bound-number-requires-3
-    enum-known-line-4
-    bound-fields-requires
-    bound-fields-requires-2
-    bound-form-requires
-    returns
-    returns-2
-    returns-3
-    returns-4)
+    enum_known-line
+    bound_number-requires
+    enum_known-line-in-Did-1
+    bound_number-requires-in-Did
+    bound_changes-requires
+    enum_known-line-in-Stable-1
+    bound_number-requires-in-Stable
+    enum_known-line-in-Reply-1
+    bound_fields-requires
+    bound_fields-requires-in-Reply
+    bound_form-requires
+    returns-in-Site
+    returns-in-Did
+    returns-in-Stable
+    returns-in-Reply)

@@ -6,5 +6,8 @@ use Rattle.forms.proofs.bounds.bound_number.Tie as tie
 returns : tie.Need-returns
 returns c = omega arith
 
-pub bound-number-spec : {M : Type 1} → statement M
-bound-number-spec = tie.close (tie.spec returns)
+pub bound_number_spec : {M : Type 1} → statement M
+bound_number_spec =
+    tie.close
+    (tie.spec
+    returns)

@@ -6,45 +6,45 @@ use borrow.Author.Rules.{rules}
 use Rattle.forms.proofs.bounds.bound_shown.Statement.{statement}
 use Rattle.forms.proofs.bounds.bound_shown.Tie as tie
 
-bound-number-requires : tie.Need-bound-number-requires
-bound-number-requires c κs = search rules
+bound_number-requires : tie.Need-bound_number-requires
+bound_number-requires c κs = search rules
 
-bound-number-requires-2 : tie.Need-bound-number-requires-2
-bound-number-requires-2 c κs = search rules
+bound_number-requires-2 : tie.Need-bound_number-requires-2
+bound_number-requires-2 c κs = search rules
 
-bound-number-requires-3 : tie.Need-bound-number-requires-3
-bound-number-requires-3 c κs = search rules
+bound_number-requires-3 : tie.Need-bound_number-requires-3
+bound_number-requires-3 c κs = search rules
 
-bound-number-requires-4 : tie.Need-bound-number-requires-4
-bound-number-requires-4 c κs = search rules
+bound_number-requires-4 : tie.Need-bound_number-requires-4
+bound_number-requires-4 c κs = search rules
 
-bound-number-requires-5 : tie.Need-bound-number-requires-5
-bound-number-requires-5 c κs = search rules
+bound_number-requires-5 : tie.Need-bound_number-requires-5
+bound_number-requires-5 c κs = search rules
 
-bound-number-requires-6 : tie.Need-bound-number-requires-6
-bound-number-requires-6 c κs = search rules
+bound_number-requires-6 : tie.Need-bound_number-requires-6
+bound_number-requires-6 c κs = search rules
 
 returns : tie.Need-returns
 unfolding reply_size
 returns c =
     omega (
       arith,
-      digits-at_most _ c.before.before.before.before.before.bound-number.ensures,
-      digits-at_most _ c.before.before.before.before.bound-number2.ensures,
-      digits-at_most _ c.before.before.before.bound-number3.ensures,
-      digits-at_most _ c.before.before.bound-number4.ensures,
-      digits-at_most _ c.before.bound-number5.ensures,
-      digits-at_most _ c.bound-number6.ensures,
+      digits-at_most _ c.bound_number.ensures,
+      digits-at_most _ c.bound_number-2.ensures,
+      digits-at_most _ c.bound_number-3.ensures,
+      digits-at_most _ c.bound_number-4.ensures,
+      digits-at_most _ c.bound_number-5.ensures,
+      digits-at_most _ c.bound_number-6.ensures,
     )
 
-pub bound-shown-spec : {M : Type 1} → statement M
-bound-shown-spec =
+pub bound_shown_spec : {M : Type 1} → statement M
+bound_shown_spec =
     tie.close
     (tie.spec
-    bound-number-requires
-    bound-number-requires-2
-    bound-number-requires-3
-    bound-number-requires-4
-    bound-number-requires-5
-    bound-number-requires-6
+    bound_number-requires
+    bound_number-requires-2
+    bound_number-requires-3
+    bound_number-requires-4
+    bound_number-requires-5
+    bound_number-requires-6
     returns)

@@ -6,48 +6,48 @@ use Rattle.forms.specs.WriteLaws.{wrote_one}
 use Rattle.forms.proofs.text.write_small.Statement.{statement}
 use Rattle.forms.proofs.text.write_small.Tie as tie
 
-cast-buf : tie.Need-overflow-cast-buf
-cast-buf c = search rules
+overflow_cast-buf : tie.Need-overflow_cast-buf
+overflow_cast-buf c = search rules
 
-add-buf : tie.Need-overflow-add-buf
-add-buf c = search rules
+overflow_add-buf : tie.Need-overflow_add-buf
+overflow_add-buf c = search rules
 
-slice-write-buf : tie.Need-slice-write-buf
-slice-write-buf c = omega (arith, length_small c.before.before.args.x c.if1.true)
+bounds-buf-at : tie.Need-bounds-buf-at
+bounds-buf-at c = omega (arith, length_small c.args.x c.if-x-lt10.true)
 
-add-result : tie.Need-overflow-add-result
-add-result c = search rules
+overflow_add-result : tie.Need-overflow_add-result
+overflow_add-result c = search rules
 
-same_length : tie.Need-same-length
-same_length c = search rules
+shape_of-buf-then-x-lt10 : tie.Need-shape_of-buf-then-x-lt10
+shape_of-buf-then-x-lt10 c = search rules
 
-returns : tie.Need-returns
-returns c =
-    let a = c.before.before.args in
-    let n = length_small a.x c.if1.true in
-    rw (digits_small a.x c.if1.true) (wrote_one a.buf.now a.at _ (omega arith))
+returns-then-x-lt10 : tie.Need-returns-then-x-lt10
+returns-then-x-lt10 c =
+    let a = c.args in
+    let n = length_small a.x c.if-x-lt10.true in
+    rw (digits_small a.x c.if-x-lt10.true) (wrote_one a.buf.now a.at _ (omega arith))
 
-write-two-digits-requires : tie.Need-write-two-digits-requires
-write-two-digits-requires c κs =
-    let n = length_two c.before.before.before.args.x c.before.if1.false (omega arith) in
+write_two_digits-requires : tie.Need-write_two_digits-requires
+write_two_digits-requires c κs =
+    let n = length_two c.args.x c.if-x-lt10.false (omega arith) in
     (omega arith, omega arith)
 
-same-length-2 : tie.Need-same-length-2
-same-length-2 c = search rules
+shape_of-buf : tie.Need-shape_of-buf
+shape_of-buf c = search rules
 
-returns-2 : tie.Need-returns-2
-returns-2 c = rw (digits-two c.before.before.before.before.before.before.args.x c.before.before.before.before.if1.false (omega arith)) c.before.before.write-two-digits.ensures
+returns : tie.Need-returns
+returns c = rw (digits-two c.args.x c.if-x-lt10.false (omega arith)) c.write_two_digits.ensures
 
-pub write-small-spec : {M : Type 1} → statement M
-write-small-spec =
+pub write_small_spec : {M : Type 1} → statement M
+write_small_spec =
     tie.close
     (tie.spec
-    cast-buf
-    add-buf
-    slice-write-buf
-    add-result
-    same_length
-    returns
-    write-two-digits-requires
-    same-length-2
-    returns-2)
+    overflow_cast-buf
+    overflow_add-buf
+    bounds-buf-at
+    overflow_add-result
+    shape_of-buf-then-x-lt10
+    returns-then-x-lt10
+    write_two_digits-requires
+    shape_of-buf
+    returns)

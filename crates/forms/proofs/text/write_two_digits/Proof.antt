@@ -6,47 +6,47 @@ use borrow.Author.Rules.{rules}
 use Rattle.forms.proofs.text.write_two_digits.Statement.{statement}
 use Rattle.forms.proofs.text.write_two_digits.Tie as tie
 
-cast-buf : tie.Need-overflow-cast-buf
-cast-buf c = search rules
+overflow_cast-buf : tie.Need-overflow_cast-buf
+overflow_cast-buf c = search rules
 
-add-buf : tie.Need-overflow-add-buf
-add-buf c = search rules
+overflow_add-buf : tie.Need-overflow_add-buf
+overflow_add-buf c = search rules
 
-slice-write-buf : tie.Need-slice-write-buf
-slice-write-buf c = search rules
+bounds-buf-at : tie.Need-bounds-buf-at
+bounds-buf-at c = search rules
 
-cast-buf-2 : tie.Need-overflow-cast-buf-2
-cast-buf-2 c = search rules
+overflow_cast-buf-2 : tie.Need-overflow_cast-buf-2
+overflow_cast-buf-2 c = search rules
 
-add-buf-2 : tie.Need-overflow-add-buf-2
-add-buf-2 c = search rules
+overflow_add-buf-2 : tie.Need-overflow_add-buf-2
+overflow_add-buf-2 c = search rules
 
-add-buf-3 : tie.Need-overflow-add-buf-3
-add-buf-3 c = search rules
+overflow_add-buf-3 : tie.Need-overflow_add-buf-3
+overflow_add-buf-3 c = search rules
 
-slice-write-buf-2 : tie.Need-slice-write-buf-2
-slice-write-buf-2 c = rw length-set (omega arith)
+bounds-buf-at-2 : tie.Need-bounds-buf-at-2
+bounds-buf-at-2 c = rw length-set (omega arith)
 
-add-result : tie.Need-overflow-add-result
-add-result c = search rules
+overflow_add-result : tie.Need-overflow_add-result
+overflow_add-result c = search rules
 
-same_length : tie.Need-same-length
-same_length c = search rules
+shape_of-buf : tie.Need-shape_of-buf
+shape_of-buf c = search rules
 
 returns : tie.Need-returns
 returns c = wrote_two c.args.buf.now c.args.at _ _ c.requires.1
 
-pub write-two-digits-spec : {M : Type 1} → statement M
-write-two-digits-spec =
+pub write_two_digits_spec : {M : Type 1} → statement M
+write_two_digits_spec =
     tie.close
     (tie.spec
-    cast-buf
-    add-buf
-    slice-write-buf
-    cast-buf-2
-    add-buf-2
-    add-buf-3
-    slice-write-buf-2
-    add-result
-    same_length
+    overflow_cast-buf
+    overflow_add-buf
+    bounds-buf-at
+    overflow_cast-buf-2
+    overflow_add-buf-2
+    overflow_add-buf-3
+    bounds-buf-at-2
+    overflow_add-result
+    shape_of-buf
     returns)

@@ -5,17 +5,23 @@ use borrow.Author.Rules.{rules}
 use Rattle.forms.proofs.tokens.letter_at.Statement.{statement}
 use Rattle.forms.proofs.tokens.letter_at.Tie as tie
 
-shared-slice-read-b : tie.Need-shared-slice-read-b
-shared-slice-read-b c = search rules
+bounds-s-at : tie.Need-bounds-s-at
+bounds-s-at c = search rules
 
-is-letter-requires : tie.Need-is-letter-requires
-is-letter-requires c κs = search rules
+is_letter-requires : tie.Need-is_letter-requires
+is_letter-requires c κs = search rules
+
+returns-then-at-s : tie.Need-returns-then-at-s
+returns-then-at-s c = c.is_letter.ensures ∙ sym (letter_here _ c.args.at c.if-at-s.true)
 
 returns : tie.Need-returns
-returns c = c.is-letter.ensures ∙ sym (letter_here _ c.before.before.before.before.args.at c.before.before.if1.true)
+returns c = sym (letter_past _ c.args.at c.if-at-s.false)
 
-returns-2 : tie.Need-returns-2
-returns-2 c = sym (letter_past _ c.before.before.args.at c.if1.false)
-
-pub letter-at-spec : {M : Type 1} → statement M
-letter-at-spec = tie.close (tie.spec shared-slice-read-b is-letter-requires returns returns-2)
+pub letter_at_spec : {M : Type 1} → statement M
+letter_at_spec =
+    tie.close
+    (tie.spec
+    bounds-s-at
+    is_letter-requires
+    returns-then-at-s
+    returns)

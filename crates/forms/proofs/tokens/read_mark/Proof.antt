@@ -7,27 +7,32 @@ use borrow.Author.Rules.{rules}
 use Rattle.forms.proofs.tokens.read_mark.Statement.{statement}
 use Rattle.forms.proofs.tokens.read_mark.Tie as tie
 
+returns-then-at-s : tie.Need-returns-then-at-s
+returns-then-at-s c = let a = c.args in is_none refl (mark-end a.m a.s.now a.at (omega arith))
+
+bounds-s-at : tie.Need-bounds-s-at
+bounds-s-at c = search rules
+
+overflow_add-next : tie.Need-overflow_add-next
+overflow_add-next c = search rules
+
+returns-then-b-m : tie.Need-returns-then-b-m
+returns-then-b-m c =
+    let a = c.args in
+    is_at (omega (arith, c.requires.0, c.if-at-s.false))
+    (mark-here a.m a.s.now a.at (omega (arith, c.requires.0, c.if-at-s.false)) c.if-b-m.true)
+
 returns : tie.Need-returns
-returns c = let a = c.before.args in is_none refl (mark-end a.m a.s.now a.at (omega arith))
+returns c =
+    let a = c.args in
+    is_none refl (mark-other a.m a.s.now a.at (omega (arith, c.requires.0, c.if-at-s.false)) c.if-b-m.false)
 
-shared-slice-read-b : tie.Need-shared-slice-read-b
-shared-slice-read-b c = search rules
-
-add-next : tie.Need-overflow-add-next
-add-next c = search rules
-
-returns-2 : tie.Need-returns-2
-returns-2 c =
-    let p = c.before.before.before in
-    let a = p.args in
-    is_at (omega (arith, p.requires.0, c.before.before.if1.false))
-    (mark-here a.m a.s.now a.at (omega (arith, p.requires.0, c.before.before.if1.false)) c.if2.true)
-
-returns-3 : tie.Need-returns-3
-returns-3 c =
-    let p = c.before.before.before in
-    let a = p.args in
-    is_none refl (mark-other a.m a.s.now a.at (omega (arith, p.requires.0, c.before.before.if1.false)) c.if2.false)
-
-pub read-mark-spec : {M : Type 1} → statement M
-read-mark-spec = tie.close (tie.spec returns shared-slice-read-b add-next returns-2 returns-3)
+pub read_mark_spec : {M : Type 1} → statement M
+read_mark_spec =
+    tie.close
+    (tie.spec
+    returns-then-at-s
+    bounds-s-at
+    overflow_add-next
+    returns-then-b-m
+    returns)

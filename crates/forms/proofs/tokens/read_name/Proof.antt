@@ -10,88 +10,87 @@ use borrow.Author.Rules.{rules}
 use Rattle.forms.proofs.tokens.read_name.Statement.{statement}
 use Rattle.forms.proofs.tokens.read_name.Tie as tie
 
-abbrev invariant-loop : tie.invariant-loop
-invariant-loop s at w i₀ next₀ i next = (i ≤ length w) × (next ≤ length s) × (name w (drop at s) ≡ name (drop i w) (drop next s))
+abbrev invariant-loop-i : tie.invariant-loop-i
+invariant-loop-i s at w i₀ next₀ i next = (i ≤ length w) × (next ≤ length s) × (name w (drop at s) ≡ name (drop i w) (drop next s))
 
-abbrev decreases-loop : tie.decreases-loop
-decreases-loop s at w i₀ next₀ i next = length w - i
+abbrev decreases-loop-i : tie.decreases-loop-i
+decreases-loop-i s at w i₀ next₀ i next = length w - i
 
-loop-holds : tie.Need-loop-init invariant-loop decreases-loop
-loop-holds c = (omega arith, c.before.before.requires.0, refl)
+loop-i-init : tie.Need-loop-i-init invariant-loop-i decreases-loop-i
+loop-i-init c = (omega arith, c.requires.0, refl)
 
-returns : tie.Need-returns invariant-loop decreases-loop
-returns c =
-    let a = c.before.before.before.before.before.args in
-    let l = c.before.before.loop in
+returns-then-next-s : tie.Need-returns-then-next-s invariant-loop-i decreases-loop-i
+returns-then-next-s c =
+    let a = c.args in
+    let l = c.loop-i in
     is_none refl
-    (l.invariant.2 ∙ name-end a.w.now a.s.now l.i l.next c.before.loop-test.true (letter_past a.s.now l.next (omega arith)))
+    (l.invariant.2 ∙ name-end a.w.now a.s.now l.i l.next c.loop-i-test.true (letter_past a.s.now l.next (omega arith)))
 
-shared-slice-read-if2 : tie.Need-shared-slice-read-if2 invariant-loop decreases-loop
-shared-slice-read-if2 c = omega arith
+bounds-s-next : tie.Need-bounds-s-next invariant-loop-i decreases-loop-i
+bounds-s-next c = omega arith
 
-shared-slice-read-if2-2 : tie.Need-shared-slice-read-if2-2 invariant-loop decreases-loop
-shared-slice-read-if2-2 c = omega arith
+bounds-w-i : tie.Need-bounds-w-i invariant-loop-i decreases-loop-i
+bounds-w-i c = omega arith
 
-returns-2 : tie.Need-returns-2 invariant-loop decreases-loop
-returns-2 c =
-    let a = c.before.before.before.before.before.before.before.before.args in
-    let l = c.before.before.before.before.before.loop in
+returns-then-s-next : tie.Need-returns-then-s-next invariant-loop-i decreases-loop-i
+returns-then-s-next c =
+    let a = c.args in
+    let l = c.loop-i in
     is_none refl
-    (l.invariant.2 ∙ name-other a.w.now a.s.now l.i l.next c.before.before.before.before.loop-test.true
-    (omega (arith, l.invariant.1, c.before.before.before.if1.false)) c.if2.true)
+    (l.invariant.2 ∙ name-other a.w.now a.s.now l.i l.next c.loop-i-test.true
+    (omega (arith, l.invariant.1, c.if-next-s.false)) c.if-s-next.true)
 
-add-i : tie.Need-overflow-add-i invariant-loop decreases-loop
-add-i c = omega arith
+overflow_add-i : tie.Need-overflow_add-i invariant-loop-i decreases-loop-i
+overflow_add-i c = omega arith
 
-add-next : tie.Need-overflow-add-next invariant-loop decreases-loop
-add-next c = omega arith
+overflow_add-next : tie.Need-overflow_add-next invariant-loop-i decreases-loop-i
+overflow_add-next c = omega arith
 
-loop-less : tie.Need-loop-smaller invariant-loop decreases-loop
-loop-less c = omega arith
+loop-i-smaller : tie.Need-loop-i-smaller invariant-loop-i decreases-loop-i
+loop-i-smaller c = omega arith
 
-loop-again : tie.Need-loop-preserved invariant-loop decreases-loop
-loop-again c =
-    let s = c.before.before.before.before.before.before.before.before in
-    let l = c.before.before.before.before.before.loop in
-    let more = c.before.before.before.before.loop-test.true in (
+loop-i-preserved : tie.Need-loop-i-preserved invariant-loop-i decreases-loop-i
+loop-i-preserved c =
+    let l = c.loop-i in
+    let more = c.loop-i-test.true in (
       omega arith,
-      omega (arith, l.invariant.1, c.before.before.before.if1.false),
-      l.invariant.2 ∙ name-next s.args.w.now s.args.s.now l.i l.next more
-          (omega (arith, l.invariant.1, c.before.before.before.if1.false)) s.requires.1 c.if2.false,
+      omega (arith, l.invariant.1, c.if-next-s.false),
+      l.invariant.2 ∙ name-next c.args.w.now c.args.s.now l.i l.next more
+          (omega (arith, l.invariant.1, c.if-next-s.false)) c.requires.1 c.if-s-next.false,
     )
 
-letter-at-requires : tie.Need-letter-at-requires invariant-loop decreases-loop
-letter-at-requires c κs = search rules
+letter_at-requires : tie.Need-letter_at-requires invariant-loop-i decreases-loop-i
+letter_at-requires c κs = search rules
 
-returns-3 : tie.Need-returns-3 invariant-loop decreases-loop
-returns-3 c =
-    let a = c.before.before.before.before.before.before.args in
-    let l = c.before.before.before.loop in
+returns-then-letter_at : tie.Need-returns-then-letter_at invariant-loop-i decreases-loop-i
+returns-then-letter_at c =
+    let a = c.args in
+    let l = c.loop-i in
     is_none refl
-    (l.invariant.2 ∙ name_longer a.w.now a.s.now l.i l.next c.before.before.loop-test.false (sym c.before.letter_at.ensures ∙ c.if3.true))
+    (l.invariant.2 ∙ name_longer a.w.now a.s.now l.i l.next c.loop-i-test.false (sym c.letter_at.ensures ∙ c.if-letter_at.true))
 
-returns-4 : tie.Need-returns-4 invariant-loop decreases-loop
-returns-4 c =
-    let a = c.before.before.before.before.before.before.args in
-    let l = c.before.before.before.loop in
+returns : tie.Need-returns invariant-loop-i decreases-loop-i
+returns c =
+    let a = c.args in
+    let l = c.loop-i in
     is_at l.invariant.1
-    (l.invariant.2 ∙ name-whole a.w.now a.s.now l.i l.next c.before.before.loop-test.false (sym c.before.letter_at.ensures ∙ c.if3.false))
+    (l.invariant.2 ∙ name-whole a.w.now a.s.now l.i l.next c.loop-i-test.false (sym c.letter_at.ensures ∙ c.if-letter_at.false))
 
-pub read-name-spec : {M : Type 1} → statement M
-read-name-spec =
+pub read_name_spec : {M : Type 1} → statement M
+read_name_spec =
     tie.close
     (tie.spec
-    invariant-loop
-    decreases-loop
-    loop-holds
-    returns
-    shared-slice-read-if2
-    shared-slice-read-if2-2
-    returns-2
-    add-i
-    add-next
-    loop-less
-    loop-again
-    letter-at-requires
-    returns-3
-    returns-4)
+    invariant-loop-i
+    decreases-loop-i
+    loop-i-init
+    returns-then-next-s
+    bounds-s-next
+    bounds-w-i
+    returns-then-s-next
+    overflow_add-i
+    overflow_add-next
+    loop-i-smaller
+    loop-i-preserved
+    letter_at-requires
+    returns-then-letter_at
+    returns)
