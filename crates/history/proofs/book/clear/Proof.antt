@@ -7,58 +7,56 @@ use Rattle.history.specs.WordLaws.{FirstStored, first_none, first_next, first-al
 use Rattle.history.proofs.book.clear.Statement.{statement}
 use Rattle.history.proofs.book.clear.Tie as tie
 
-abbrev invariant-loop : tie.invariant-loop
-invariant-loop words₀ n most i₀ words i = (most ≡ width * n) × FirstStored n (λ (k : ℕ). 0) i words₀ words
+abbrev invariant-loop-i : tie.invariant-loop-i
+invariant-loop-i words₀ n most i₀ words i = (most ≡ width * n) × FirstStored n (λ (k : ℕ). 0) i words₀ words
 
-abbrev decreases-loop : tie.decreases-loop
-decreases-loop words₀ n most i₀ words i = most - i
+abbrev decreases-loop-i : tie.decreases-loop-i
+decreases-loop-i words₀ n most i₀ words i = most - i
 
-known-length-requires : tie.Need-known-length-requires invariant-loop decreases-loop
-known-length-requires c κs = tt
+known_length-requires : tie.Need-known_length-requires invariant-loop-i decreases-loop-i
+known_length-requires c κs = tt
 
-mul_most : tie.Need-overflow-mul-most invariant-loop decreases-loop
-mul_most c = omega (arith, c.before.before.before.requires)
+overflow_mul-most : tie.Need-overflow_mul-most invariant-loop-i decreases-loop-i
+overflow_mul-most c = omega (arith, c.requires)
 
-loop-holds : tie.Need-loop-init invariant-loop decreases-loop
-loop-holds c = (refl, first_none c.before.before.before.args.n (λ (k : ℕ). 0) c.before.before.before.args.words.now c.before.known-length-arg2.given.0)
+loop-i-init : tie.Need-loop-i-init invariant-loop-i decreases-loop-i
+loop-i-init c = (refl, first_none c.args.n (λ (k : ℕ). 0) c.args.words.now c.known_length-arg-2-1.given)
 
-mul_words : tie.Need-overflow-mul-words invariant-loop decreases-loop
-mul_words c = omega (arith, c.loop-test.true, c.before.loop.invariant.0, c.before.before.before.before.before.requires)
+offset_bounds-words-i : tie.Need-offset_bounds-words-i invariant-loop-i decreases-loop-i
+offset_bounds-words-i c = omega (arith, c.loop-i-test.true, c.loop-i.invariant.0, c.requires)
 
-element-write-words : tie.Need-element-write-words invariant-loop decreases-loop
-element-write-words c = omega (arith, c.loop-test.true, c.before.loop.invariant.0, c.before.before.before.before.before.requires)
+bounds-words-i : tie.Need-bounds-words-i invariant-loop-i decreases-loop-i
+bounds-words-i c = omega (arith, c.loop-i-test.true, c.loop-i.invariant.0, c.requires)
 
-add-i : tie.Need-overflow-add-i invariant-loop decreases-loop
-add-i c = omega (arith, c.loop-test.true, c.before.loop.invariant.0, c.before.before.before.before.before.requires)
+overflow_add-i : tie.Need-overflow_add-i invariant-loop-i decreases-loop-i
+overflow_add-i c = omega (arith, c.loop-i-test.true, c.loop-i.invariant.0, c.requires)
 
-loop-less : tie.Need-loop-smaller invariant-loop decreases-loop
-loop-less c = omega (arith, c.loop-test.true)
+loop-i-smaller : tie.Need-loop-i-smaller invariant-loop-i decreases-loop-i
+loop-i-smaller c = omega (arith, c.loop-i-test.true)
 
-loop-again : tie.Need-loop-preserved invariant-loop decreases-loop
-loop-again c =
-    let l = c.before.loop in
-    let e = c.before.before.before.before.before in
-    let below : l.i < width * e.args.n = omega (arith, c.loop-test.true, l.invariant.0) in
-    (l.invariant.0, first_next e.args.n (λ (k : ℕ). 0) l.i e.args.words.now l.words below e.requires l.invariant.1)
+loop-i-preserved : tie.Need-loop-i-preserved invariant-loop-i decreases-loop-i
+loop-i-preserved c =
+    let l = c.loop-i in
+    let below : l.i < width * c.args.n = omega (arith, c.loop-i-test.true, l.invariant.0) in
+    (l.invariant.0, first_next c.args.n (λ (k : ℕ). 0) l.i c.args.words.now l.words below c.requires l.invariant.1)
 
-returns : tie.Need-returns invariant-loop decreases-loop
+returns : tie.Need-returns invariant-loop-i decreases-loop-i
 returns c =
-    let l = c.before.loop in
-    let e = c.before.before.before.before.before in
-    first-all e.args.n (λ (k : ℕ). 0) l.i e.args.words.now l.words (omega (arith, c.loop-test.false, l.invariant.0)) l.invariant.1
+    let l = c.loop-i in
+    first-all c.args.n (λ (k : ℕ). 0) l.i c.args.words.now l.words (omega (arith, c.loop-i-test.false, l.invariant.0)) l.invariant.1
 
 pub clear_spec : {M : Type 1} → statement M
 clear_spec =
     tie.close
     (tie.spec
-    invariant-loop
-    decreases-loop
-    known-length-requires
-    mul_most
-    loop-holds
-    mul_words
-    element-write-words
-    add-i
-    loop-less
-    loop-again
+    invariant-loop-i
+    decreases-loop-i
+    known_length-requires
+    overflow_mul-most
+    loop-i-init
+    offset_bounds-words-i
+    bounds-words-i
+    overflow_add-i
+    loop-i-smaller
+    loop-i-preserved
     returns)

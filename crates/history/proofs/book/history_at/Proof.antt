@@ -5,49 +5,48 @@ use borrow.Author.Rules.{rules}
 use Rattle.history.proofs.book.history_at.Statement.{statement}
 use Rattle.history.proofs.book.history_at.Tie as tie
 
-mul_at : tie.Need-overflow-mul-at
-mul_at c = search rules
+overflow_mul-at : tie.Need-overflow_mul-at
+overflow_mul-at c = search rules
 
-mul-t4 : tie.Need-overflow-mul-t4
-mul-t4 c = search rules
+offset_bounds-words-at : tie.Need-offset_bounds-words-at
+offset_bounds-words-at c = search rules
 
-element-copy-out-t7 : tie.Need-element-copy-out-t7
-element-copy-out-t7 c = search rules
+bounds-words-at : tie.Need-bounds-words-at
+bounds-words-at c = search rules
 
-add-t8 : tie.Need-overflow-add-t8
-add-t8 c = search rules
+overflow_add-result : tie.Need-overflow_add-result
+overflow_add-result c = search rules
 
-mul-t9 : tie.Need-overflow-mul-t9
-mul-t9 c = search rules
+offset_bounds-words-at-2 : tie.Need-offset_bounds-words-at-2
+offset_bounds-words-at-2 c = search rules
 
-element-copy-out-t12 : tie.Need-element-copy-out-t12
-element-copy-out-t12 c = search rules
+bounds-words-at-2 : tie.Need-bounds-words-at-2
+bounds-words-at-2 c = search rules
 
-add-t14 : tie.Need-overflow-add-t14
-add-t14 c = search rules
+overflow_add-result-2 : tie.Need-overflow_add-result-2
+overflow_add-result-2 c = search rules
 
-mul-t15 : tie.Need-overflow-mul-t15
-mul-t15 c = search rules
+offset_bounds-words-at-3 : tie.Need-offset_bounds-words-at-3
+offset_bounds-words-at-3 c = search rules
 
-element-copy-out-t18 : tie.Need-element-copy-out-t18
-element-copy-out-t18 c = search rules
+bounds-words-at-3 : tie.Need-bounds-words-at-3
+bounds-words-at-3 c = search rules
 
 returns : tie.Need-returns
 returns c =
-    let e = c.before.before.before in
-    history_read e.args.words.now e.args.i ∙ sym (history_in_lem e.args.words.now e.args.i e.requires)
+    history_read c.args.words.now c.args.i ∙ sym (history_in_lem c.args.words.now c.args.i c.requires)
 
-pub history-at-spec : {M : Type 1} → statement M
-history-at-spec =
+pub history_at_spec : {M : Type 1} → statement M
+history_at_spec =
     tie.close
     (tie.spec
-    mul_at
-    mul-t4
-    element-copy-out-t7
-    add-t8
-    mul-t9
-    element-copy-out-t12
-    add-t14
-    mul-t15
-    element-copy-out-t18
+    overflow_mul-at
+    offset_bounds-words-at
+    bounds-words-at
+    overflow_add-result
+    offset_bounds-words-at-2
+    bounds-words-at-2
+    overflow_add-result-2
+    offset_bounds-words-at-3
+    bounds-words-at-3
     returns)

@@ -7,54 +7,53 @@ use borrow.Author.Rules.{rules}
 use Rattle.history.proofs.book.put_history.Statement.{statement}
 use Rattle.history.proofs.book.put_history.Tie as tie
 
-known-length-requires : tie.Need-known-length-requires
-known-length-requires c κs = search rules
+known_length-requires : tie.Need-known_length-requires
+known_length-requires c κs = search rules
 
-mul_at : tie.Need-overflow-mul-at
-mul_at c = search rules
+overflow_mul-at : tie.Need-overflow_mul-at
+overflow_mul-at c = search rules
 
-mul_words : tie.Need-overflow-mul-words
-mul_words c = search rules
+offset_bounds-words-at : tie.Need-offset_bounds-words-at
+offset_bounds-words-at c = search rules
 
-element-write-words : tie.Need-element-write-words
-element-write-words c = search rules
+bounds-words-at : tie.Need-bounds-words-at
+bounds-words-at c = search rules
 
-add_words : tie.Need-overflow-add-words
-add_words c = search rules
+overflow_add-words : tie.Need-overflow_add-words
+overflow_add-words c = search rules
 
-mul-words-2 : tie.Need-overflow-mul-words-2
-mul-words-2 c = search rules
+offset_bounds-words-at-2 : tie.Need-offset_bounds-words-at-2
+offset_bounds-words-at-2 c = search rules
 
-element-write-words-2 : tie.Need-element-write-words-2
-element-write-words-2 c = search rules
+bounds-words-at-2 : tie.Need-bounds-words-at-2
+bounds-words-at-2 c = search rules
 
-add-words-2 : tie.Need-overflow-add-words-2
-add-words-2 c = search rules
+overflow_add-words-2 : tie.Need-overflow_add-words-2
+overflow_add-words-2 c = search rules
 
-mul-words-3 : tie.Need-overflow-mul-words-3
-mul-words-3 c = search rules
+offset_bounds-words-at-3 : tie.Need-offset_bounds-words-at-3
+offset_bounds-words-at-3 c = search rules
 
-element-write-words-3 : tie.Need-element-write-words-3
-element-write-words-3 c = search rules
+bounds-words-at-3 : tie.Need-bounds-words-at-3
+bounds-words-at-3 c = search rules
 
 returns : tie.Need-returns
 returns c =
-    let e = c.before.before.before in
-    let long : length e.args.words.now ≡ book_length = search rules in
-    history-put e.args.words.now e.args.i e.args.h e.requires long
+    let long : length c.args.words.now ≡ book_length = search rules in
+    history-put c.args.words.now c.args.i c.args.h c.requires long
 
-pub put-history-spec : {M : Type 1} → statement M
-put-history-spec =
+pub put_history_spec : {M : Type 1} → statement M
+put_history_spec =
     tie.close
     (tie.spec
-    known-length-requires
-    mul_at
-    mul_words
-    element-write-words
-    add_words
-    mul-words-2
-    element-write-words-2
-    add-words-2
-    mul-words-3
-    element-write-words-3
+    known_length-requires
+    overflow_mul-at
+    offset_bounds-words-at
+    bounds-words-at
+    overflow_add-words
+    offset_bounds-words-at-2
+    bounds-words-at-2
+    overflow_add-words-2
+    offset_bounds-words-at-3
+    bounds-words-at-3
     returns)

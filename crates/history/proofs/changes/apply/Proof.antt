@@ -20,76 +20,75 @@ use Rattle.rules.specs.Book.{enter_all_with}
 abbrev Past : ℕ → List Item → List ℕ → List ℕ → Type 0
 Past n items old new = (m : ℕ) → ((j : ℕ) → j < n → (get_or items j no_item).history < m) → PastKept m old new
 
-abbrev invariant-loop : tie.invariant-loop
-invariant-loop book₀ n items i₀ book i = (i ≤ n) × Entered (histories_in book₀) (histories_in book) items i × MarksKept book₀ book × Past n items book₀ book
+abbrev invariant-loop-i : tie.invariant-loop-i
+invariant-loop-i book₀ n items i₀ book i = (i ≤ n) × Entered (histories_in book₀) (histories_in book) items i × MarksKept book₀ book × Past n items book₀ book
 
-abbrev decreases-loop : tie.decreases-loop
-decreases-loop book₀ n items i₀ book i = n - i
+abbrev decreases-loop-i : tie.decreases-loop-i
+decreases-loop-i book₀ n items i₀ book i = n - i
 
-loop-holds : tie.Need-loop-init invariant-loop decreases-loop
+loop-i-init : tie.Need-loop-i-init invariant-loop-i decreases-loop-i
 unfolding enter_all_with
-loop-holds c = (omega arith, (λ h lt. refl), marks_same _, (λ m w. refl))
+loop-i-init c = (omega arith, (λ h lt. refl), marks_same _, (λ m w. refl))
 
-mul-x : tie.Need-overflow-mul-x invariant-loop decreases-loop
-mul-x c = omega (arith, c.before.before.before.requires.0.few)
+offset_bounds-items-i : tie.Need-offset_bounds-items-i invariant-loop-i decreases-loop-i
+offset_bounds-items-i c = omega (arith, c.requires.0.few)
 
-array-copy-out-x : tie.Need-array-copy-out-x invariant-loop decreases-loop
-array-copy-out-x c = omega (arith, c.before.before.before.requires.0.few)
+bounds-items-i : tie.Need-bounds-items-i invariant-loop-i decreases-loop-i
+bounds-items-i c = omega (arith, c.requires.0.few)
 
-cast-at : tie.Need-overflow-cast-at invariant-loop decreases-loop
-cast-at c = record {
+overflow_cast-at : tie.Need-overflow_cast-at invariant-loop-i decreases-loop-i
+overflow_cast-at c = record {
   fits = omega
-      (arith, (c.before.before.before.before.before.requires.0.each c.before.before.before.loop.i c.before.before.loop-test.true).history);
+      (arith, (c.requires.0.each c.loop-i.i c.loop-i-test.true).history);
 }
 
-history-at-requires : tie.Need-history-at-requires invariant-loop decreases-loop
-history-at-requires c κs =
-    (c.before.before.before.before.before.before.requires.0.each c.before.before.before.before.loop.i c.before.before.before.loop-test.true).history
+history_at-h-requires : tie.Need-history_at-h-requires invariant-loop-i decreases-loop-i
+history_at-h-requires c κs =
+    (c.requires.0.each c.loop-i.i c.loop-i-test.true).history
 
-apply-item-requires : tie.Need-apply-item-requires invariant-loop decreases-loop
-apply-item-requires c κs =
-    let e = c.before.before.before.before.before.before.before.before in
-    let l = c.before.before.before.before.before.before.loop in
-    let x = e.requires.0.each l.i c.before.before.before.before.before.loop-test.true in
+apply_item-requires : tie.Need-apply_item-requires invariant-loop-i decreases-loop-i
+apply_item-requires c κs =
+    let l = c.loop-i in
+    let x = c.requires.0.each l.i c.loop-i-test.true in
     let low =
-    low_place (histories_in e.args.book.now) (histories_in l.book) e.args.e.items l.i l.invariant.1 _ x.history
-    (e.requires.1.each l.i c.before.before.before.before.before.loop-test.true) (omega (arith, e.requires.0.few)) in
-    (x, subst (λ (h : History). h.place.0 < 18446744073709551615) (sym c.before.history-at.ensures) low)
+    low_place (histories_in c.args.book.now) (histories_in l.book) c.args.e.items l.i l.invariant.1 _ x.history
+    (c.requires.1.each l.i c.loop-i-test.true) (omega (arith, c.requires.0.few)) in
+    (x, subst (λ (h : History). h.place.0 < 18446744073709551615) (sym c.history_at-h.ensures) low)
 
-put-history-requires : tie.Need-put-history-requires invariant-loop decreases-loop
-put-history-requires c κs =
-    (c.before.before.before.before.before.before.before.before.before.requires.0.each c.before.before.before.before.before.before.before.loop.i c.before.before.before.before.before.before.loop-test.true).history
+put_history-requires : tie.Need-put_history-requires invariant-loop-i decreases-loop-i
+put_history-requires c κs =
+    (c.requires.0.each c.loop-i.i c.loop-i-test.true).history
 
-add-i : tie.Need-overflow-add-i invariant-loop decreases-loop
-add-i c = omega (arith, c.before.before.before.before.before.before.before.before.before.before.requires.0.few)
+overflow_add-i : tie.Need-overflow_add-i invariant-loop-i decreases-loop-i
+overflow_add-i c = omega (arith, c.requires.0.few)
 
-loop-less : tie.Need-loop-smaller invariant-loop decreases-loop
-loop-less c = omega arith
+loop-i-smaller : tie.Need-loop-i-smaller invariant-loop-i decreases-loop-i
+loop-i-smaller c = omega arith
 
-loop-again : tie.Need-loop-preserved invariant-loop decreases-loop
-loop-again c =
-    let l = c.before.before.before.before.before.before.before.before.loop in
-    let a = c.before.before.before.before.before.before.before.before.before.before.args in
-    let v = c.before.before.before.before.before.before.before.before.before.before.requires.0 in
-    let p = c.put-history.ensures in
+loop-i-preserved : tie.Need-loop-i-preserved invariant-loop-i decreases-loop-i
+loop-i-preserved c =
+    let l = c.loop-i in
+    let a = c.args in
+    let v = c.requires.0 in
+    let p = c.put_history.ensures in
     let x = get_or a.e.items l.i no_item in
-    let y = c.before.apply-item.result in
+    let y = c.apply_item.result in
     let made =
-    c.before.apply-item.ensures
-    ∙ ap (λ (h : History). entered (logged_as x.rule) x.version.0 x.operand (cell_of h)) c.before.before.before.history-at.ensures in (
+    c.apply_item.ensures
+    ∙ ap (λ (h : History). entered (logged_as x.rule) x.version.0 x.operand (cell_of h)) c.history_at-h.ensures in (
       omega arith,
       subst (λ (hs : List History). Entered (histories_in a.book.now) hs a.e.items (l.i + 1)) (sym p.histories)
           (entered-next (histories_in a.book.now) (histories_in l.book) a.e.items l.i l.invariant.1 y (omega (arith, v.few, v.long))
-          (histories_long_lem l.book) (v.each l.i c.before.before.before.before.before.before.before.loop-test.true).history made),
+          (histories_long_lem l.book) (v.each l.i c.loop-i-test.true).history made),
       marks_then l.invariant.2 p.marks,
-      (λ m w. p.past m (w l.i c.before.before.before.before.before.before.before.loop-test.true) ∙ l.invariant.3 m w),
+      (λ m w. p.past m (w l.i c.loop-i-test.true) ∙ l.invariant.3 m w),
     )
 
-returns : tie.Need-returns invariant-loop decreases-loop
+returns : tie.Need-returns invariant-loop-i decreases-loop-i
 unfolding did_of_entry
 returns c =
-    let l = c.before.loop in
-    let a = c.before.before.before.args in
+    let l = c.loop-i in
+    let a = c.args in
     let q : l.i ≡ a.e.count = omega arith in
     record {
       applies =
@@ -101,20 +100,20 @@ returns c =
       past = l.invariant.3;
     }
 
-pub apply-spec : {M : Type 1} → statement M
-apply-spec =
+pub apply_spec : {M : Type 1} → statement M
+apply_spec =
     tie.close
     (tie.spec
-    invariant-loop
-    decreases-loop
-    loop-holds
-    mul-x
-    array-copy-out-x
-    cast-at
-    history-at-requires
-    apply-item-requires
-    put-history-requires
-    add-i
-    loop-less
-    loop-again
+    invariant-loop-i
+    decreases-loop-i
+    loop-i-init
+    offset_bounds-items-i
+    bounds-items-i
+    overflow_cast-at
+    history_at-h-requires
+    apply_item-requires
+    put_history-requires
+    overflow_add-i
+    loop-i-smaller
+    loop-i-preserved
     returns)

@@ -7,31 +7,37 @@ use borrow.Author.Rules.{rules}
 use Rattle.history.proofs.changes.apply_item.Statement.{statement}
 use Rattle.history.proofs.changes.apply_item.Tie as tie
 
-profile-after-requires : tie.Need-profile-after-requires
-profile-after-requires c κs = search rules
+profile_after-profile-requires : tie.Need-profile_after-profile-requires
+profile_after-profile-requires c κs = search rules
 
-is-strong-requires : tie.Need-is-strong-requires
-is-strong-requires c κs = search rules
+is_strong-requires : tie.Need-is_strong-requires
+is_strong-requires c κs = search rules
 
-add-t11 : tie.Need-overflow-add-t11
-add-t11 c = search rules
+overflow_add-done : tie.Need-overflow_add-done
+overflow_add-done c = search rules
 
-add-t12 : tie.Need-overflow-add-t12
-add-t12 c = search rules
+overflow_add-read : tie.Need-overflow_add-read
+overflow_add-read c = search rules
 
-returns : tie.Need-returns
-returns c =
-    let a = c.before.before.before.before.before.before.args in
-    entered-cell a.x.rule a.x.version.0 a.x.operand (cell_of a.h) _ _ c.before.before.before.before.before.profile-after.ensures
-    (ap (λ (b : Bool). cond b a.x.version.0 a.h.version.0) (sym (sym c.before.before.is-strong.ensures ∙ c.before.if1.true)))
+returns-then-is_strong : tie.Need-returns-then-is_strong
+returns-then-is_strong c =
+    let a = c.args in
+    entered-cell a.x.rule a.x.version.0 a.x.operand (cell_of a.h) _ _ c.profile_after-profile.ensures
+    (ap (λ (b : Bool). cond b a.x.version.0 a.h.version.0) (sym (sym c.is_strong.ensures ∙ c.if-is_strong.true)))
 
-returns-2 : tie.Need-returns-2
-returns-2 c =
-    let a = c.before.before.before.before.before.before.args in
-    entered-cell a.x.rule a.x.version.0 a.x.operand (cell_of a.h) _ _ c.before.before.before.before.before.profile-after.ensures
-    (ap (λ (b : Bool). cond b a.x.version.0 a.h.version.0) (sym (sym c.before.before.is-strong.ensures ∙ c.before.if1.false)))
+returns-else-is_strong : tie.Need-returns-else-is_strong
+returns-else-is_strong c =
+    let a = c.args in
+    entered-cell a.x.rule a.x.version.0 a.x.operand (cell_of a.h) _ _ c.profile_after-profile.ensures
+    (ap (λ (b : Bool). cond b a.x.version.0 a.h.version.0) (sym (sym c.is_strong.ensures ∙ c.if-is_strong.false)))
 
-pub apply-item-spec : {M : Type 1} → statement M
-apply-item-spec =
+pub apply_item_spec : {M : Type 1} → statement M
+apply_item_spec =
     tie.close
-    (tie.spec profile-after-requires is-strong-requires add-t11 add-t12 returns returns-2)
+    (tie.spec
+    profile_after-profile-requires
+    is_strong-requires
+    overflow_add-done
+    overflow_add-read
+    returns-then-is_strong
+    returns-else-is_strong)

@@ -10,22 +10,27 @@ use borrow.Author.Rules.{rules}
 use Rattle.history.proofs.changes.profile_at.Statement.{statement}
 use Rattle.history.proofs.changes.profile_at.Tie as tie
 
-item-at-requires : tie.Need-item-at-requires
-item-at-requires c κs = search rules
+item_at-x-requires : tie.Need-item_at-x-requires
+item_at-x-requires c κs = search rules
 
-cast-at : tie.Need-overflow-cast-at
-cast-at c = search rules
+overflow_cast-at : tie.Need-overflow_cast-at
+overflow_cast-at c = search rules
 
-history-at-requires : tie.Need-history-at-requires
-history-at-requires c κs = subst (λ (x : Item). x.history < 16) (sym c.before.item-at.ensures)
-    (usable_at c.before.before.args.e c.before.before.requires.0 c.before.before.args.i).history
+history_at-h-requires : tie.Need-history_at-h-requires
+history_at-h-requires c κs = subst (λ (x : Item). x.history < 16) (sym c.item_at-x.ensures)
+    (usable_at c.args.e c.requires.0 c.args.i).history
 
 returns : tie.Need-returns
 returns c =
-    let cells = cells_of (histories_in c.before.before.before.args.book.now) in
-    ap (λ (h : History). h.profile) c.history-at.ensures
-    ∙ ap (λ (x : Item). (cells x.history).profile) c.before.before.item-at.ensures
+    let cells = cells_of (histories_in c.args.book.now) in
+    ap (λ (h : History). h.profile) c.history_at-h.ensures
+    ∙ ap (λ (x : Item). (cells x.history).profile) c.item_at-x.ensures
 
-pub profile-at-spec : {M : Type 1} → statement M
-profile-at-spec =
-    tie.close (tie.spec item-at-requires cast-at history-at-requires returns)
+pub profile_at_spec : {M : Type 1} → statement M
+profile_at_spec =
+    tie.close
+    (tie.spec
+    item_at-x-requires
+    overflow_cast-at
+    history_at-h-requires
+    returns)

@@ -7,30 +7,30 @@ use borrow.Author.Rules.{rules}
 use Rattle.history.proofs.changes.stamp.Statement.{statement}
 use Rattle.history.proofs.changes.stamp.Tie as tie
 
-stamp-at-requires : tie.Need-stamp-at-requires
-stamp-at-requires c κs = search rules
+stamp_at-a-requires : tie.Need-stamp_at-a-requires
+stamp_at-a-requires c κs = search rules
 
-stamp-at-requires-2 : tie.Need-stamp-at-requires-2
-stamp-at-requires-2 c κs = search rules
+stamp_at-b-requires : tie.Need-stamp_at-b-requires
+stamp_at-b-requires c κs = search rules
 
-stamp-at-requires-3 : tie.Need-stamp-at-requires-3
-stamp-at-requires-3 c κs = search rules
+stamp_at-c-requires : tie.Need-stamp_at-c-requires
+stamp_at-c-requires c κs = search rules
 
-stamp-at-requires-4 : tie.Need-stamp-at-requires-4
-stamp-at-requires-4 c κs = search rules
+stamp_at-d-requires : tie.Need-stamp_at-d-requires
+stamp_at-d-requires c κs = search rules
 
 returns : tie.Need-returns
 returns c =
-    stamps (cells_of (histories_in c.before.before.before.before.args.book.now)) c.before.before.before.before.args.e
-    c.before.before.before.before.requires.0 _
-    (four_eq c.before.before.before.stamp-at.ensures c.before.before.stamp-at2.ensures c.before.stamp-at3.ensures c.stamp-at4.ensures)
+    stamps (cells_of (histories_in c.args.book.now)) c.args.e
+    c.requires.0 _
+    (four_eq c.stamp_at-a.ensures c.stamp_at-b.ensures c.stamp_at-c.ensures c.stamp_at-d.ensures)
 
-pub stamp-spec : {M : Type 1} → statement M
-stamp-spec =
+pub stamp_spec : {M : Type 1} → statement M
+stamp_spec =
     tie.close
     (tie.spec
-    stamp-at-requires
-    stamp-at-requires-2
-    stamp-at-requires-3
-    stamp-at-requires-4
+    stamp_at-a-requires
+    stamp_at-b-requires
+    stamp_at-c-requires
+    stamp_at-d-requires
     returns)

@@ -7,19 +7,19 @@ use borrow.Author.Rules.{rules}
 use Rattle.history.proofs.changes.stamp_item.Statement.{statement}
 use Rattle.history.proofs.changes.stamp_item.Tie as tie
 
-version-after-requires : tie.Need-version-after-requires
-version-after-requires c κs = search rules
+version_after-version-requires : tie.Need-version_after-version-requires
+version_after-version-requires c κs = search rules
 
-logged-as-requires : tie.Need-logged-as-requires
-logged-as-requires c κs = search rules
+logged_as-requires : tie.Need-logged_as-requires
+logged_as-requires c κs = search rules
 
-add-t8 : tie.Need-overflow-add-t8
-add-t8 c = search rules
+overflow_add-result : tie.Need-overflow_add-result
+overflow_add-result c = search rules
 
 returns : tie.Need-returns
 returns c =
-    let x = c.before.before.before.before.before.args.x in
-    let h = c.before.before.before.before.before.args.h in
+    let x = c.args.x in
+    let h = c.args.h in
     ap₂ {C = Item}
     (λ (r : Rule) (v : ℕ). record {
       rule = r;
@@ -28,7 +28,13 @@ returns c =
       place = record { 0 = h.place.0 + 1 };
       operand = x.operand;
     })
-    c.before.logged-as.ensures c.before.before.version-after.ensures
+    c.logged_as.ensures c.version_after-version.ensures
 
-pub stamp-item-spec : {M : Type 1} → statement M
-stamp-item-spec = tie.close (tie.spec version-after-requires logged-as-requires add-t8 returns)
+pub stamp_item_spec : {M : Type 1} → statement M
+stamp_item_spec =
+    tie.close
+    (tie.spec
+    version_after-version-requires
+    logged_as-requires
+    overflow_add-result
+    returns)

@@ -10,35 +10,41 @@ use borrow.Author.Rules.{rules}
 use Rattle.history.proofs.checks.asked_refusal.Statement.{statement}
 use Rattle.history.proofs.checks.asked_refusal.Tie as tie
 
+returns-then-count-lt1 : tie.Need-returns-then-count-lt1
+returns-then-count-lt1 c = λ us e. refused_none c.args.n c.args.held us e c.if-count-lt1.true
+
+returns-then-count-gt-UPDATES : tie.Need-returns-then-count-gt-UPDATES
+returns-then-count-gt-UPDATES c = λ us e. refused_many c.args.n c.args.held us e c.if-count-gt-UPDATES.true
+
+bounds-first-0 : tie.Need-bounds-first-0
+bounds-first-0 c = search rules
+
+one_refusal-requires : tie.Need-one_refusal-requires
+one_refusal-requires c κs = search rules
+
+returns-then-count-eq1 : tie.Need-returns-then-count-eq1
+returns-then-count-eq1 c = λ us e.
+    c.one_refusal.ensures
+    ∙ ap (λ (l : List Update). verdict_of (updates_refusal c.args.n l))
+    (only_update c.args.held us e c.requires c.if-count-eq1.true)
+
+several_refusal-requires : tie.Need-several_refusal-requires
+several_refusal-requires c κs = search rules
+
 returns : tie.Need-returns
-returns c = λ us e. refused_none c.before.args.n c.before.args.held us e c.if1.true
-
-returns-2 : tie.Need-returns-2
-returns-2 c = λ us e. refused_many c.before.before.args.n c.before.before.args.held us e c.if2.true
-
-array-copy-out-a : tie.Need-array-copy-out-a
-array-copy-out-a c = search rules
-
-one-refusal-requires : tie.Need-one-refusal-requires
-one-refusal-requires c κs = search rules
-
-returns-3 : tie.Need-returns-3
-returns-3 c = λ us e.
-    let p = c.before.before.before.before.before.before in
-    c.one-refusal.ensures
-    ∙ ap (λ (l : List Update). verdict_of (updates_refusal p.args.n l))
-    (only_update p.args.held us e p.requires c.before.before.before.if3.true)
-
-several-refusal-requires : tie.Need-several-refusal-requires
-several-refusal-requires c κs = search rules
-
-returns-4 : tie.Need-returns-4
 unfolding updates_of
-returns-4 c = λ us e.
-    c.several-refusal.ensures
-    ∙ ap (λ (l : List Update). verdict_of (updates_refusal c.before.before.before.before.args.n l)) (e.first c.before.before.if2.false)
+returns c = λ us e.
+    c.several_refusal.ensures
+    ∙ ap (λ (l : List Update). verdict_of (updates_refusal c.args.n l)) (e.first c.if-count-gt-UPDATES.false)
 
-pub asked-refusal-spec : {M : Type 1} → statement M
-asked-refusal-spec =
+pub asked_refusal_spec : {M : Type 1} → statement M
+asked_refusal_spec =
     tie.close
-    (tie.spec returns returns-2 array-copy-out-a one-refusal-requires returns-3 several-refusal-requires returns-4)
+    (tie.spec
+    returns-then-count-lt1
+    returns-then-count-gt-UPDATES
+    bounds-first-0
+    one_refusal-requires
+    returns-then-count-eq1
+    several_refusal-requires
+    returns)

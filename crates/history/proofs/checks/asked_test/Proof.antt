@@ -7,30 +7,38 @@ use borrow.Author.Rules.{rules}
 use Rattle.history.proofs.checks.asked_test.Statement.{statement}
 use Rattle.history.proofs.checks.asked_test.Tie as tie
 
-enum-known-t : tie.Need-enum-known-t
-enum-known-t c = search rules
+enum_known-t : tie.Need-enum_known-t
+enum_known-t c = search rules
 
-enum-known-t-2 : tie.Need-enum-known-t-2
-enum-known-t-2 c = search rules
+enum_known-t-in-In-1 : tie.Need-enum_known-t-in-In-1
+enum_known-t-in-In-1 c = search rules
 
-enum_told : tie.Need-enum-told
-enum_told c = search rules
+enum_told-1 : tie.Need-enum_told-1
+enum_told-1 c = search rules
 
-operand-fits-requires : tie.Need-operand-fits-requires
-operand-fits-requires c κs = search rules
+operand_fits-requires : tie.Need-operand_fits-requires
+operand_fits-requires c κs = search rules
 
-returns : tie.Need-returns
+returns-in-Absent : tie.Need-returns-in-Absent
 unfolding asked_test
-returns c = rw c.before.before.t.given.1
+returns-in-Absent c = rw c.in-Absent.is
 
-returns-2 : tie.Need-returns-2
+returns-in-In : tie.Need-returns-in-In
 unfolding asked_test
-returns-2 c = rw c.before.before.t2.given.1
+returns-in-In c = rw c.in-In.is
 
-returns-3 : tie.Need-returns-3
+returns-in-Misfits : tie.Need-returns-in-Misfits
 unfolding asked_test update_misfits
-returns-3 c = rw c.before.enum_told.given.1 (ap not c.operand-fits.ensures)
+returns-in-Misfits c = rw c.in-Misfits.is (ap not c.operand_fits.ensures)
 
-pub asked-test-spec : {M : Type 1} → statement M
-asked-test-spec =
-    tie.close (tie.spec enum-known-t enum-known-t-2 enum_told operand-fits-requires returns returns-2 returns-3)
+pub asked_test_spec : {M : Type 1} → statement M
+asked_test_spec =
+    tie.close
+    (tie.spec
+    enum_known-t
+    enum_known-t-in-In-1
+    enum_told-1
+    operand_fits-requires
+    returns-in-Absent
+    returns-in-In
+    returns-in-Misfits)

@@ -7,52 +7,52 @@ use borrow.Author.Rules.{rules}
 use Rattle.history.proofs.checks.done_refusal.Statement.{statement}
 use Rattle.history.proofs.checks.done_refusal.Tie as tie
 
-array-copy-out-a : tie.Need-array-copy-out-a
-array-copy-out-a c = search rules
+bounds-first-0 : tie.Need-bounds-first-0
+bounds-first-0 c = search rules
 
-array-copy-out-b : tie.Need-array-copy-out-b
-array-copy-out-b c = search rules
+bounds-first-1 : tie.Need-bounds-first-1
+bounds-first-1 c = search rules
 
-array-copy-out-c : tie.Need-array-copy-out-c
-array-copy-out-c c = search rules
+bounds-first-2 : tie.Need-bounds-first-2
+bounds-first-2 c = search rules
 
-array-copy-out-d : tie.Need-array-copy-out-d
-array-copy-out-d c = search rules
+bounds-first-3 : tie.Need-bounds-first-3
+bounds-first-3 c = search rules
 
-asked-of-requires : tie.Need-asked-of-requires
-asked-of-requires c κs = search rules
+asked_of-requires : tie.Need-asked_of-requires
+asked_of-requires c κs = search rules
 
-asked-of-requires-2 : tie.Need-asked-of-requires-2
-asked-of-requires-2 c κs = search rules
+asked_of-requires-2 : tie.Need-asked_of-requires-2
+asked_of-requires-2 c κs = search rules
 
-asked-of-requires-3 : tie.Need-asked-of-requires-3
-asked-of-requires-3 c κs = search rules
+asked_of-requires-3 : tie.Need-asked_of-requires-3
+asked_of-requires-3 c κs = search rules
 
-asked-of-requires-4 : tie.Need-asked-of-requires-4
-asked-of-requires-4 c κs = search rules
+asked_of-requires-4 : tie.Need-asked_of-requires-4
+asked_of-requires-4 c κs = search rules
 
-asked-refusal-requires : tie.Need-asked-refusal-requires
-asked-refusal-requires c κs = search rules
+asked_refusal-requires : tie.Need-asked_refusal-requires
+asked_refusal-requires c κs = search rules
 
 returns : tie.Need-returns
 returns c = λ xs e.
-    let a = c.before.before.before.before.before.before.before.before.before.before.args in
-    c.asked-refusal.ensures (map change_update xs)
-    (holds-reported a.held xs e c.before.before.before.before.asked_of.ensures c.before.before.before.asked-of2.ensures
-    c.before.before.asked-of3.ensures c.before.asked-of4.ensures)
+    let a = c.args in
+    c.asked_refusal.ensures (map change_update xs)
+    (holds-reported a.held xs e c.asked_of.ensures c.asked_of-2.ensures
+    c.asked_of-3.ensures c.asked_of-4.ensures)
     ∙ ap verdict_of (changes_refusal_lem a.n xs)
 
-pub done-refusal-spec : {M : Type 1} → statement M
-done-refusal-spec =
+pub done_refusal_spec : {M : Type 1} → statement M
+done_refusal_spec =
     tie.close
     (tie.spec
-    array-copy-out-a
-    array-copy-out-b
-    array-copy-out-c
-    array-copy-out-d
-    asked-of-requires
-    asked-of-requires-2
-    asked-of-requires-3
-    asked-of-requires-4
-    asked-refusal-requires
+    bounds-first-0
+    bounds-first-1
+    bounds-first-2
+    bounds-first-3
+    asked_of-requires
+    asked_of-requires-2
+    asked_of-requires-3
+    asked_of-requires-4
+    asked_refusal-requires
     returns)

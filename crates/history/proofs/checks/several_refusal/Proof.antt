@@ -10,50 +10,53 @@ use Rattle.history.proofs.checks.several_refusal.Tie as tie
 own : (p : tie.Start) → HoldsUpdates p.args.held (updates_of p.args.held)
 own p = holds-own p.args.held p.requires.1 p.requires.2
 
-some-asked-requires : tie.Need-some-asked-requires
-some-asked-requires c κs = search rules
+some_asked-requires : tie.Need-some_asked-requires
+some_asked-requires c κs = search rules
+
+returns-then-some_asked : tie.Need-returns-then-some_asked
+returns-then-some_asked c =
+    refused_absent c.args.n c.args.held _ (own c.before.before) c.requires.0 c.requires.1
+    c.some_asked.result c.some_asked.ensures c.if-some_asked.true
+
+is_twice-requires : tie.Need-is_twice-requires
+is_twice-requires c κs = search rules
+
+returns-then-is_twice : tie.Need-returns-then-is_twice
+returns-then-is_twice c =
+    let absent = c.some_asked in
+    refused_twice c.args.n c.args.held _ (own c.before.before.before.before) c.requires.0 c.requires.1
+    absent.result absent.ensures c.if-some_asked.false
+    c.is_twice.result c.is_twice.ensures c.if-is_twice.true
+
+some_asked-requires-2 : tie.Need-some_asked-requires-2
+some_asked-requires-2 c κs = search rules
+
+returns-then-some_asked-2 : tie.Need-returns-then-some_asked-2
+returns-then-some_asked-2 c =
+    let absent = c.some_asked in
+    let twice = c.is_twice in
+    refused_misfits c.args.n c.args.held _ (own c.before.before.before.before.before.before) c.requires.0 c.requires.1
+    absent.result absent.ensures c.if-some_asked.false
+    twice.result twice.ensures c.if-is_twice.false
+    c.some_asked-2.result c.some_asked-2.ensures c.if-some_asked-2.true
 
 returns : tie.Need-returns
 returns c =
-    let p = c.before.before in
-    refused_absent p.args.n p.args.held _ (own p) p.requires.0 p.requires.1
-    c.before.some-asked.result c.before.some-asked.ensures c.if1.true
+    let absent = c.some_asked in
+    let twice = c.is_twice in
+    passes-all c.args.n c.args.held _ (own c.before.before.before.before.before.before) c.requires.0 c.requires.1
+    absent.result absent.ensures c.if-some_asked.false
+    twice.result twice.ensures c.if-is_twice.false
+    c.some_asked-2.result c.some_asked-2.ensures c.if-some_asked-2.false
 
-is-twice-requires : tie.Need-is-twice-requires
-is-twice-requires c κs = search rules
-
-returns-2 : tie.Need-returns-2
-returns-2 c =
-    let p = c.before.before.before.before in
-    let absent = c.before.before.before.some-asked in
-    refused_twice p.args.n p.args.held _ (own p) p.requires.0 p.requires.1
-    absent.result absent.ensures c.before.before.if1.false
-    c.before.is-twice.result c.before.is-twice.ensures c.if2.true
-
-some-asked-requires-2 : tie.Need-some-asked-requires-2
-some-asked-requires-2 c κs = search rules
-
-returns-3 : tie.Need-returns-3
-returns-3 c =
-    let p = c.before.before.before.before.before.before in
-    let absent = c.before.before.before.before.before.some-asked in
-    let twice = c.before.before.before.is-twice in
-    refused_misfits p.args.n p.args.held _ (own p) p.requires.0 p.requires.1
-    absent.result absent.ensures c.before.before.before.before.if1.false
-    twice.result twice.ensures c.before.before.if2.false
-    c.before.some-asked2.result c.before.some-asked2.ensures c.if3.true
-
-returns-4 : tie.Need-returns-4
-returns-4 c =
-    let p = c.before.before.before.before.before.before in
-    let absent = c.before.before.before.before.before.some-asked in
-    let twice = c.before.before.before.is-twice in
-    passes-all p.args.n p.args.held _ (own p) p.requires.0 p.requires.1
-    absent.result absent.ensures c.before.before.before.before.if1.false
-    twice.result twice.ensures c.before.before.if2.false
-    c.before.some-asked2.result c.before.some-asked2.ensures c.if3.false
-
-pub several-refusal-spec : {M : Type 1} → statement M
-several-refusal-spec =
+pub several_refusal_spec : {M : Type 1} → statement M
+several_refusal_spec =
     tie.close
-    (tie.spec some-asked-requires returns is-twice-requires returns-2 some-asked-requires-2 returns-3 returns-4)
+    (tie.spec
+    some_asked-requires
+    returns-then-some_asked
+    is_twice-requires
+    returns-then-is_twice
+    some_asked-requires-2
+    returns-then-some_asked-2
+    returns)

@@ -10,64 +10,64 @@ use Rattle.history.specs.Tests.{any_next, any_hit}
 use Rattle.history.proofs.checks.some_asked.Statement.{statement}
 use Rattle.history.proofs.checks.some_asked.Tie as tie
 
-abbrev invariant-loop : tie.invariant-loop
-invariant-loop t k first i₀ i = (i ≤ k) × (any (asked_passes t) (take i first) ≡ false)
+abbrev invariant-loop-i : tie.invariant-loop-i
+invariant-loop-i t k first i₀ i = (i ≤ k) × (any (asked_passes t) (take i first) ≡ false)
 
-abbrev decreases-loop : tie.decreases-loop
-decreases-loop t k first i₀ i = k - i
+abbrev decreases-loop-i : tie.decreases-loop-i
+decreases-loop-i t k first i₀ i = k - i
 
-loop-holds : tie.Need-loop-init invariant-loop decreases-loop
-loop-holds c = (omega arith, refl)
+loop-i-init : tie.Need-loop-i-init invariant-loop-i decreases-loop-i
+loop-i-init c = (omega arith, refl)
 
-mul-a : tie.Need-overflow-mul-a invariant-loop decreases-loop
-mul-a c = omega (arith, c.before.before.before.requires.0)
+offset_bounds-first-i : tie.Need-offset_bounds-first-i invariant-loop-i decreases-loop-i
+offset_bounds-first-i c = omega (arith, c.requires.0)
 
-array-copy-out-a : tie.Need-array-copy-out-a invariant-loop decreases-loop
-array-copy-out-a c = omega (arith, c.before.before.before.requires.0)
+bounds-first-i : tie.Need-bounds-first-i invariant-loop-i decreases-loop-i
+bounds-first-i c = omega (arith, c.requires.0)
 
-asked-test-requires : tie.Need-asked-test-requires invariant-loop decreases-loop
-asked-test-requires c κs = tt
+asked_test-requires : tie.Need-asked_test-requires invariant-loop-i decreases-loop-i
+asked_test-requires c κs = tt
 
-returns : tie.Need-returns invariant-loop decreases-loop
-returns c =
-    let a = c.before.before.before.before.before.before.args in
-    sym (any_hit (asked_passes a.t) a.held.first no_asked c.before.before.before.before.loop.i a.k c.before.before.before.loop-test.true
-    (omega (arith, c.before.before.before.before.before.before.requires.0, c.before.before.before.before.before.before.requires.1))
-    (sym c.before.asked-test.ensures ∙ c.if1.true))
+returns-then-asked_test : tie.Need-returns-then-asked_test invariant-loop-i decreases-loop-i
+returns-then-asked_test c =
+    let a = c.args in
+    sym (any_hit (asked_passes a.t) a.held.first no_asked c.loop-i.i a.k c.loop-i-test.true
+    (omega (arith, c.requires.0, c.requires.1))
+    (sym c.asked_test.ensures ∙ c.if-asked_test.true))
 
-add-i : tie.Need-overflow-add-i invariant-loop decreases-loop
-add-i c = omega (arith, c.before.before.before.before.before.before.requires.0)
+overflow_add-i : tie.Need-overflow_add-i invariant-loop-i decreases-loop-i
+overflow_add-i c = omega (arith, c.requires.0)
 
-loop-less : tie.Need-loop-smaller invariant-loop decreases-loop
-loop-less c = omega arith
+loop-i-smaller : tie.Need-loop-i-smaller invariant-loop-i decreases-loop-i
+loop-i-smaller c = omega arith
 
-loop-again : tie.Need-loop-preserved invariant-loop decreases-loop
-loop-again c =
-    let a = c.before.before.before.before.before.before.args in (
+loop-i-preserved : tie.Need-loop-i-preserved invariant-loop-i decreases-loop-i
+loop-i-preserved c =
+    let a = c.args in (
       omega arith,
-      any_next (asked_passes a.t) a.held.first no_asked c.before.before.before.before.loop.i
-          (omega (arith, c.before.before.before.before.before.before.requires.0, c.before.before.before.before.before.before.requires.1))
-          c.before.before.before.before.loop.invariant.1 (sym c.before.asked-test.ensures ∙ c.if1.false),
+      any_next (asked_passes a.t) a.held.first no_asked c.loop-i.i
+          (omega (arith, c.requires.0, c.requires.1))
+          c.loop-i.invariant.1 (sym c.asked_test.ensures ∙ c.if-asked_test.false),
     )
 
-returns-2 : tie.Need-returns-2 invariant-loop decreases-loop
-returns-2 c =
-    let q : c.before.loop.i ≡ c.before.before.before.args.k = omega arith in
-    sym (ap (λ (n : ℕ). any (asked_passes c.before.before.before.args.t) (take n c.before.before.before.args.held.first)) (sym q)
-    ∙ c.before.loop.invariant.1)
+returns : tie.Need-returns invariant-loop-i decreases-loop-i
+returns c =
+    let q : c.loop-i.i ≡ c.args.k = omega arith in
+    sym (ap (λ (n : ℕ). any (asked_passes c.args.t) (take n c.args.held.first)) (sym q)
+    ∙ c.loop-i.invariant.1)
 
-pub some-asked-spec : {M : Type 1} → statement M
-some-asked-spec =
+pub some_asked_spec : {M : Type 1} → statement M
+some_asked_spec =
     tie.close
     (tie.spec
-    invariant-loop
-    decreases-loop
-    loop-holds
-    mul-a
-    array-copy-out-a
-    asked-test-requires
-    returns
-    add-i
-    loop-less
-    loop-again
-    returns-2)
+    invariant-loop-i
+    decreases-loop-i
+    loop-i-init
+    offset_bounds-first-i
+    bounds-first-i
+    asked_test-requires
+    returns-then-asked_test
+    overflow_add-i
+    loop-i-smaller
+    loop-i-preserved
+    returns)

@@ -8,25 +8,32 @@ use Rattle.history.proofs.timing.is_never.Tie as tie
 timing-requires : tie.Need-timing-requires
 timing-requires c κs = search rules
 
-enum_told : tie.Need-enum-told
-enum_told c = search rules
+enum_told-1 : tie.Need-enum_told-1
+enum_told-1 c = search rules
 
-enum-told-2 : tie.Need-enum-told-2
-enum-told-2 c = search rules
+enum_told-in-Later : tie.Need-enum_told-in-Later
+enum_told-in-Later c = search rules
 
-enum-told-3 : tie.Need-enum-told-3
-enum-told-3 c = search rules
+enum_told-in-Never : tie.Need-enum_told-in-Never
+enum_told-in-Never c = search rules
 
-returns : tie.Need-returns
-returns c = sym (ap is_never (sym c.before.before.timing.ensures ∙ c.enum_told.given.1))
+returns-in-Now : tie.Need-returns-in-Now
+returns-in-Now c = sym (ap is_never (sym c.timing.ensures ∙ c.in-Now.is))
 
-returns-2 : tie.Need-returns-2
-returns-2 c = sym (ap is_never (sym c.before.before.timing.ensures ∙ c.enum-told2.given.1))
+returns-in-Later : tie.Need-returns-in-Later
+returns-in-Later c = sym (ap is_never (sym c.timing.ensures ∙ c.in-Later.is))
 
-returns-3 : tie.Need-returns-3
-returns-3 c = sym (ap is_never (sym c.before.before.timing.ensures ∙ c.enum-told3.given.1))
+returns-in-Never : tie.Need-returns-in-Never
+returns-in-Never c = sym (ap is_never (sym c.timing.ensures ∙ c.in-Never.is))
 
-pub is-never-spec : {M : Type 1} → statement M
-is-never-spec =
+pub is_never_spec : {M : Type 1} → statement M
+is_never_spec =
     tie.close
-    (tie.spec timing-requires enum_told enum-told-2 enum-told-3 returns returns-2 returns-3)
+    (tie.spec
+    timing-requires
+    enum_told-1
+    enum_told-in-Later
+    enum_told-in-Never
+    returns-in-Now
+    returns-in-Later
+    returns-in-Never)

@@ -4,28 +4,35 @@ use borrow.Author.Rules.{rules}
 use Rattle.history.proofs.timing.timing.Statement.{statement}
 use Rattle.history.proofs.timing.timing.Tie as tie
 
-may-run-requires : tie.Need-may-run-requires
-may-run-requires c κs = search rules
+may_run-requires : tie.Need-may_run-requires
+may_run-requires c κs = search rules
+
+returns-then-may_run : tie.Need-returns-then-may_run
+returns-then-may_run c = rw (sym c.may_run.ensures ∙ c.if-may_run.true)
+
+may_later-requires : tie.Need-may_later-requires
+may_later-requires c κs = search rules
+
+returns-then-may_later : tie.Need-returns-then-may_later
+returns-then-may_later c =
+    rw (
+      sym c.may_run.ensures ∙ c.if-may_run.false,
+      sym c.may_later.ensures ∙ c.if-may_later.true,
+    )
 
 returns : tie.Need-returns
-returns c = rw (sym c.before.may-run.ensures ∙ c.if1.true)
-
-may-later-requires : tie.Need-may-later-requires
-may-later-requires c κs = search rules
-
-returns-2 : tie.Need-returns-2
-returns-2 c =
+returns c =
     rw (
-      sym c.before.before.before.may-run.ensures ∙ c.before.before.if1.false,
-      sym c.before.may-later.ensures ∙ c.if2.true,
+      sym c.may_run.ensures ∙ c.if-may_run.false,
+      sym c.may_later.ensures ∙ c.if-may_later.false,
     )
 
-returns-3 : tie.Need-returns-3
-returns-3 c =
-    rw (
-      sym c.before.before.before.may-run.ensures ∙ c.before.before.if1.false,
-      sym c.before.may-later.ensures ∙ c.if2.false,
-    )
-
-pub timing-spec : {M : Type 1} → statement M
-timing-spec = tie.close (tie.spec may-run-requires returns may-later-requires returns-2 returns-3)
+pub timing_spec : {M : Type 1} → statement M
+timing_spec =
+    tie.close
+    (tie.spec
+    may_run-requires
+    returns-then-may_run
+    may_later-requires
+    returns-then-may_later
+    returns)

@@ -8,11 +8,15 @@ use borrow.Author.Rules.{rules}
 use Rattle.history.proofs.turns.can_run.Statement.{statement}
 use Rattle.history.proofs.turns.can_run.Tie as tie
 
-some-item-requires : tie.Need-some-item-requires
-some-item-requires c κs = search rules
+some_item-requires : tie.Need-some_item-requires
+some_item-requires c κs = search rules
 
 returns : tie.Need-returns
-returns c = ap not c.some_item.ensures ∙ waits-can_run (cells_of (histories_in c.before.args.book.now)) c.before.args.e
+returns c = ap not c.some_item.ensures ∙ waits-can_run (cells_of (histories_in c.args.book.now)) c.args.e
 
-pub can-run-spec : {M : Type 1} → statement M
-can-run-spec = tie.close (tie.spec some-item-requires returns)
+pub can_run_spec : {M : Type 1} → statement M
+can_run_spec =
+    tie.close
+    (tie.spec
+    some_item-requires
+    returns)

@@ -9,72 +9,72 @@ use Rattle.history.specs.Words.{histories_in}
 use Rattle.history.proofs.turns.findings.Statement.{statement}
 use Rattle.history.proofs.turns.findings.Tie as tie
 
-abbrev invariant-loop : tie.invariant-loop
-invariant-loop book n items f₀ i₀ f i = (i ≤ n) × (f ≡ findings_in (cells_of (histories_in book)) (updates_to i items))
+abbrev invariant-loop-i : tie.invariant-loop-i
+invariant-loop-i book n items f₀ i₀ f i = (i ≤ n) × (f ≡ findings_in (cells_of (histories_in book)) (updates_to i items))
 
-abbrev decreases-loop : tie.decreases-loop
-decreases-loop book n items f₀ i₀ f i = n - i
+abbrev decreases-loop-i : tie.decreases-loop-i
+decreases-loop-i book n items f₀ i₀ f i = n - i
 
-loop-holds : tie.Need-loop-init invariant-loop decreases-loop
+loop-i-init : tie.Need-loop-i-init invariant-loop-i decreases-loop-i
 unfolding findings_in
-loop-holds c = (omega arith, refl)
+loop-i-init c = (omega arith, refl)
 
-mul-x : tie.Need-overflow-mul-x invariant-loop decreases-loop
-mul-x c = omega (arith, c.before.before.before.requires.few)
+offset_bounds-items-i : tie.Need-offset_bounds-items-i invariant-loop-i decreases-loop-i
+offset_bounds-items-i c = omega (arith, c.requires.few)
 
-array-copy-out-x : tie.Need-array-copy-out-x invariant-loop decreases-loop
-array-copy-out-x c = omega (arith, c.before.before.before.requires.few)
+bounds-items-i : tie.Need-bounds-items-i invariant-loop-i decreases-loop-i
+bounds-items-i c = omega (arith, c.requires.few)
 
-cast-at : tie.Need-overflow-cast-at invariant-loop decreases-loop
-cast-at c = record {
+overflow_cast-at : tie.Need-overflow_cast-at invariant-loop-i decreases-loop-i
+overflow_cast-at c = record {
   fits = omega
-      (arith, (c.before.before.before.before.before.requires.each c.before.before.before.loop.i c.before.before.loop-test.true).history);
+      (arith, (c.requires.each c.loop-i.i c.loop-i-test.true).history);
 }
 
-history-at-requires : tie.Need-history-at-requires invariant-loop decreases-loop
-history-at-requires c κs =
-    (c.before.before.before.before.before.requires.each c.before.before.before.loop.i c.before.before.loop-test.true).history
+history_at-h-requires : tie.Need-history_at-h-requires invariant-loop-i decreases-loop-i
+history_at-h-requires c κs =
+    (c.requires.each c.loop-i.i c.loop-i-test.true).history
 
-found-requires : tie.Need-found-requires invariant-loop decreases-loop
-found-requires c κs = tt
+found-f-requires : tie.Need-found-f-requires invariant-loop-i decreases-loop-i
+found-f-requires c κs = tt
 
-add-i : tie.Need-overflow-add-i invariant-loop decreases-loop
-add-i c = omega (arith, c.before.before.before.before.before.before.before.requires.few)
+overflow_add-i : tie.Need-overflow_add-i invariant-loop-i decreases-loop-i
+overflow_add-i c = omega (arith, c.requires.few)
 
-loop-less : tie.Need-loop-smaller invariant-loop decreases-loop
-loop-less c = omega arith
+loop-i-smaller : tie.Need-loop-i-smaller invariant-loop-i decreases-loop-i
+loop-i-smaller c = omega arith
 
-loop-again : tie.Need-loop-preserved invariant-loop decreases-loop
-loop-again c =
-    let a = c.before.before.before.before.before.before.before.args in
-    let v = c.before.before.before.before.before.before.before.requires in
-    let l = c.before.before.before.before.before.loop in (
+loop-i-preserved : tie.Need-loop-i-preserved invariant-loop-i decreases-loop-i
+loop-i-preserved c =
+    let a = c.args in
+    let v = c.requires in
+    let l = c.loop-i in (
       omega arith,
-      c.found.ensures
-          ∙ findings_next (cells_of (histories_in a.book.now)) a.e.items l.i (cell_of c.before.history-at.result) l.f
-          (omega (arith, v.few, v.long)) (ap cell_of c.before.history-at.ensures) l.invariant.1,
+      c.found-f.ensures
+          ∙ findings_next (cells_of (histories_in a.book.now)) a.e.items l.i (cell_of c.history_at-h.result) l.f
+          (omega (arith, v.few, v.long)) (ap cell_of c.history_at-h.ensures) l.invariant.1,
     )
 
-returns : tie.Need-returns invariant-loop decreases-loop
+returns : tie.Need-returns invariant-loop-i decreases-loop-i
 unfolding operation_of
 returns c =
-    let a = c.before.before.before.args in
-    let q : c.before.loop.i ≡ a.e.count = omega arith in
-    c.before.loop.invariant.1 ∙ ap (λ (k : ℕ). findings_in (cells_of (histories_in a.book.now)) (updates_to k a.e.items)) q
+    let a = c.args in
+    let q : c.loop-i.i ≡ a.e.count = omega arith in
+    c.loop-i.invariant.1 ∙ ap (λ (k : ℕ). findings_in (cells_of (histories_in a.book.now)) (updates_to k a.e.items)) q
 
-pub findings-spec : {M : Type 1} → statement M
-findings-spec =
+pub findings_spec : {M : Type 1} → statement M
+findings_spec =
     tie.close
     (tie.spec
-    invariant-loop
-    decreases-loop
-    loop-holds
-    mul-x
-    array-copy-out-x
-    cast-at
-    history-at-requires
-    found-requires
-    add-i
-    loop-less
-    loop-again
+    invariant-loop-i
+    decreases-loop-i
+    loop-i-init
+    offset_bounds-items-i
+    bounds-items-i
+    overflow_cast-at
+    history_at-h-requires
+    found-f-requires
+    overflow_add-i
+    loop-i-smaller
+    loop-i-preserved
     returns)

@@ -6,60 +6,60 @@ use borrow.Author.Rules.{rules}
 use Rattle.history.proofs.turns.found.Statement.{statement}
 use Rattle.history.proofs.turns.found.Tie as tie
 
-is-strong-requires : tie.Need-is-strong-requires
-is-strong-requires c κs = search rules
+is_strong-requires : tie.Need-is_strong-requires
+is_strong-requires c κs = search rules
 
-either-requires : tie.Need-either-requires
-either-requires c κs = search rules
+either-strong-requires : tie.Need-either-strong-requires
+either-strong-requires c κs = search rules
 
 orders-requires : tie.Need-orders-requires
 orders-requires c κs = search rules
 
-either-requires-2 : tie.Need-either-requires-2
-either-requires-2 c κs = search rules
+either-ordering-requires : tie.Need-either-ordering-requires
+either-ordering-requires c κs = search rules
 
-has-run-requires : tie.Need-has-run-requires
-has-run-requires c κs = search rules
+has_run-requires : tie.Need-has_run-requires
+has_run-requires c κs = search rules
 
-either-requires-3 : tie.Need-either-requires-3
-either-requires-3 c κs = search rules
+either-ran-requires : tie.Need-either-ran-requires
+either-ran-requires c κs = search rules
 
-is-overtaken-requires : tie.Need-is-overtaken-requires
-is-overtaken-requires c κs = search rules
+is_overtaken-requires : tie.Need-is_overtaken-requires
+is_overtaken-requires c κs = search rules
 
-either-requires-4 : tie.Need-either-requires-4
-either-requires-4 c κs = search rules
+either-overtaken-requires : tie.Need-either-overtaken-requires
+either-overtaken-requires c κs = search rules
 
-is-at-highest-requires : tie.Need-is-at-highest-requires
-is-at-highest-requires c κs = search rules
+is_at_highest-requires : tie.Need-is_at_highest-requires
+is_at_highest-requires c κs = search rules
 
-either-requires-5 : tie.Need-either-requires-5
-either-requires-5 c κs = search rules
+either-highest-requires : tie.Need-either-highest-requires
+either-highest-requires c κs = search rules
 
 returns : tie.Need-returns
 unfolding found_with
 returns c =
-    let f = c.before.before.before.before.before.before.before.before.before.before.args.f in
+    let f = c.args.f in
     λ i. record {
-      strong = (c.before.before.before.before.before.before.before.before.either.ensures ∙ ap (◌||◌ f.strong) c.before.before.before.before.before.before.before.before.before.is-strong.ensures) i;
-      orders = (c.before.before.before.before.before.before.either2.ensures ∙ ap (◌||◌ f.orders) c.before.before.before.before.before.before.before.orders.ensures) i;
-      ran = (c.before.before.before.before.either3.ensures ∙ ap (◌||◌ f.ran) c.before.before.before.before.before.has-run.ensures) i;
-      overtaken = (c.before.before.either4.ensures ∙ ap (◌||◌ f.overtaken) c.before.before.before.is-overtaken.ensures) i;
-      highest = (c.either5.ensures ∙ ap (◌||◌ f.highest) c.before.is-at-highest.ensures) i;
+      strong = (c.either-strong.ensures ∙ ap (◌||◌ f.strong) c.is_strong.ensures) i;
+      orders = (c.either-ordering.ensures ∙ ap (◌||◌ f.orders) c.orders.ensures) i;
+      ran = (c.either-ran.ensures ∙ ap (◌||◌ f.ran) c.has_run.ensures) i;
+      overtaken = (c.either-overtaken.ensures ∙ ap (◌||◌ f.overtaken) c.is_overtaken.ensures) i;
+      highest = (c.either-highest.ensures ∙ ap (◌||◌ f.highest) c.is_at_highest.ensures) i;
     }
 
-pub found-spec : {M : Type 1} → statement M
-found-spec =
+pub found_spec : {M : Type 1} → statement M
+found_spec =
     tie.close
     (tie.spec
-    is-strong-requires
-    either-requires
+    is_strong-requires
+    either-strong-requires
     orders-requires
-    either-requires-2
-    has-run-requires
-    either-requires-3
-    is-overtaken-requires
-    either-requires-4
-    is-at-highest-requires
-    either-requires-5
+    either-ordering-requires
+    has_run-requires
+    either-ran-requires
+    is_overtaken-requires
+    either-overtaken-requires
+    is_at_highest-requires
+    either-highest-requires
     returns)

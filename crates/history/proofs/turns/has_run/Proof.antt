@@ -9,12 +9,17 @@ use Rattle.history.proofs.turns.has_run.Tie as tie
 orders-requires : tie.Need-orders-requires
 orders-requires c κs = search rules
 
-returns : tie.Need-returns
-returns c = ran-ordered (cell_of c.before.before.before.before.args.h) c.before.before.before.before.args.x
-    (sym c.before.before.before.orders.ensures ∙ c.before.before.if1.true)
+returns-then-orders : tie.Need-returns-then-orders
+returns-then-orders c = ran-ordered (cell_of c.args.h) c.args.x
+    (sym c.orders.ensures ∙ c.if-orders.true)
 
-returns-2 : tie.Need-returns-2
-returns-2 c = ran_unordered (cell_of c.before.before.args.h) c.before.before.args.x (sym c.before.orders.ensures ∙ c.if1.false)
+returns-else-orders : tie.Need-returns-else-orders
+returns-else-orders c = ran_unordered (cell_of c.args.h) c.args.x (sym c.orders.ensures ∙ c.if-orders.false)
 
-pub has-run-spec : {M : Type 1} → statement M
-has-run-spec = tie.close (tie.spec orders-requires returns returns-2)
+pub has_run_spec : {M : Type 1} → statement M
+has_run_spec =
+    tie.close
+    (tie.spec
+    orders-requires
+    returns-then-orders
+    returns-else-orders)

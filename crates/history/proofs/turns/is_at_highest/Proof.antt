@@ -6,16 +6,21 @@ use borrow.Author.Rules.{rules}
 use Rattle.history.proofs.turns.is_at_highest.Statement.{statement}
 use Rattle.history.proofs.turns.is_at_highest.Tie as tie
 
-is-ordered-requires : tie.Need-is-ordered-requires
-is-ordered-requires c κs = search rules
+is_ordered-requires : tie.Need-is_ordered-requires
+is_ordered-requires c κs = search rules
 
-returns : tie.Need-returns
-returns c = highest-ordered (cell_of c.before.before.args.h) c.before.before.args.x (sym c.before.is-ordered.ensures ∙ c.if1.true)
+returns-then-is_ordered : tie.Need-returns-then-is_ordered
+returns-then-is_ordered c = highest-ordered (cell_of c.args.h) c.args.x (sym c.is_ordered.ensures ∙ c.if-is_ordered.true)
 
-returns-2 : tie.Need-returns-2
-returns-2 c =
-    highest_unordered (cell_of c.before.before.before.args.h) c.before.before.before.args.x
-    (sym c.before.before.is-ordered.ensures ∙ c.before.if1.false)
+returns-else-is_ordered : tie.Need-returns-else-is_ordered
+returns-else-is_ordered c =
+    highest_unordered (cell_of c.args.h) c.args.x
+    (sym c.is_ordered.ensures ∙ c.if-is_ordered.false)
 
-pub is-at-highest-spec : {M : Type 1} → statement M
-is-at-highest-spec = tie.close (tie.spec is-ordered-requires returns returns-2)
+pub is_at_highest_spec : {M : Type 1} → statement M
+is_at_highest_spec =
+    tie.close
+    (tie.spec
+    is_ordered-requires
+    returns-then-is_ordered
+    returns-else-is_ordered)

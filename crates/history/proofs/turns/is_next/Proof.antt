@@ -10,30 +10,37 @@ use borrow.Author.Rules.{rules}
 use Rattle.history.proofs.turns.is_next.Statement.{statement}
 use Rattle.history.proofs.turns.is_next.Tie as tie
 
-returns : tie.Need-returns
+returns-then-p-eq0 : tie.Need-returns-then-p-eq0
 unfolding runs_at
-returns c = let a = c.before.args in rw (ne_eqb a.x.place.0 (a.h.place.0 + 1) (λ e. omega arith))
+returns-then-p-eq0 c = let a = c.args in rw (ne_eqb a.x.place.0 (a.h.place.0 + 1) (λ e. omega arith))
 
-sub-if2 : tie.Need-overflow-sub-if2
-sub-if2 c = search rules
+overflow_sub-p : tie.Need-overflow_sub-p
+overflow_sub-p c = search rules
 
-logged-as-requires : tie.Need-logged-as-requires
-logged-as-requires c κs = search rules
+logged_as-requires : tie.Need-logged_as-requires
+logged_as-requires c κs = search rules
 
-may-run-requires : tie.Need-may-run-requires
-may-run-requires c κs = search rules
+may_run-requires : tie.Need-may_run-requires
+may_run-requires c κs = search rules
 
-returns-2 : tie.Need-returns-2
+returns-then-p-h : tie.Need-returns-then-p-h
 unfolding runs_at
-returns-2 c =
-    let a = c.before.before.before.before.before.before.before.args in
+returns-then-p-h c =
+    let a = c.args in
     rw (eq-eqb a.x.place.0 (a.h.place.0 + 1) (omega arith))
-    (c.may-run.ensures ∙ ap (λ (r : Rule). may_run r a.h.version.0 a.x.version.0) c.before.logged-as.ensures)
+    (c.may_run.ensures ∙ ap (λ (r : Rule). may_run r a.h.version.0 a.x.version.0) c.logged_as.ensures)
 
-returns-3 : tie.Need-returns-3
+returns-else-p-h : tie.Need-returns-else-p-h
 unfolding runs_at
-returns-3 c = let a = c.before.before.before.args in rw (ne_eqb a.x.place.0 (a.h.place.0 + 1) (λ e. omega arith))
+returns-else-p-h c = let a = c.args in rw (ne_eqb a.x.place.0 (a.h.place.0 + 1) (λ e. omega arith))
 
-pub is-next-spec : {M : Type 1} → statement M
-is-next-spec =
-    tie.close (tie.spec returns sub-if2 logged-as-requires may-run-requires returns-2 returns-3)
+pub is_next_spec : {M : Type 1} → statement M
+is_next_spec =
+    tie.close
+    (tie.spec
+    returns-then-p-eq0
+    overflow_sub-p
+    logged_as-requires
+    may_run-requires
+    returns-then-p-h
+    returns-else-p-h)

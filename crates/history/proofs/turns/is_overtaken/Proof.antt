@@ -6,15 +6,20 @@ use borrow.Author.Rules.{rules}
 use Rattle.history.proofs.turns.is_overtaken.Statement.{statement}
 use Rattle.history.proofs.turns.is_overtaken.Tie as tie
 
-is-strong-requires : tie.Need-is-strong-requires
-is-strong-requires c κs = search rules
+is_strong-requires : tie.Need-is_strong-requires
+is_strong-requires c κs = search rules
 
-returns : tie.Need-returns
-returns c = overtaken-strong (cell_of c.before.before.args.h) c.before.before.args.x (sym c.before.is-strong.ensures ∙ c.if1.true)
+returns-then-is_strong : tie.Need-returns-then-is_strong
+returns-then-is_strong c = overtaken-strong (cell_of c.args.h) c.args.x (sym c.is_strong.ensures ∙ c.if-is_strong.true)
 
-returns-2 : tie.Need-returns-2
-returns-2 c = overtaken_weak (cell_of c.before.before.before.before.args.h) c.before.before.before.before.args.x
-    (sym c.before.before.before.is-strong.ensures ∙ c.before.before.if1.false)
+returns-else-is_strong : tie.Need-returns-else-is_strong
+returns-else-is_strong c = overtaken_weak (cell_of c.args.h) c.args.x
+    (sym c.is_strong.ensures ∙ c.if-is_strong.false)
 
-pub is-overtaken-spec : {M : Type 1} → statement M
-is-overtaken-spec = tie.close (tie.spec is-strong-requires returns returns-2)
+pub is_overtaken_spec : {M : Type 1} → statement M
+is_overtaken_spec =
+    tie.close
+    (tie.spec
+    is_strong-requires
+    returns-then-is_strong
+    returns-else-is_strong)

@@ -7,11 +7,15 @@ use borrow.Author.Rules.{rules}
 use Rattle.history.proofs.turns.is_stale.Statement.{statement}
 use Rattle.history.proofs.turns.is_stale.Tie as tie
 
-some-item-requires : tie.Need-some-item-requires
-some-item-requires c κs = search rules
+some_item-requires : tie.Need-some_item-requires
+some_item-requires c κs = search rules
 
 returns : tie.Need-returns
-returns c = c.some_item.ensures ∙ stale_changes (cells_of (histories_in c.before.args.book.now)) c.before.args.e
+returns c = c.some_item.ensures ∙ stale_changes (cells_of (histories_in c.args.book.now)) c.args.e
 
-pub is-stale-spec : {M : Type 1} → statement M
-is-stale-spec = tie.close (tie.spec some-item-requires returns)
+pub is_stale_spec : {M : Type 1} → statement M
+is_stale_spec =
+    tie.close
+    (tie.spec
+    some_item-requires
+    returns)

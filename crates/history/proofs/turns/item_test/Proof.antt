@@ -6,22 +6,29 @@ use borrow.Author.Rules.{rules}
 use Rattle.history.proofs.turns.item_test.Statement.{statement}
 use Rattle.history.proofs.turns.item_test.Tie as tie
 
-enum_told : tie.Need-enum-told
-enum_told c = search rules
+enum_told-1 : tie.Need-enum_told-1
+enum_told-1 c = search rules
 
-is-next-requires : tie.Need-is-next-requires
-is-next-requires c κs = search rules
+is_next-requires : tie.Need-is_next-requires
+is_next-requires c κs = search rules
 
-enum-told-2 : tie.Need-enum-told-2
-enum-told-2 c = search rules
+enum_told-in-Stale : tie.Need-enum_told-in-Stale
+enum_told-in-Stale c = search rules
 
-returns : tie.Need-returns
+returns-in-Waits : tie.Need-returns-in-Waits
 unfolding item_test
-returns c = rw c.before.enum_told.given.1 (ap not c.is-next.ensures)
+returns-in-Waits c = rw c.in-Waits.is (ap not c.is_next.ensures)
 
-returns-2 : tie.Need-returns-2
+returns-in-Stale : tie.Need-returns-in-Stale
 unfolding item_test
-returns-2 c = rw c.before.before.enum-told2.given.1
+returns-in-Stale c = rw c.in-Stale.is
 
-pub item-test-spec : {M : Type 1} → statement M
-item-test-spec = tie.close (tie.spec enum_told is-next-requires enum-told-2 returns returns-2)
+pub item_test_spec : {M : Type 1} → statement M
+item_test_spec =
+    tie.close
+    (tie.spec
+    enum_told-1
+    is_next-requires
+    enum_told-in-Stale
+    returns-in-Waits
+    returns-in-Stale)

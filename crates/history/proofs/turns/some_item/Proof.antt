@@ -13,78 +13,78 @@ use Rattle.history.specs.Tests.{any_next, any_hit}
 use Rattle.history.proofs.turns.some_item.Statement.{statement}
 use Rattle.history.proofs.turns.some_item.Tie as tie
 
-abbrev invariant-loop : tie.invariant-loop
-invariant-loop t book n items i₀ i = (i ≤ n) × (any (test_in t (cells_of (histories_in book))) (take i items) ≡ false)
+abbrev invariant-loop-i : tie.invariant-loop-i
+invariant-loop-i t book n items i₀ i = (i ≤ n) × (any (test_in t (cells_of (histories_in book))) (take i items) ≡ false)
 
-abbrev decreases-loop : tie.decreases-loop
-decreases-loop t book n items i₀ i = n - i
+abbrev decreases-loop-i : tie.decreases-loop-i
+decreases-loop-i t book n items i₀ i = n - i
 
-loop-holds : tie.Need-loop-init invariant-loop decreases-loop
-loop-holds c = (omega arith, refl)
+loop-i-init : tie.Need-loop-i-init invariant-loop-i decreases-loop-i
+loop-i-init c = (omega arith, refl)
 
-mul-x : tie.Need-overflow-mul-x invariant-loop decreases-loop
-mul-x c = omega (arith, c.before.before.before.requires.few)
+offset_bounds-items-i : tie.Need-offset_bounds-items-i invariant-loop-i decreases-loop-i
+offset_bounds-items-i c = omega (arith, c.requires.few)
 
-array-copy-out-x : tie.Need-array-copy-out-x invariant-loop decreases-loop
-array-copy-out-x c = omega (arith, c.before.before.before.requires.few)
+bounds-items-i : tie.Need-bounds-items-i invariant-loop-i decreases-loop-i
+bounds-items-i c = omega (arith, c.requires.few)
 
-cast-at : tie.Need-overflow-cast-at invariant-loop decreases-loop
-cast-at c = record {
+overflow_cast-at : tie.Need-overflow_cast-at invariant-loop-i decreases-loop-i
+overflow_cast-at c = record {
   fits = omega
-      (arith, (c.before.before.before.before.before.requires.each c.before.before.before.loop.i c.before.before.loop-test.true).history);
+      (arith, (c.requires.each c.loop-i.i c.loop-i-test.true).history);
 }
 
-history-at-requires : tie.Need-history-at-requires invariant-loop decreases-loop
-history-at-requires c κs =
-    (c.before.before.before.before.before.requires.each c.before.before.before.loop.i c.before.before.loop-test.true).history
+history_at-h-requires : tie.Need-history_at-h-requires invariant-loop-i decreases-loop-i
+history_at-h-requires c κs =
+    (c.requires.each c.loop-i.i c.loop-i-test.true).history
 
-item-test-requires : tie.Need-item-test-requires invariant-loop decreases-loop
-item-test-requires c κs = tt
+item_test-requires : tie.Need-item_test-requires invariant-loop-i decreases-loop-i
+item_test-requires c κs = tt
 
-returns : tie.Need-returns invariant-loop decreases-loop
-returns c =
-    let a = c.before.before.before.before.before.before.before.before.args in
-    let v = c.before.before.before.before.before.before.before.before.requires in
-    sym (any_hit (test_in a.t (cells_of (histories_in a.book.now))) a.e.items no_item c.before.before.before.before.before.before.loop.i a.e.count
-    c.before.before.before.before.before.loop-test.true
-    (omega (arith, v.few, v.long)) (sym (c.before.item-test.ensures ∙ ap (λ (h : History). item_test a.t (cell_of h) (get_or a.e.items c.before.before.before.before.before.before.loop.i no_item)) c.before.before.history-at.ensures) ∙ c.if1.true))
+returns-then-item_test : tie.Need-returns-then-item_test invariant-loop-i decreases-loop-i
+returns-then-item_test c =
+    let a = c.args in
+    let v = c.requires in
+    sym (any_hit (test_in a.t (cells_of (histories_in a.book.now))) a.e.items no_item c.loop-i.i a.e.count
+    c.loop-i-test.true
+    (omega (arith, v.few, v.long)) (sym (c.item_test.ensures ∙ ap (λ (h : History). item_test a.t (cell_of h) (get_or a.e.items c.loop-i.i no_item)) c.history_at-h.ensures) ∙ c.if-item_test.true))
 
-add-i : tie.Need-overflow-add-i invariant-loop decreases-loop
-add-i c = omega (arith, c.before.before.before.before.before.before.before.before.requires.few)
+overflow_add-i : tie.Need-overflow_add-i invariant-loop-i decreases-loop-i
+overflow_add-i c = omega (arith, c.requires.few)
 
-loop-less : tie.Need-loop-smaller invariant-loop decreases-loop
-loop-less c = omega arith
+loop-i-smaller : tie.Need-loop-i-smaller invariant-loop-i decreases-loop-i
+loop-i-smaller c = omega arith
 
-loop-again : tie.Need-loop-preserved invariant-loop decreases-loop
-loop-again c =
-    let a = c.before.before.before.before.before.before.before.before.args in
-    let v = c.before.before.before.before.before.before.before.before.requires in (
+loop-i-preserved : tie.Need-loop-i-preserved invariant-loop-i decreases-loop-i
+loop-i-preserved c =
+    let a = c.args in
+    let v = c.requires in (
       omega arith,
-      any_next (test_in a.t (cells_of (histories_in a.book.now))) a.e.items no_item c.before.before.before.before.before.before.loop.i
+      any_next (test_in a.t (cells_of (histories_in a.book.now))) a.e.items no_item c.loop-i.i
           (omega (arith, v.few, v.long))
-          c.before.before.before.before.before.before.loop.invariant.1 (sym (c.before.item-test.ensures ∙ ap (λ (h : History). item_test a.t (cell_of h) (get_or a.e.items c.before.before.before.before.before.before.loop.i no_item)) c.before.before.history-at.ensures) ∙ c.if1.false),
+          c.loop-i.invariant.1 (sym (c.item_test.ensures ∙ ap (λ (h : History). item_test a.t (cell_of h) (get_or a.e.items c.loop-i.i no_item)) c.history_at-h.ensures) ∙ c.if-item_test.false),
     )
 
-returns-2 : tie.Need-returns-2 invariant-loop decreases-loop
-returns-2 c =
-    let q : c.before.loop.i ≡ c.before.before.before.args.e.count = omega arith in
-    sym (ap (λ (k : ℕ). any (test_in c.before.before.before.args.t (cells_of (histories_in c.before.before.before.args.book.now)))
-    (take k c.before.before.before.args.e.items)) (sym q) ∙ c.before.loop.invariant.1)
+returns : tie.Need-returns invariant-loop-i decreases-loop-i
+returns c =
+    let q : c.loop-i.i ≡ c.args.e.count = omega arith in
+    sym (ap (λ (k : ℕ). any (test_in c.args.t (cells_of (histories_in c.args.book.now)))
+    (take k c.args.e.items)) (sym q) ∙ c.loop-i.invariant.1)
 
-pub some-item-spec : {M : Type 1} → statement M
-some-item-spec =
+pub some_item_spec : {M : Type 1} → statement M
+some_item_spec =
     tie.close
     (tie.spec
-    invariant-loop
-    decreases-loop
-    loop-holds
-    mul-x
-    array-copy-out-x
-    cast-at
-    history-at-requires
-    item-test-requires
-    returns
-    add-i
-    loop-less
-    loop-again
-    returns-2)
+    invariant-loop-i
+    decreases-loop-i
+    loop-i-init
+    offset_bounds-items-i
+    bounds-items-i
+    overflow_cast-at
+    history_at-h-requires
+    item_test-requires
+    returns-then-item_test
+    overflow_add-i
+    loop-i-smaller
+    loop-i-preserved
+    returns)

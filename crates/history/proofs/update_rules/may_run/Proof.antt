@@ -8,50 +8,50 @@ use borrow.Author.Rules.{rules}
 use Rattle.history.proofs.update_rules.may_run.Statement.{statement}
 use Rattle.history.proofs.update_rules.may_run.Tie as tie
 
-enum_told : tie.Need-enum-told
-enum_told c = search rules
+enum_told-1 : tie.Need-enum_told-1
+enum_told-1 c = search rules
 
-sub-result : tie.Need-overflow-sub-result
-sub-result c = search rules
+overflow_sub-result : tie.Need-overflow_sub-result
+overflow_sub-result c = search rules
 
-enum-told-2 : tie.Need-enum-told-2
-enum-told-2 c = search rules
+enum_told-in-Set : tie.Need-enum_told-in-Set
+enum_told-in-Set c = search rules
 
-enum-told-3 : tie.Need-enum-told-3
-enum-told-3 c = search rules
+enum_told-in-Not : tie.Need-enum_told-in-Not
+enum_told-in-Not c = search rules
 
-enum-told-4 : tie.Need-enum-told-4
-enum-told-4 c = search rules
+enum_told-in-Unk : tie.Need-enum_told-in-Unk
+enum_told-in-Unk c = search rules
 
-returns : tie.Need-returns
-returns c = rw c.before.before.before.before.before.enum_told.given.1
-    (let a = c.before.before.before.before.before.before.before.args in eqb_iff (a.u.0 - a.c.0) 1 a.u.0 (a.c.0 + 1)
+returns-then-c-u : tie.Need-returns-then-c-u
+returns-then-c-u c = rw c.in-Inc.is
+    (let a = c.args in eqb_iff (a.u.0 - a.c.0) 1 a.u.0 (a.c.0 + 1)
     (λ e. omega arith) (λ e. omega arith))
 
-returns-2 : tie.Need-returns-2
-returns-2 c = rw c.before.before.before.enum_told.given.1
-    (let a = c.before.before.before.before.before.args in sym (ne_eqb a.u.0 (a.c.0 + 1) (λ e. omega arith)))
+returns-else-c-u : tie.Need-returns-else-c-u
+returns-else-c-u c = rw c.in-Inc.is
+    (let a = c.args in sym (ne_eqb a.u.0 (a.c.0 + 1) (λ e. omega arith)))
 
-returns-3 : tie.Need-returns-3
-returns-3 c = rw c.before.before.enum-told2.given.1
+returns-in-Set : tie.Need-returns-in-Set
+returns-in-Set c = rw c.in-Set.is
 
-returns-4 : tie.Need-returns-4
-returns-4 c = rw c.before.before.enum-told3.given.1
+returns-in-Not : tie.Need-returns-in-Not
+returns-in-Not c = rw c.in-Not.is
 
-returns-5 : tie.Need-returns-5
-returns-5 c = rw c.before.enum-told4.given.1
+returns-in-Unk : tie.Need-returns-in-Unk
+returns-in-Unk c = rw c.in-Unk.is
 
-pub may-run-spec : {M : Type 1} → statement M
-may-run-spec =
+pub may_run_spec : {M : Type 1} → statement M
+may_run_spec =
     tie.close
     (tie.spec
-    enum_told
-    sub-result
-    enum-told-2
-    enum-told-3
-    enum-told-4
-    returns
-    returns-2
-    returns-3
-    returns-4
-    returns-5)
+    enum_told-1
+    overflow_sub-result
+    enum_told-in-Set
+    enum_told-in-Not
+    enum_told-in-Unk
+    returns-then-c-u
+    returns-else-c-u
+    returns-in-Set
+    returns-in-Not
+    returns-in-Unk)

@@ -4,51 +4,51 @@ use borrow.Author.Rules.{rules}
 use Rattle.history.proofs.update_rules.operand_fits.Statement.{statement}
 use Rattle.history.proofs.update_rules.operand_fits.Tie as tie
 
-enum_told : tie.Need-enum-told
-enum_told c = search rules
+enum_told-1 : tie.Need-enum_told-1
+enum_told-1 c = search rules
 
-mul-result : tie.Need-overflow-mul-result
-mul-result c = search rules
+overflow_mul-result : tie.Need-overflow_mul-result
+overflow_mul-result c = search rules
 
-enum-told-2 : tie.Need-enum-told-2
-enum-told-2 c = search rules
+enum_told-in-Set : tie.Need-enum_told-in-Set
+enum_told-in-Set c = search rules
 
-enum-told-3 : tie.Need-enum-told-3
-enum-told-3 c = search rules
+enum_told-in-Not : tie.Need-enum_told-in-Not
+enum_told-in-Not c = search rules
 
-enum-told-4 : tie.Need-enum-told-4
-enum-told-4 c = search rules
+enum_told-in-Unk : tie.Need-enum_told-in-Unk
+enum_told-in-Unk c = search rules
 
-mul-if1 : tie.Need-overflow-mul-if1
-mul-if1 c = search rules
+overflow_mul-t-6 : tie.Need-overflow_mul-t-6
+overflow_mul-t-6 c = search rules
 
-returns : tie.Need-returns
-returns c = rw c.enum_told.given.1
+returns-in-Inc : tie.Need-returns-in-Inc
+returns-in-Inc c = rw c.in-Inc.is
 
-returns-2 : tie.Need-returns-2
-returns-2 c = rw (c.enum-told2.given.1, lt-ltb c.before.before.args.o 18446744073709551616 c.before.before.ranges.o.fits)
+returns-in-Set : tie.Need-returns-in-Set
+returns-in-Set c = rw (c.in-Set.is, lt-ltb c.args.o 18446744073709551616 c.ranges.o.fits)
 
-returns-3 : tie.Need-returns-3
-returns-3 c = rw c.enum-told3.given.1
+returns-in-Not : tie.Need-returns-in-Not
+returns-in-Not c = rw c.in-Not.is
 
-returns-4 : tie.Need-returns-4
-returns-4 c = rw (c.before.enum-told4.given.1, lt-ltb c.before.before.before.args.o 2048 c.if1.true)
+returns-then-o : tie.Need-returns-then-o
+returns-then-o c = rw (c.in-Unk.is, lt-ltb c.args.o 2048 c.if-o.true)
 
-returns-5 : tie.Need-returns-5
-returns-5 c = rw (c.before.enum-told4.given.1, le-ltb c.before.before.before.args.o 2048 c.if1.false)
+returns-else-o : tie.Need-returns-else-o
+returns-else-o c = rw (c.in-Unk.is, le-ltb c.args.o 2048 c.if-o.false)
 
-pub operand-fits-spec : {M : Type 1} → statement M
-operand-fits-spec =
+pub operand_fits_spec : {M : Type 1} → statement M
+operand_fits_spec =
     tie.close
     (tie.spec
-    enum_told
-    mul-result
-    enum-told-2
-    enum-told-3
-    enum-told-4
-    mul-if1
-    returns
-    returns-2
-    returns-3
-    returns-4
-    returns-5)
+    enum_told-1
+    overflow_mul-result
+    enum_told-in-Set
+    enum_told-in-Not
+    enum_told-in-Unk
+    overflow_mul-t-6
+    returns-in-Inc
+    returns-in-Set
+    returns-in-Not
+    returns-then-o
+    returns-else-o)

@@ -9,54 +9,54 @@ use borrow.Author.Rules.{rules}
 use Rattle.history.proofs.update_rules.profile_after.Statement.{statement}
 use Rattle.history.proofs.update_rules.profile_after.Tie as tie
 
-enum_told : tie.Need-enum-told
-enum_told c = search rules
+enum_told-1 : tie.Need-enum_told-1
+enum_told-1 c = search rules
 
-replace-part-requires : tie.Need-replace-part-requires
-replace-part-requires c κs =
-    let a = c.before.before.args in
-    let p = c.before.before.requires in
-    ltb-true a.operand 2048 (subst (λ (r : Rule). operand_fits r p.0 a.operand ≡ true) c.enum_told.given.1 p.1)
+replace_part-requires : tie.Need-replace_part-requires
+replace_part-requires c κs =
+    let a = c.args in
+    let p = c.requires in
+    ltb-true a.operand 2048 (subst (λ (r : Rule). operand_fits r p.0 a.operand ≡ true) c.in-Inc.is p.1)
 
-enum-told-2 : tie.Need-enum-told-2
-enum-told-2 c = search rules
+enum_told-in-Set : tie.Need-enum_told-in-Set
+enum_told-in-Set c = search rules
 
-enum-told-3 : tie.Need-enum-told-3
-enum-told-3 c = search rules
+enum_told-in-Not : tie.Need-enum_told-in-Not
+enum_told-in-Not c = search rules
 
-enum-told-4 : tie.Need-enum-told-4
-enum-told-4 c = search rules
+enum_told-in-Unk : tie.Need-enum_told-in-Unk
+enum_told-in-Unk c = search rules
 
-replace-part-requires-2 : tie.Need-replace-part-requires-2
-replace-part-requires-2 c κs =
-    let a = c.before.before.args in
-    let p = c.before.before.requires in
-    let fits = subst (λ (r : Rule). operand_fits r p.0 a.operand ≡ true) c.enum-told4.given.1 p.1 in
+replace_part-requires-in-Unk : tie.Need-replace_part-requires-in-Unk
+replace_part-requires-in-Unk c κs =
+    let a = c.args in
+    let p = c.requires in
+    let fits = subst (λ (r : Rule). operand_fits r p.0 a.operand ≡ true) c.in-Unk.is p.1 in
     ltb-true a.operand 2048 (and_true_parts _ _ fits).0
 
-returns : tie.Need-returns
-returns c = rw c.before.enum_told.given.1 c.replace-part.ensures
+returns-in-Inc : tie.Need-returns-in-Inc
+returns-in-Inc c = rw c.in-Inc.is c.replace_part.ensures
 
-returns-2 : tie.Need-returns-2
-returns-2 c = search rules
+returns-in-Set : tie.Need-returns-in-Set
+returns-in-Set c = search rules
 
-returns-3 : tie.Need-returns-3
-returns-3 c = search rules
+returns-in-Not : tie.Need-returns-in-Not
+returns-in-Not c = search rules
 
-returns-4 : tie.Need-returns-4
-returns-4 c = rw c.before.enum-told4.given.1 c.replace-part2.ensures
+returns-in-Unk : tie.Need-returns-in-Unk
+returns-in-Unk c = rw c.in-Unk.is c.replace_part-in-Unk.ensures
 
-pub profile-after-spec : {M : Type 1} → statement M
-profile-after-spec =
+pub profile_after_spec : {M : Type 1} → statement M
+profile_after_spec =
     tie.close
     (tie.spec
-    enum_told
-    replace-part-requires
-    enum-told-2
-    enum-told-3
-    enum-told-4
-    replace-part-requires-2
-    returns
-    returns-2
-    returns-3
-    returns-4)
+    enum_told-1
+    replace_part-requires
+    enum_told-in-Set
+    enum_told-in-Not
+    enum_told-in-Unk
+    replace_part-requires-in-Unk
+    returns-in-Inc
+    returns-in-Set
+    returns-in-Not
+    returns-in-Unk)

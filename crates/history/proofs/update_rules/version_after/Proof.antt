@@ -6,46 +6,46 @@ use borrow.Author.Rules.{rules}
 use Rattle.history.proofs.update_rules.version_after.Statement.{statement}
 use Rattle.history.proofs.update_rules.version_after.Tie as tie
 
-enum_told : tie.Need-enum-told
-enum_told c = search rules
+enum_told-1 : tie.Need-enum_told-1
+enum_told-1 c = search rules
 
-enum-told-2 : tie.Need-enum-told-2
-enum-told-2 c = search rules
+enum_told-in-Set : tie.Need-enum_told-in-Set
+enum_told-in-Set c = search rules
 
-enum-told-3 : tie.Need-enum-told-3
-enum-told-3 c = search rules
+enum_told-in-Not : tie.Need-enum_told-in-Not
+enum_told-in-Not c = search rules
 
-enum-told-4 : tie.Need-enum-told-4
-enum-told-4 c = search rules
+enum_told-in-Unk : tie.Need-enum_told-in-Unk
+enum_told-in-Unk c = search rules
 
-add-t5 : tie.Need-overflow-add-t5
-add-t5 c =
-    let a = c.before.before.before.args in
-    let h : a.c.0 < top = c.before.before.before.requires c.before.enum-told4.given.1 in
+overflow_add-result : tie.Need-overflow_add-result
+overflow_add-result c =
+    let a = c.args in
+    let h : a.c.0 < top = c.requires c.in-Unk.is in
     record { fits = omega arith }
 
-returns : tie.Need-returns
-returns c = search rules
+returns-in-Inc : tie.Need-returns-in-Inc
+returns-in-Inc c = search rules
 
-returns-2 : tie.Need-returns-2
-returns-2 c = search rules
+returns-in-Set : tie.Need-returns-in-Set
+returns-in-Set c = search rules
 
-returns-3 : tie.Need-returns-3
-returns-3 c = search rules
+returns-in-Not : tie.Need-returns-in-Not
+returns-in-Not c = search rules
 
-returns-4 : tie.Need-returns-4
-returns-4 c = rw c.before.enum-told4.given.1
+returns-in-Unk : tie.Need-returns-in-Unk
+returns-in-Unk c = rw c.in-Unk.is
 
-pub version-after-spec : {M : Type 1} → statement M
-version-after-spec =
+pub version_after_spec : {M : Type 1} → statement M
+version_after_spec =
     tie.close
     (tie.spec
-    enum_told
-    enum-told-2
-    enum-told-3
-    enum-told-4
-    add-t5
-    returns
-    returns-2
-    returns-3
-    returns-4)
+    enum_told-1
+    enum_told-in-Set
+    enum_told-in-Not
+    enum_told-in-Unk
+    overflow_add-result
+    returns-in-Inc
+    returns-in-Set
+    returns-in-Not
+    returns-in-Unk)
