@@ -1,6 +1,5 @@
 // The card of the last W lines of a log, counted afresh and following.
 ghost use Rattle.rules.specs.Calls.{restart};
-ghost use Rattle.table.specs.Ends.{was, left};
 ghost use Rattle.c_api.specs.Cards.{TakesUp, SomeUp, CardsOf, CanGoOn, CardsOn, CardsAfter};
 
 use card::counts::Counts;
@@ -20,7 +19,7 @@ enum Taken {
 
 // Takes a site up from the first `kept` bytes of a log.
 fn take_up(log: &[u8], kept: usize) -> Taken
-    ensures { TakesUp (restart (was log) kept) (was log) result }
+    ensures { TakesUp (restart log.now kept) log.now result }
 {
     let mut rows = [0u64; Site::LIVE * ROW];
     let mut order = [0u8; Site::LIVE];
@@ -38,7 +37,7 @@ fn take_up(log: &[u8], kept: usize) -> Taken
 // The card of a site, counted afresh: the number of a refusal, or 1,000 more than the lines that count.
 fn card_afresh(site: Site, log: &[u8], w: u64, counts: &mut Counts) -> u64
     requires { SomeUp site log.now }
-    ensures { CardsOf site (was log) w (was counts) result (left counts) }
+    ensures { CardsOf site log.now w counts.old result counts.new }
 {
     let used = site.used;
     match Card::afresh(w, &log[..used], site.count, site.head, counts) {
@@ -50,7 +49,7 @@ fn card_afresh(site: Site, log: &[u8], w: u64, counts: &mut Counts) -> u64
 // .. counted afresh of a log that goes on, and following it.
 fn card_on(first: Site, site: Site, log: &[u8], w: u64, counts: &mut Counts) -> u64
     requires { CanGoOn first site log.now }
-    ensures { CardsOn first site (was log) w (was counts) result (left counts) }
+    ensures { CardsOn first site log.now w counts.old result counts.new }
 {
     let begun = first.used;
     let used = site.used;
@@ -74,7 +73,7 @@ pub extern "C" fn log_card(
     w: u64,
     counts: &mut Counts,
 ) -> u64
-    ensures { CardsAfter w (restart (was log) begun) (restart (was log) kept) (was counts) result (left counts) }
+    ensures { CardsAfter w (restart log.old begun) (restart log.old kept) counts.old result counts.new }
 {
     let a = match take_up(log, begun) {
         Taken::Refused(q) => return refusal_number(q),

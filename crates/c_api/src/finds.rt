@@ -1,7 +1,6 @@
 // The cut of a log that leaves given places.
 ghost use Rattle.std.specs.Prelude.{◌≡◌};
 ghost use Rattle.rules.specs.Calls.{restart};
-ghost use Rattle.table.specs.Ends.{was};
 ghost use Rattle.c_api.specs.Finds.{find_after};
 
 use find_cut::cut_number;
@@ -15,7 +14,7 @@ use table::rows::ROW;
 // number of a refusal, of the restart or 21, or 1,000 more than that number.
 #[unsafe(no_mangle)]
 pub extern "C" fn log_find_cut(log: &[u8], kept: usize, places: &[u64]) -> u64
-    ensures { result ≡ find_after (was places) (restart (was log) kept) }
+    ensures { result ≡ find_after places.old (restart log.old kept) }
 {
     let mut rows = [0u64; Site::LIVE * ROW];
     let mut order = [0u8; Site::LIVE];

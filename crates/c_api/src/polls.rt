@@ -1,6 +1,6 @@
 // A whole session over lent buffers, and polls of its site's histories at its end.
 ghost use Rattle.std.specs.Prelude.{◌≡◌, map};
-ghost use Rattle.table.specs.Ends.{was, left};
+ghost use Rattle.table.specs.Ends.{left};
 ghost use Rattle.c_api.specs.Polls.{session_poll, OpenWith, WithBook, PlaysPolls};
 
 use call_words::OUT_OF_TURN;
@@ -26,7 +26,7 @@ fn session_poll(session: Session, book: &BookWords, h: u64) -> u64
 // Each number becomes what the poll of the history with this number gives.
 fn poll_each(session: Session, book: &BookWords, histories: &mut [u64])
     requires { OpenWith session book.now }
-    ensures { WithBook session book (λ st. left histories ≡ map (session_poll st) (was histories)) }
+    ensures { WithBook session book (λ st. left histories ≡ map (session_poll st) histories.old) }
 {
     let mut i: usize = 0;
     while i < histories.len() {
@@ -45,7 +45,7 @@ pub extern "C" fn session_polls(
     out: &mut [u8],
     histories: &mut [u64],
 ) -> usize
-    ensures { PlaysPolls (was input) (was log) result (left log) (was out) (left out) (was histories) (left histories) }
+    ensures { PlaysPolls input.old log.old result log.new out.old out.new histories.old histories.new }
 {
     let mut rows = [0u64; Site::LIVE * ROW];
     let mut order = [0u8; Site::LIVE];

@@ -1,7 +1,6 @@
 // Which fittings must be taken back.
 ghost use Rattle.std.specs.Prelude.{◌≡◌, ℕ, ◌+◌, ◌≤◌, length};
 ghost use Rattle.recovery.specs.Removal.{pairs_of, report};
-ghost use Rattle.table.specs.Ends.{was, left};
 ghost use Rattle.removal.specs.declared.Removals.TheVariants.{Named};
 ghost use Rattle.c_api.specs.Removals.{removals_number, RepliesRemovals};
 
@@ -24,7 +23,7 @@ fn removals_number(r: Removals) -> u64
 // Pairs are line and transaction in turn; a last number without a partner is no pair.
 #[unsafe(no_mangle)]
 pub extern "C" fn log_removals(log: &[u8], pairs: &[u64], lost: &[u64], out: &mut [u64]) -> u64
-    ensures { RepliesRemovals (report (was log) (pairs_of (was pairs)) (was lost) (length (was out))) (was out) result (left out) }
+    ensures { RepliesRemovals (report log.old (pairs_of pairs.old) lost.old (length out.old)) out.old result out.new }
 {
     let r = removal::report(log, pairs, lost, out);
     removals_number(r)

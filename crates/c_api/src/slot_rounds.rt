@@ -1,7 +1,6 @@
 // Calls of a slot of a module without text, one round after the other: for measuring what they cost beside those of a site (rounds.rt).
 ghost use Rattle.std.specs.Prelude.{[], ◌<◌, length};
 ghost use Rattle.compact.specs.Module.{Move, reply_of, made};
-ghost use Rattle.table.specs.Ends.{was, left};
 ghost use Rattle.site.specs.Model.{lent, received, old, new};
 ghost use Rattle.c_api.specs.Rounds.{work_calls, mark_calls, round_calls, Rounds};
 ghost use Rattle.c_api.specs.SlotRounds.{LoneIn, ReachesIn, Serves};
@@ -88,7 +87,7 @@ fn slot_serve(
     n: u64,
 ) -> usize
     requires { LoneIn slot first (received log rows numbers book) }
-    ensures { Serves slot first (lent (was log) (was rows) (was numbers) (was book) []) n result (left log) }
+    ensures { Serves slot first (lent log.old rows.old numbers.old book.old []) n result log.new }
 {
     let mut m = first;
     let mut lists = [0u64; 68];

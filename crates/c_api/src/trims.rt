@@ -1,7 +1,6 @@
 // A copy of a log with a base line in place of its first operations.
 ghost use Rattle.std.specs.Prelude.{◌≡◌, ℕ, ◌+◌, ◌≤◌};
 ghost use Rattle.rules.specs.Calls.{restart};
-ghost use Rattle.table.specs.Ends.{was, left};
 ghost use Rattle.trim.specs.declared.Copied.TheVariants.{Used};
 ghost use Rattle.c_api.specs.Trims.{copied_number, trim_after, Trims};
 
@@ -27,7 +26,7 @@ fn copied_number(r: Copied) -> u64
 // operations: the number of a refusal, of the restart or of the trim, or 1,000 more than the bytes used there.
 #[unsafe(no_mangle)]
 pub extern "C" fn log_trim(log: &[u8], kept: usize, n: u64, fresh: &mut [u8]) -> u64
-    ensures { Trims (trim_after n (was fresh) (restart (was log) kept)) (was fresh) result (left fresh) }
+    ensures { Trims (trim_after n fresh.old (restart log.old kept)) fresh.old result fresh.new }
 {
     let mut rows = [0u64; Site::LIVE * ROW];
     let mut order = [0u8; Site::LIVE];

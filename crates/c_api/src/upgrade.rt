@@ -1,7 +1,7 @@
 // The changeover of a log that was written before there were stable lines.
 ghost use Rattle.std.specs.Prelude.{◌≡◌, ℕ, ◌+◌, ◌≤◌};
 ghost use Rattle.rules.specs.OldLog.{upgrade};
-ghost use Rattle.table.specs.Ends.{was, left};
+ghost use Rattle.table.specs.Ends.{was};
 ghost use Rattle.older_log.specs.declared.Changeover.TheVariants.{Used};
 ghost use Rattle.c_api.specs.Changeovers.{changeover_number, ChangesOver};
 
@@ -22,7 +22,7 @@ fn changeover_number(r: Changeover) -> u64
 // Gives the older log in the first `kept` bytes its stable line: a refusal's number, or 1,000 more than the bytes in use after it.
 #[unsafe(no_mangle)]
 pub extern "C" fn log_upgrade(log: &mut [u8], kept: usize) -> u64
-    ensures { ChangesOver (upgrade (was log) kept) (was log) result (left log) }
+    ensures { ChangesOver (upgrade log.old kept) log.old result log.new }
 {
     let r = upgrade(log, kept);
     changeover_number(r)

@@ -37,7 +37,7 @@ fn asked_of(rule: u64, history: u64, version: u64, operand: u64) -> Asked
 
 // The updates that numbers are.
 pub fn held_in(words: &Updates, count: usize) -> AskedHeld
-    ensures { result ≡ held_in count (was words) }
+    ensures { result ≡ held_in count words.now }
 {
     let a = asked_of(words[0], words[1], words[2], words[3]);
     let b = asked_of(words[4], words[5], words[6], words[7]);
@@ -51,7 +51,7 @@ pub fn held_in(words: &Updates, count: usize) -> AskedHeld
 
 // Whether the four rules' numbers are those of rules.
 pub fn rules_known(words: &Updates) -> bool
-    ensures { result ≡ rules_known (was words) }
+    ensures { result ≡ rules_known words.now }
 {
     if words[0] <= 3 {
         if words[4] <= 3 {

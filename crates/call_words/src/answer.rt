@@ -1,6 +1,5 @@
 // What a call without text replies: numbers.
 ghost use Rattle.std.specs.Prelude.{◌≡◌};
-ghost use Rattle.table.specs.Ends.{was, left};
 ghost use Rattle.call_words.specs.Answers.{form_number, answer_words, PutsAnswer};
 
 use forms::writer::refusal_number;
@@ -49,7 +48,7 @@ fn answer_of(r: ReplyLine) -> Answer
 
 // 0, and the answer is the reply's; or the number of the refusal.
 pub fn put_answer(answer: &mut Answer, r: ReplyLine) -> u64
-    ensures { PutsAnswer r result (was answer) (left answer) }
+    ensures { PutsAnswer r result answer.old answer.new }
 {
     let form = r.form;
     let n = reply_number(form);

@@ -4,7 +4,6 @@ ghost use Rattle.forms.specs.Forms.{outcome_text};
 ghost use Rattle.forms.specs.Held.{replied, outcome_of};
 ghost use Rattle.forms.specs.Limits.{reply_limit};
 ghost use Rattle.forms.specs.Write.{Wrote, with_end};
-ghost use Rattle.table.specs.Ends.{was, left};
 ghost use Rattle.site.specs.Model.{Printable};
 
 use forms::writer::Written;
@@ -15,7 +14,7 @@ use session::write_turn;
 pub fn put_reply(out: &mut [u8], r: ReplyLine, lists: &ReplyNumbers) -> usize
     requires printable { Printable (replied r lists.now) }
     requires reply_limit_in_bounds { reply_limit ≤ length out.old }
-    ensures { Wrote (was out) 0 (with_end (outcome_text (outcome_of (replied r (was lists))))) result (left out) }
+    ensures { Wrote out.old 0 (with_end (outcome_text (outcome_of (replied r lists.now)))) result out.new }
 {
     match write_turn(out, 0, r, lists) {
         Written::At(n) => n,

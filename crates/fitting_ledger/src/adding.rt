@@ -1,5 +1,4 @@
 // An operation is added on numbers.
-ghost use Rattle.table.specs.Ends.{was, left};
 ghost use Rattle.site.specs.Model.{received, old, new};
 ghost use Rattle.fitting_ledger.specs.Model.{ValidState};
 ghost use Rattle.fitting_ledger.specs.Adding.{PerformsAdd};
@@ -29,8 +28,8 @@ pub extern "C" fn fl_add_parts(
     count: usize,
 ) -> u64
     requires { ValidState counters.old (received log rows order book) }
-    ensures { PerformsAdd (was counters) (old log rows order book numbers) id count (was updates) result (left counters)
-        (new log rows order book numbers) (was answer) (left answer) }
+    ensures { PerformsAdd counters.old (old log rows order book numbers) id count updates.old result counters.new
+        (new log rows order book numbers) answer.old answer.new }
 {
     if rules_known(updates) {
         let asked = held_in(updates, count);

@@ -1,5 +1,5 @@
 // What an open site hands back, put away.
-ghost use Rattle.table.specs.Ends.{was, left};
+ghost use Rattle.table.specs.Ends.{was};
 ghost use Rattle.fitting_ledger.specs.Calls.{PutsCall};
 
 use super::counters::{Counters, put_session};
@@ -9,7 +9,7 @@ use site::CallResult;
 
 // What an open site handed back: its counters, and, where the call was accepted, the answer.
 pub(crate) fn put_call(counters: &mut Counters, answer: &mut Answer, r: CallResult) -> u64
-    ensures { PutsCall r result (left counters) (was answer) (left answer) }
+    ensures { PutsCall r result counters.new answer.old answer.new }
 {
     let site = r.site;
     let reply = r.reply;

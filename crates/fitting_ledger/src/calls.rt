@@ -1,7 +1,6 @@
 // Calls of an open site on numbers, whose replies have lists: 0, or the number of the refusal. The lists stand in `numbers`, the second
 // behind the first; `answer` has the rest of the reply. A refusal changes neither.
 ghost use Rattle.rules.specs.Calls.{Call};
-ghost use Rattle.table.specs.Ends.{was, left};
 ghost use Rattle.site.specs.Model.{received, old, new};
 ghost use Rattle.fitting_ledger.specs.Model.{ValidState};
 ghost use Rattle.fitting_ledger.specs.Calls.{PerformsCall};
@@ -28,8 +27,8 @@ pub extern "C" fn fl_finish_parts(
     id: u64,
 ) -> u64
     requires { ValidState counters.old (received log rows order book) }
-    ensures { PerformsCall (was counters) (old log rows order book numbers) (Call.Finish id) result (left counters)
-        (new log rows order book numbers) (was answer) (left answer) }
+    ensures { PerformsCall counters.old (old log rows order book numbers) (Call.Finish id) result counters.new
+        (new log rows order book numbers) answer.old answer.new }
 {
     let s = session_at(counters);
     if s.opened {
@@ -53,8 +52,8 @@ pub extern "C" fn fl_withdraw_parts(
     id: u64,
 ) -> u64
     requires { ValidState counters.old (received log rows order book) }
-    ensures { PerformsCall (was counters) (old log rows order book numbers) (Call.Withdraw id) result (left counters)
-        (new log rows order book numbers) (was answer) (left answer) }
+    ensures { PerformsCall counters.old (old log rows order book numbers) (Call.Withdraw id) result counters.new
+        (new log rows order book numbers) answer.old answer.new }
 {
     let s = session_at(counters);
     if s.opened {
@@ -78,8 +77,8 @@ pub extern "C" fn fl_persistent_parts(
     n: u64,
 ) -> u64
     requires { ValidState counters.old (received log rows order book) }
-    ensures { PerformsCall (was counters) (old log rows order book numbers) (Call.Persistent n) result (left counters)
-        (new log rows order book numbers) (was answer) (left answer) }
+    ensures { PerformsCall counters.old (old log rows order book numbers) (Call.Persistent n) result counters.new
+        (new log rows order book numbers) answer.old answer.new }
 {
     let s = session_at(counters);
     if s.opened {
@@ -103,8 +102,8 @@ pub extern "C" fn fl_stable_parts(
     n: u64,
 ) -> u64
     requires { ValidState counters.old (received log rows order book) }
-    ensures { PerformsCall (was counters) (old log rows order book numbers) (Call.Stable n) result (left counters)
-        (new log rows order book numbers) (was answer) (left answer) }
+    ensures { PerformsCall counters.old (old log rows order book numbers) (Call.Stable n) result counters.new
+        (new log rows order book numbers) answer.old answer.new }
 {
     let s = session_at(counters);
     if s.opened {
@@ -127,8 +126,8 @@ pub extern "C" fn fl_end_parts(
     answer: &mut Answer,
 ) -> u64
     requires { ValidState counters.old (received log rows order book) }
-    ensures { PerformsCall (was counters) (old log rows order book numbers) Call.End result (left counters)
-        (new log rows order book numbers) (was answer) (left answer) }
+    ensures { PerformsCall counters.old (old log rows order book numbers) Call.End result counters.new
+        (new log rows order book numbers) answer.old answer.new }
 {
     let s = session_at(counters);
     if s.opened {

@@ -1,6 +1,5 @@
 // The card of the last W lines of the site's log (02 (j)), counted afresh whenever it is asked for.
 ghost use Rattle.std.specs.Prelude.{◌≡◌, []};
-ghost use Rattle.table.specs.Ends.{was, left};
 ghost use Rattle.site.specs.Model.{received, old_with};
 ghost use Rattle.fitting_ledger.specs.Model.{ValidState, state_at};
 ghost use Rattle.fitting_ledger.specs.Cards.{made_number, made_lines, CardsState};
@@ -45,8 +44,8 @@ pub extern "C" fn fl_card_parts(
     lines: &mut usize,
 ) -> u64
     requires { ValidState counters.now (received log rows order book) }
-    ensures { CardsState w (state_at (was counters) (old_with [] log rows order book)) (was counts) lines.old result
-        (left counts) lines.new }
+    ensures { CardsState w (state_at counters.old (old_with [] log rows order book)) counts.old lines.old result
+        counts.new lines.new }
 {
     let s = session_at(counters);
     if s.opened {

@@ -18,7 +18,7 @@ pub type Counters = [u64; COUNTERS];
 
 // The session whose counters these are.
 pub fn session_at(words: &Counters) -> Session
-    ensures { result ≡ session_at (was words) }
+    ensures { result ≡ session_at words.now }
 {
     let table = Table {
         finished: words[11] as usize,

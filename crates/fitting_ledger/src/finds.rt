@@ -1,6 +1,5 @@
 // The cut of the site's log that leaves given places.
 ghost use Rattle.std.specs.Prelude.{◌≡◌, []};
-ghost use Rattle.table.specs.Ends.{was};
 ghost use Rattle.site.specs.Model.{received, old_with};
 ghost use Rattle.fitting_ledger.specs.Model.{ValidState};
 ghost use Rattle.fitting_ledger.specs.Finds.{found_number, found_kept, FindsState};
@@ -39,7 +38,7 @@ pub extern "C" fn fl_find_cut_parts(
     kept: &mut usize,
 ) -> u64
     requires { ValidState counters.now (received log rows order book) }
-    ensures { FindsState (was counters) (old_with [] log rows order book) (was places) result kept.old kept.new }
+    ensures { FindsState counters.old (old_with [] log rows order book) places.old result kept.old kept.new }
 {
     let s = session_at(counters);
     if s.opened {

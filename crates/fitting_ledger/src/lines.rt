@@ -1,7 +1,6 @@
 // A line in, a reply out, and how much of the log is in use.
 ghost use Rattle.std.specs.Prelude.{◌≡◌, [], length};
 ghost use Rattle.rules.specs.Session.{turn};
-ghost use Rattle.table.specs.Ends.{was, left};
 ghost use Rattle.site.specs.Model.{received, old_with, new_with};
 ghost use Rattle.call_words.specs.Used.{used_by};
 ghost use Rattle.fitting_ledger.specs.Model.{ValidState, state_at, AnswersIfRoom};
@@ -26,9 +25,9 @@ pub extern "C" fn fl_line_parts(
     out: &mut [u8],
 ) -> usize
     requires { ValidState counters.old (received log rows order book) }
-    ensures { AnswersIfRoom (was counters) (old_with [] log rows order book)
-        (turn (length (was log)) (was line) (state_at (was counters) (old_with [] log rows order book)))
-        result (left counters) (new_with [] log rows order book) (was out) (left out) }
+    ensures { AnswersIfRoom counters.old (old_with [] log rows order book)
+        (turn (length log.old) line.old (state_at counters.old (old_with [] log rows order book)))
+        result counters.new (new_with [] log rows order book) out.old out.new }
 {
     if out.len() < REPLY_BYTES {
         return REPLY_BYTES;
@@ -52,7 +51,7 @@ pub extern "C" fn fl_log_used_parts(
     book: &BookWords,
 ) -> usize
     requires { ValidState counters.now (received log rows order book) }
-    ensures { result ≡ used_by (state_at (was counters) (old_with [] log rows order book)) }
+    ensures { result ≡ used_by (state_at counters.old (old_with [] log rows order book)) }
 {
     let s = session_at(counters);
     let site = s.site;

@@ -1,7 +1,6 @@
 // Calls of an open site on numbers, whose replies have no lists: 0, or the number of the refusal.
 ghost use Rattle.std.specs.Prelude.{[], length};
 ghost use Rattle.rules.specs.Calls.{Call};
-ghost use Rattle.table.specs.Ends.{was, left};
 ghost use Rattle.site.specs.Model.{received, old_with, new_with};
 ghost use Rattle.fitting_ledger.specs.Model.{ValidState};
 ghost use Rattle.fitting_ledger.specs.Calls.{PerformsCall};
@@ -26,8 +25,8 @@ pub extern "C" fn fl_show_parts(
     history: u64,
 ) -> u64
     requires { ValidState counters.old (received log rows order book) }
-    ensures { PerformsCall (was counters) (old_with [] log rows order book) (Call.Show history) result (left counters)
-        (new_with [] log rows order book) (was answer) (left answer) }
+    ensures { PerformsCall counters.old (old_with [] log rows order book) (Call.Show history) result counters.new
+        (new_with [] log rows order book) answer.old answer.new }
 {
     let s = session_at(counters);
     if s.opened {
@@ -50,8 +49,8 @@ pub extern "C" fn fl_cut_parts(
     k: u64,
 ) -> u64
     requires { ValidState counters.old (received log rows order book) }
-    ensures { PerformsCall (was counters) (old_with [] log rows order book) (Call.Cut k (length (was log))) result (left counters)
-        (new_with [] log rows order book) (was answer) (left answer) }
+    ensures { PerformsCall counters.old (old_with [] log rows order book) (Call.Cut k (length log.old)) result counters.new
+        (new_with [] log rows order book) answer.old answer.new }
 {
     let s = session_at(counters);
     if s.opened {
@@ -74,8 +73,8 @@ pub extern "C" fn fl_redo_parts(
     line: &[u8],
 ) -> u64
     requires { ValidState counters.old (received log rows order book) }
-    ensures { PerformsCall (was counters) (old_with [] log rows order book) (Call.Redo (was line)) result (left counters)
-        (new_with [] log rows order book) (was answer) (left answer) }
+    ensures { PerformsCall counters.old (old_with [] log rows order book) (Call.Redo line.old) result counters.new
+        (new_with [] log rows order book) answer.old answer.new }
 {
     let s = session_at(counters);
     if s.opened {

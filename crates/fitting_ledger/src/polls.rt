@@ -1,6 +1,5 @@
 // The poll of a history of the site.
 ghost use Rattle.std.specs.Prelude.{◌≡◌, []};
-ghost use Rattle.table.specs.Ends.{was};
 ghost use Rattle.site.specs.Model.{received, old_with};
 ghost use Rattle.fitting_ledger.specs.Model.{ValidState, state_at};
 ghost use Rattle.fitting_ledger.specs.Polls.{poll_of};
@@ -23,7 +22,7 @@ pub extern "C" fn fl_poll_parts(
     history: u64,
 ) -> u64
     requires { ValidState counters.now (received log rows order book) }
-    ensures { result ≡ poll_of (state_at (was counters) (old_with [] log rows order book)) history }
+    ensures { result ≡ poll_of (state_at counters.old (old_with [] log rows order book)) history }
 {
     let s = session_at(counters);
     if s.opened {

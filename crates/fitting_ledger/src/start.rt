@@ -43,7 +43,7 @@ pub extern "C" fn fl_start_parts(
     book: &mut BookWords,
     histories: u64,
 ) -> u64
-    ensures { Begins (old_with [] log rows order book) (open_site histories (length (was log))) result (left counters)
+    ensures { Begins (old_with [] log rows order book) (open_site histories (length log.old)) result counters.new
         (new_with [] log rows order book) }
 {
     let c = Site::open(log, rows, order, book, histories);
@@ -60,7 +60,7 @@ pub extern "C" fn fl_restart_parts(
     book: &mut BookWords,
     kept: usize,
 ) -> u64
-    ensures { Begins (old_with [] log rows order book) (restart (was log) kept) result (left counters)
+    ensures { Begins (old_with [] log rows order book) (restart log.old kept) result counters.new
         (new_with [] log rows order book) }
 {
     let c = Site::restart(log, rows, order, book, kept);

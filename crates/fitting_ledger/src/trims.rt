@@ -1,6 +1,5 @@
 // A copy of the site's log with a base line in place of its first operations.
 ghost use Rattle.std.specs.Prelude.{[]};
-ghost use Rattle.table.specs.Ends.{was, left};
 ghost use Rattle.site.specs.Model.{received, old_with};
 ghost use Rattle.fitting_ledger.specs.Model.{ValidState};
 ghost use Rattle.fitting_ledger.specs.Trims.{TrimsState};
@@ -28,7 +27,7 @@ pub extern "C" fn fl_trim_parts(
     used: &mut usize,
 ) -> u64
     requires { ValidState counters.now (received log rows order book) }
-    ensures { TrimsState (was counters) (old_with [] log rows order book) n (was fresh) result (left fresh)
+    ensures { TrimsState counters.old (old_with [] log rows order book) n fresh.old result fresh.new
         used.old used.new }
 {
     let s = session_at(counters);

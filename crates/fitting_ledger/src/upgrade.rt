@@ -1,6 +1,6 @@
 // The changeover of a log that was written before there were stable lines.
 ghost use Rattle.rules.specs.OldLog.{upgrade};
-ghost use Rattle.table.specs.Ends.{was, left};
+ghost use Rattle.table.specs.Ends.{was};
 ghost use Rattle.fitting_ledger.specs.Changeovers.{ChangesOver};
 
 use forms::writer::refusal_number;
@@ -9,7 +9,7 @@ use older_log::{Changeover, upgrade};
 // Gives the older log in the first `kept` bytes its stable line: 0, and `used` is the bytes in use after it; or the number of the refusal.
 #[unsafe(no_mangle)]
 pub extern "C" fn fl_upgrade(log: &mut [u8], kept: usize, used: &mut usize) -> u64
-    ensures { ChangesOver (upgrade (was log) kept) (was log) result (left log) used.old used.new }
+    ensures { ChangesOver (upgrade log.old kept) log.old result log.new used.old used.new }
 {
     match upgrade(log, kept) {
         Changeover::Used(n) => {

@@ -1,6 +1,6 @@
 -- The state that a module's owner lends, as the specification has it: its invariant, and what a call makes of it.
 use Rattle.std.specs.Prelude.{ℕ, ◌+◌, ◌*◌, ◌≤◌, ◌<◌, ◌≡◌, List, drop, get_or}
-use Rattle.std.specs.Borrow.{Bor}
+use Rattle.std.specs.Borrow.{MutBor}
 use Rattle.rules.specs.State.{Reply, refused, ok}
 use Rattle.compact.specs.Module.{Module as ModuleState}
 use Rattle.history.specs.Words.{width}
@@ -15,7 +15,7 @@ use Rattle.fitting_module.specs.Words.{Words, words, module_at, words_in}
 -- ### The state
 
 -- The four slots' counters: in a `requires`, as they came, and as they are left.
-abbrev pub counters : Bor (List ℕ) → Bor (List ℕ) → Bor (List ℕ) → Bor (List ℕ) → Words
+abbrev pub counters : MutBor (List ℕ) → MutBor (List ℕ) → MutBor (List ℕ) → MutBor (List ℕ) → Words
 counters a b c d = words a.now b.now c.now d.now
 
 abbrev pub old_counters : Ends → Ends → Ends → Ends → Words

@@ -1,5 +1,4 @@
 // An operation is added to a slot on numbers.
-ghost use Rattle.table.specs.Ends.{was, left};
 ghost use Rattle.site.specs.Model.{received, old, new};
 ghost use Rattle.fitting_module.specs.Model.{counters, old_counters, new_counters, ValidState};
 ghost use Rattle.fitting_module.specs.Calls.{PerformsAdd};
@@ -32,8 +31,8 @@ pub extern "C" fn fm_add_parts(
     count: usize,
 ) -> u64
     requires { ValidState (counters first second third fourth) slot (received log rows numbers book) }
-    ensures { PerformsAdd slot (old_counters first second third fourth) (old log rows numbers book lists) id count (was updates) result
-        (new_counters first second third fourth) (new log rows numbers book lists) (was answer) (left answer) }
+    ensures { PerformsAdd slot (old_counters first second third fourth) (old log rows numbers book lists) id count updates.old result
+        (new_counters first second third fourth) (new log rows numbers book lists) answer.old answer.new }
 {
     if rules_known(updates) {
         let asked = held_in(updates, count);

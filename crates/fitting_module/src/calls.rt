@@ -1,7 +1,6 @@
 // Calls of a slot on numbers, whose replies have lists: 0, or the number of the refusal. The lists stand in `lists`, the second behind the
 // first; `answer` has the rest of the reply. A refusal changes neither.
 ghost use Rattle.rules.specs.Calls.{Call};
-ghost use Rattle.table.specs.Ends.{was, left};
 ghost use Rattle.site.specs.Model.{received, old, new};
 ghost use Rattle.fitting_module.specs.Model.{counters, old_counters, new_counters, ValidState};
 ghost use Rattle.fitting_module.specs.Calls.{PerformsCall};
@@ -31,7 +30,7 @@ pub extern "C" fn fm_finish_parts(
 ) -> u64
     requires { ValidState (counters first second third fourth) slot (received log rows numbers book) }
     ensures { PerformsCall slot (old_counters first second third fourth) (old log rows numbers book lists) (Call.Finish id) result
-        (new_counters first second third fourth) (new log rows numbers book lists) (was answer) (left answer) }
+        (new_counters first second third fourth) (new log rows numbers book lists) answer.old answer.new }
 {
     let m = module_at(first, second, third, fourth);
     let r = m.finish(slot, log, rows, numbers, book, lists, id);
@@ -56,7 +55,7 @@ pub extern "C" fn fm_withdraw_parts(
 ) -> u64
     requires { ValidState (counters first second third fourth) slot (received log rows numbers book) }
     ensures { PerformsCall slot (old_counters first second third fourth) (old log rows numbers book lists) (Call.Withdraw id) result
-        (new_counters first second third fourth) (new log rows numbers book lists) (was answer) (left answer) }
+        (new_counters first second third fourth) (new log rows numbers book lists) answer.old answer.new }
 {
     let m = module_at(first, second, third, fourth);
     let r = m.withdraw(slot, log, rows, numbers, book, lists, id);
@@ -81,7 +80,7 @@ pub extern "C" fn fm_persistent_parts(
 ) -> u64
     requires { ValidState (counters first second third fourth) slot (received log rows numbers book) }
     ensures { PerformsCall slot (old_counters first second third fourth) (old log rows numbers book lists) (Call.Persistent n) result
-        (new_counters first second third fourth) (new log rows numbers book lists) (was answer) (left answer) }
+        (new_counters first second third fourth) (new log rows numbers book lists) answer.old answer.new }
 {
     let m = module_at(first, second, third, fourth);
     let r = m.persistent(slot, log, rows, numbers, book, lists, LogNumber(n));
@@ -106,7 +105,7 @@ pub extern "C" fn fm_stable_parts(
 ) -> u64
     requires { ValidState (counters first second third fourth) slot (received log rows numbers book) }
     ensures { PerformsCall slot (old_counters first second third fourth) (old log rows numbers book lists) (Call.Stable n) result
-        (new_counters first second third fourth) (new log rows numbers book lists) (was answer) (left answer) }
+        (new_counters first second third fourth) (new log rows numbers book lists) answer.old answer.new }
 {
     let m = module_at(first, second, third, fourth);
     let r = m.stable(slot, log, rows, numbers, book, lists, LogNumber(n));
@@ -130,7 +129,7 @@ pub extern "C" fn fm_end_parts(
 ) -> u64
     requires { ValidState (counters first second third fourth) slot (received log rows numbers book) }
     ensures { PerformsCall slot (old_counters first second third fourth) (old log rows numbers book lists) Call.End result
-        (new_counters first second third fourth) (new log rows numbers book lists) (was answer) (left answer) }
+        (new_counters first second third fourth) (new log rows numbers book lists) answer.old answer.new }
 {
     let m = module_at(first, second, third, fourth);
     let r = m.end(slot, log, rows, numbers, book, lists);

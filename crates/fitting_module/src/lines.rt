@@ -3,7 +3,6 @@ ghost use Rattle.std.specs.Prelude.{ℕ, ◌≤◌, ◌≡◌, List, [], length}
 ghost use Rattle.forms.specs.declared.reader.CommandForm.{CommandForm};
 ghost use Rattle.rules.specs.Calls.{Call};
 ghost use Rattle.compact.specs.Module.{Move};
-ghost use Rattle.table.specs.Ends.{was, left};
 ghost use Rattle.site.specs.Model.{Lent, received, old, new, old_with, new_with};
 ghost use Rattle.module.specs.Model.{ValidWith, Moves, RefusedIn};
 ghost use Rattle.fitting_module.specs.Model.{counters, old_counters, new_counters, ValidState};
@@ -48,7 +47,7 @@ fn redo(
 ) -> ModuleResult
     requires valid_with { ValidWith m slot (received log rows numbers book) }
     requires in_bounds { 7 ≤ length line.now }
-    ensures { (ns : List ℕ) → Moves m (Move.At slot (Call.Redo (did_in (was line)))) (old_with ns log rows numbers book) result
+    ensures { (ns : List ℕ) → Moves m (Move.At slot (Call.Redo (did_in line.now))) (old_with ns log rows numbers book) result
         (new_with ns log rows numbers book) }
 {
     let e = line.len() - 1;
@@ -69,7 +68,7 @@ fn call(
 ) -> ModuleResult
     requires valid_with { ValidWith m slot (received log rows numbers book) }
     requires in_bounds { c.form ≡ CommandForm.Redo → 7 ≤ length line.now }
-    ensures { ObeysForm slot m (old log rows numbers book lists) (was line) c result (new log rows numbers book lists) }
+    ensures { ObeysForm slot m (old log rows numbers book lists) line.now c result (new log rows numbers book lists) }
 {
     let form = c.form;
     let asked = c.asked;
@@ -108,7 +107,7 @@ fn obey(
     line: &[u8],
 ) -> ModuleResult
     requires { ValidWith m slot (received log rows numbers book) }
-    ensures { Obeys slot m (line_move slot (length (was log)) (was line)) (old log rows numbers book lists) result
+    ensures { Obeys slot m (line_move slot (length log.old) line.now) (old log rows numbers book lists) result
         (new log rows numbers book lists) }
 {
     let c = read_command(line);
@@ -132,8 +131,8 @@ pub extern "C" fn fm_line_parts(
     out: &mut [u8],
 ) -> usize
     requires { ValidState (counters first second third fourth) slot (received log rows numbers book) }
-    ensures { AnswersLine slot (old_counters first second third fourth) (old_with [] log rows numbers book) (was line) result
-        (new_counters first second third fourth) (new_with [] log rows numbers book) (was out) (left out) }
+    ensures { AnswersLine slot (old_counters first second third fourth) (old_with [] log rows numbers book) line.old result
+        (new_counters first second third fourth) (new_with [] log rows numbers book) out.old out.new }
 {
     if out.len() < REPLY_BYTES {
         return REPLY_BYTES;

@@ -1,7 +1,6 @@
 // Calls of a slot on numbers, whose replies have no lists: 0, or the number of the refusal.
 ghost use Rattle.std.specs.Prelude.{[], length};
 ghost use Rattle.rules.specs.Calls.{Call};
-ghost use Rattle.table.specs.Ends.{was, left};
 ghost use Rattle.site.specs.Model.{received, old_with, new_with};
 ghost use Rattle.fitting_module.specs.Model.{counters, old_counters, new_counters, ValidState};
 ghost use Rattle.fitting_module.specs.Calls.{PerformsCall};
@@ -29,7 +28,7 @@ pub extern "C" fn fm_show_parts(
 ) -> u64
     requires { ValidState (counters first second third fourth) slot (received log rows numbers book) }
     ensures { PerformsCall slot (old_counters first second third fourth) (old_with [] log rows numbers book) (Call.Show history) result
-        (new_counters first second third fourth) (new_with [] log rows numbers book) (was answer) (left answer) }
+        (new_counters first second third fourth) (new_with [] log rows numbers book) answer.old answer.new }
 {
     let m = module_at(first, second, third, fourth);
     let r = m.show(slot, log, rows, numbers, book, history);
@@ -53,8 +52,8 @@ pub extern "C" fn fm_cut_parts(
 ) -> u64
     requires { ValidState (counters first second third fourth) slot (received log rows numbers book) }
     ensures { PerformsCall slot (old_counters first second third fourth) (old_with [] log rows numbers book)
-        (Call.Cut k (length (was log))) result
-        (new_counters first second third fourth) (new_with [] log rows numbers book) (was answer) (left answer) }
+        (Call.Cut k (length log.old)) result
+        (new_counters first second third fourth) (new_with [] log rows numbers book) answer.old answer.new }
 {
     let m = module_at(first, second, third, fourth);
     let r = m.cut(slot, log, rows, numbers, book, k);
@@ -77,8 +76,8 @@ pub extern "C" fn fm_redo_parts(
     line: &[u8],
 ) -> u64
     requires { ValidState (counters first second third fourth) slot (received log rows numbers book) }
-    ensures { PerformsCall slot (old_counters first second third fourth) (old_with [] log rows numbers book) (Call.Redo (was line)) result
-        (new_counters first second third fourth) (new_with [] log rows numbers book) (was answer) (left answer) }
+    ensures { PerformsCall slot (old_counters first second third fourth) (old_with [] log rows numbers book) (Call.Redo line.old) result
+        (new_counters first second third fourth) (new_with [] log rows numbers book) answer.old answer.new }
 {
     let m = module_at(first, second, third, fourth);
     let r = m.redo(slot, log, rows, numbers, book, line);

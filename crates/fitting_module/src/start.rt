@@ -1,6 +1,5 @@
 // A module begins, and a slot of it is taken up again from the bytes of its log.
 ghost use Rattle.std.specs.Prelude.{[]};
-ghost use Rattle.table.specs.Ends.{left};
 ghost use Rattle.site.specs.Model.{received, old_with, new_with};
 ghost use Rattle.fitting_module.specs.Model.{counters, old_counters, new_counters};
 ghost use Rattle.fitting_module.specs.Starts.{Starts};
@@ -25,7 +24,7 @@ pub extern "C" fn fm_start_parts(
     rows: &TableRows,
     numbers: &mut EntryNumbers,
 )
-    ensures { Starts (new_counters first second third fourth) (left rows) (left numbers) }
+    ensures { Starts (new_counters first second third fourth) rows.new numbers.new }
 {
     known_length(rows);
     let m = Module::new(numbers);

@@ -1,6 +1,5 @@
 // A copy of a slot's log with a base line in place of its first operations.
 ghost use Rattle.std.specs.Prelude.{[]};
-ghost use Rattle.table.specs.Ends.{was, left};
 ghost use Rattle.site.specs.Model.{received, old_with};
 ghost use Rattle.fitting_module.specs.Model.{counters, old_counters, ValidState};
 ghost use Rattle.fitting_module.specs.Trims.{TrimsSlot};
@@ -32,7 +31,7 @@ pub extern "C" fn fm_trim_parts(
     used: &mut usize,
 ) -> u64
     requires { ValidState (counters first second third fourth) slot (received log rows numbers book) }
-    ensures { TrimsSlot (old_counters first second third fourth) slot (old_with [] log rows numbers book) n (was fresh) result (left fresh)
+    ensures { TrimsSlot (old_counters first second third fourth) slot (old_with [] log rows numbers book) n fresh.old result fresh.new
         used.old used.new }
 {
     let m = module_at(first, second, third, fourth);

@@ -20,7 +20,7 @@ pub type SlotWords = [u64; SLOT_WORDS];
 
 // The slot whose counters these are.
 fn slot_at(words: &SlotWords) -> Slot
-    ensures { result ≡ slot_at (was words) }
+    ensures { result ≡ slot_at words.now }
 {
     let table = Table {
         finished: words[11] as usize,

@@ -3,7 +3,7 @@
 ghost use Rattle.std.specs.Prelude.{◌≡◌};
 ghost use Rattle.rules.specs.Records.{record_new, report, question, forget_record};
 ghost use Rattle.records.specs.Model.{ValidRecords};
-ghost use Rattle.fitting_station.specs.Ends.{was, left, before, after};
+ghost use Rattle.fitting_station.specs.Ends.{before, after};
 ghost use Rattle.fitting_station.specs.RecordCalls.{records_at, records_in, answer_code, records_code};
 ghost use Rattle.fitting_station.specs.RecordCalls.{StartsRecords, ResumesRecords, PerformsRecords};
 
@@ -37,7 +37,7 @@ fn answer_number(a: Answer) -> u64
 // Begins without records, in numbers of any contents.
 #[unsafe(no_mangle)]
 pub extern "C" fn fl_records_start_parts(count: &mut usize, words: &RecordWords)
-    ensures { StartsRecords (after count) (was words) }
+    ensures { StartsRecords (after count) words.old }
 {
     known_length(words);
     let s = Records::empty();
@@ -51,7 +51,7 @@ pub extern "C" fn fl_records_resume_parts(
     words: &RecordWords,
     kept: usize,
 ) -> u64
-    ensures { ResumesRecords kept (was words) result (after count) }
+    ensures { ResumesRecords kept words.old result (after count) }
 {
     known_length(words);
     if Records::LIMIT < kept {
@@ -73,8 +73,8 @@ pub extern "C" fn fl_records_record_parts(
     threshold: u64,
 ) -> u64
     requires { ValidRecords (records_at count.old) words.old }
-    ensures { PerformsRecords (before count) (was words) (record_new id sent full threshold (records_in (before count) (was words))) result
-        (after count) (left words) }
+    ensures { PerformsRecords (before count) words.old (record_new id sent full threshold (records_in (before count) words.old)) result
+        (after count) words.new }
 {
     let s = Records { count: *count };
     let r = s.record(words, id, sent, full, threshold);
@@ -93,8 +93,8 @@ pub extern "C" fn fl_records_report_parts(
     site: u64,
 ) -> u64
     requires { ValidRecords (records_at count.old) words.old }
-    ensures { PerformsRecords (before count) (was words) (report id site (records_in (before count) (was words))) result
-        (after count) (left words) }
+    ensures { PerformsRecords (before count) words.old (report id site (records_in (before count) words.old)) result
+        (after count) words.new }
 {
     let s = Records { count: *count };
     let r = s.report(words, id, site);
@@ -108,7 +108,7 @@ pub extern "C" fn fl_records_report_parts(
 #[unsafe(no_mangle)]
 pub extern "C" fn fl_records_question_parts(count: &usize, words: &RecordWords, id: u64) -> u64
     requires { ValidRecords (records_at count.now) words.now }
-    ensures { result ≡ records_code (question id (records_in (before count) (was words))) }
+    ensures { result ≡ records_code (question id (records_in (before count) words.old)) }
 {
     let s = Records { count: *count };
     let a = s.question(words, id);
@@ -123,8 +123,8 @@ pub extern "C" fn fl_records_forget_parts(
     id: u64,
 ) -> u64
     requires { ValidRecords (records_at count.old) words.old }
-    ensures { PerformsRecords (before count) (was words) (forget_record id (records_in (before count) (was words))) result
-        (after count) (left words) }
+    ensures { PerformsRecords (before count) words.old (forget_record id (records_in (before count) words.old)) result
+        (after count) words.new }
 {
     let s = Records { count: *count };
     let r = s.forget(words, id);

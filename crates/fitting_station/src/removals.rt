@@ -1,7 +1,7 @@
 // Which fittings must be taken back (02 (a)): the lines of a log that fall with lines lost for good. Nothing is required of what is lent.
 ghost use Rattle.std.specs.Prelude.{◌≡◌, length};
 ghost use Rattle.recovery.specs.Removal.{pairs_of, report};
-ghost use Rattle.fitting_station.specs.Ends.{was, left, before, after};
+ghost use Rattle.fitting_station.specs.Ends.{before, after};
 ghost use Rattle.fitting_station.specs.Removals.{removals_number, removals_named, RepliesRemovals};
 
 use forms::writer::refusal_number;
@@ -34,8 +34,8 @@ pub extern "C" fn fl_removals(
     out: &mut [u64],
     count: &mut usize,
 ) -> u64
-    ensures { RepliesRemovals (report (was log) (pairs_of (was pairs)) (was lost) (length (was out))) (was out) (before count) result
-        (after count) (left out) }
+    ensures { RepliesRemovals (report log.old (pairs_of pairs.old) lost.old (length out.old)) out.old (before count) result
+        (after count) out.new }
 {
     let r = report(log, pairs, lost, out);
     put_named(count, r)

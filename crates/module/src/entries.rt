@@ -3,7 +3,6 @@
 ghost use Rattle.std.specs.Prelude.{ℕ, min, ◌≡◌, List, length};
 ghost use Rattle.rules.specs.Calls.{Call};
 ghost use Rattle.compact.specs.Module.{Move};
-ghost use Rattle.table.specs.Ends.{was, left};
 ghost use Rattle.site.specs.Model.{lent, received, old, new, old_with, new_with};
 ghost use Rattle.site.specs.Trim.{updates_held};
 ghost use Rattle.module.specs.Model.{ValidWith, ValidAnew, ValidSome, Moves, MovesAnew};
@@ -27,8 +26,8 @@ impl Module {
     // "A history has a profile, a version and a place, all 0 when opened." No entry is taken.
     pub fn open(self, slot: usize, log: &mut [u8], book: &mut BookWords, n: u64) -> ModuleResult
         requires { ValidSome self slot log.old book.old }
-        ensures { (rows numbers ns : List ℕ) → Moves self (Move.Open slot n (length (was log)))
-            (lent (was log) rows numbers (was book) ns) result (lent (left log) rows numbers (left book) ns) }
+        ensures { (rows numbers ns : List ℕ) → Moves self (Move.Open slot n (length log.old))
+            (lent log.old rows numbers book.old ns) result (lent log.new rows numbers book.new ns) }
     {
         if slot < Module::SLOTS {
             if self.is_open(slot) {
@@ -52,7 +51,7 @@ impl Module {
     ) -> ModuleResult
         requires { ValidAnew self slot (received log rows numbers book) }
         ensures { (ns : List ℕ) →
-            MovesAnew self (Move.Restart slot (was log) k) (old_with ns log rows numbers book) result (new_with ns log rows numbers book) }
+            MovesAnew self (Move.Restart slot log.now k) (old_with ns log rows numbers book) result (new_with ns log rows numbers book) }
     {
         if slot < Module::SLOTS {
             let slots = self.slots;
@@ -78,7 +77,7 @@ impl Module {
         k: u64,
     ) -> ModuleResult
         requires { ValidWith self slot (received log rows numbers book) }
-        ensures { (ns : List ℕ) → Moves self (Move.At slot (Call.Cut k (length (was log))))
+        ensures { (ns : List ℕ) → Moves self (Move.At slot (Call.Cut k (length log.now)))
             (old_with ns log rows numbers book) result (new_with ns log rows numbers book) }
     {
         if self.is_open(slot) {
@@ -148,7 +147,7 @@ impl Module {
     ) -> ModuleResult
         requires { ValidWith self slot (received log rows numbers book) }
         ensures { (ns : List ℕ) →
-            Moves self (Move.At slot (Call.Redo (was line))) (old_with ns log rows numbers book) result (new_with ns log rows numbers book) }
+            Moves self (Move.At slot (Call.Redo line.now)) (old_with ns log rows numbers book) result (new_with ns log rows numbers book) }
     {
         if self.is_open(slot) {
             let slots = self.slots;

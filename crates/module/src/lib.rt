@@ -4,7 +4,7 @@
 #![tactic(auto)]
 
 ghost use Rattle.std.specs.Prelude.{◌≡◌, cond, eqb, ◌≤◌, ◌<◌, max, length};
-ghost use Rattle.table.specs.Ends.{was, left};
+ghost use Rattle.table.specs.Ends.{was};
 ghost use Rattle.table.specs.Tables.{live_count};
 ghost use Rattle.module.specs.Parts.{part_room};
 ghost use Rattle.module.specs.Model.{slot_in};
@@ -174,7 +174,7 @@ impl Module {
     // Lends free numbers of the neighbours to a slot until it holds n.
     fn lend(self, numbers: &mut [u8], slot: usize, n: usize) -> Loan
         requires { MayGather self.slots numbers.old slot n }
-        ensures { Lends self.slots (was numbers) slot n result (left numbers) }
+        ensures { Lends self.slots numbers.old slot n result numbers.new }
     {
         let saved = part_of(numbers, slot);
         let slots = self.slots;
@@ -231,7 +231,7 @@ impl Module {
         promise: usize,
     ) -> ModuleResult
         requires { (slot < 4) × (length loan.slots ≡ 4) × (length numbers.old ≡ 256) }
-        ensures { Settles self slot loan r promise (was numbers) result (left numbers) }
+        ensures { Settles self slot loan r promise numbers.old result numbers.new }
     {
         let reply = r.reply;
         let form = reply.form;

@@ -1,7 +1,7 @@
 // The numbers of the table's entries: slot j's part of them begins at place 64 · j. A slot that needs free numbers is given those of its
 // neighbours.
 ghost use Rattle.std.specs.Prelude.{◌≡◌, ◌+◌, ◌*◌, ◌<◌, ◌++◌, length, take, drop};
-ghost use Rattle.table.specs.Ends.{was, left};
+ghost use Rattle.table.specs.Ends.{left};
 ghost use Rattle.module.specs.Parts.{part_of};
 ghost use Rattle.module.specs.Gather.{MaySpare, spare_at, IsSpare, MayGive, Gives, MayGather, Gathered};
 
@@ -13,7 +13,7 @@ pub const PART: usize = forms::limits::LIVE;
 // A slot's part of the numbers.
 pub fn part_of(numbers: &[u8], slot: usize) -> [u8; PART]
     requires { (slot < 4) × (length numbers.now ≡ 256) }
-    ensures { result ≡ part_of slot 64 (was numbers) }
+    ensures { result ≡ part_of slot 64 numbers.now }
 {
     let at = PART * slot;
     let mut part = [0u8; PART];
@@ -28,7 +28,7 @@ pub fn part_of(numbers: &[u8], slot: usize) -> [u8; PART]
 // A slot's part of the numbers becomes this.
 pub fn put_part(numbers: &mut [u8], slot: usize, part: [u8; PART])
     requires { (slot < 4) × (length numbers.old ≡ 256) }
-    ensures { left numbers ≡ take (64 * slot) (was numbers) ++ (part ++ drop (64 * slot + 64) (was numbers)) }
+    ensures { left numbers ≡ take (64 * slot) numbers.old ++ (part ++ drop (64 * slot + 64) numbers.old) }
 {
     let at = PART * slot;
     let mut i: usize = 0;
@@ -72,7 +72,7 @@ fn spare(slots: [Slot; 4], slot: usize) -> usize
 // The last number that slot `from` holds goes behind those that slot `to` holds.
 fn give(numbers: &mut [u8], slots: [Slot; 4], to: usize, from: usize) -> [Slot; 4]
     requires { MayGive slots numbers.old to from }
-    ensures { Gives slots (was numbers) to from result (left numbers) }
+    ensures { Gives slots numbers.old to from result numbers.new }
 {
     let mut after = slots;
     let mut giver = after[from];
@@ -90,7 +90,7 @@ fn give(numbers: &mut [u8], slots: [Slot; 4], to: usize, from: usize) -> [Slot; 
 // A slot is given free numbers of its neighbours until it holds n.
 pub fn gather(numbers: &mut [u8], slots: [Slot; 4], slot: usize, n: usize) -> [Slot; 4]
     requires { MayGather slots numbers.old slot n }
-    ensures { Gathered slots (was numbers) slot n result (left numbers) }
+    ensures { Gathered slots numbers.old slot n result numbers.new }
 {
     let mut after = slots;
     loop {

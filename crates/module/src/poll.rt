@@ -17,7 +17,7 @@ impl Module {
     // "The poll of a history reads only this number": that of a slot above 3, or of one that is not opened, is refused 14.
     pub fn poll(self, slot: usize, book: &BookWords, h: u64) -> SlotPoll
         requires { ValidBook self slot book.now }
-        ensures { PollsIn self slot (was book) h result }
+        ensures { PollsIn self slot book.now h result }
     {
         if self.is_open(slot) {
             let slots = self.slots;

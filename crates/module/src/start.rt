@@ -1,7 +1,6 @@
 // A module as it is made: no slot is opened, and no entry taken.
 ghost use Rattle.std.specs.Prelude.{◌≡◌, length, take};
 ghost use Rattle.forms.specs.Lists.{below};
-ghost use Rattle.table.specs.Ends.{left};
 ghost use Rattle.module.specs.Start.{Made};
 
 use super::{Module, Slot};
@@ -13,7 +12,7 @@ fn known_length(_numbers: &[u8]) {}
 // The numbers 0 .. 127, in the parts of slots 0 and 1.
 fn number_entries(numbers: &mut [u8])
     requires { length numbers.old ≡ 256 }
-    ensures { (length (left numbers) ≡ 256) × (take 128 (left numbers) ≡ below 128) }
+    ensures { (length numbers.new ≡ 256) × (take 128 numbers.new ≡ below 128) }
 {
     let mut i: usize = 0;
     while i < Module::ENTRIES {
@@ -25,7 +24,7 @@ fn number_entries(numbers: &mut [u8])
 impl Module {
     // "Each site, opened or not yet, is promised 16". The numbers of all entries are written; the rows may have any words.
     pub fn new(numbers: &mut [u8; 256]) -> Module
-        ensures { Made result (left numbers) }
+        ensures { Made result numbers.new }
     {
         known_length(numbers);
         number_entries(numbers);

@@ -4,7 +4,7 @@
 ghost use Rattle.std.specs.Prelude.{◌≡◌, ◌+◌, false, ◌&&◌, [], leb};
 ghost use Rattle.forms.specs.Held.{replied};
 ghost use Rattle.forms.specs.Limits.{live_limit};
-ghost use Rattle.table.specs.Ends.{was, left};
+ghost use Rattle.table.specs.Ends.{was};
 ghost use Rattle.site.specs.Model.{Lent, received, old, new, Valid, RefusedAs};
 ghost use Rattle.session.specs.Model.{ValidSession, Refuses, Starts, TurnsLine, AnswersLine, lists_fit, WritesReply};
 ghost use Rattle.session.specs.Model.{turned_of, OpensLine, DoesForm, TurnsForm};
@@ -128,7 +128,7 @@ fn lists_fit(first: usize, second: usize, numbers: usize) -> bool
 // Writes the reply of a turn, with its end: its lists stand one behind the other at the front of what was lent for them.
 // It has at most 2,741 bytes. Nothing is written of a reply that is of no turn, where its lists do not stand there.
 pub fn write_turn(out: &mut [u8], at: usize, r: ReplyLine, lists: &[u64]) -> Written
-    ensures { WritesReply (lists_fit r (was lists)) (replied r (was lists)) (was out) at result (left out) }
+    ensures { WritesReply (lists_fit r lists.now) (replied r lists.now) out.old at result out.new }
 {
     let form = r.form;
     let n = r.first;
@@ -212,7 +212,7 @@ impl Session {
         line: &[u8],
     ) -> LineResult
         requires { ValidSession self (received log rows order book) }
-        ensures { TurnsLine self (old log rows order book lists) (was line) result
+        ensures { TurnsLine self (old log rows order book lists) line.now result
             (new log rows order book lists) }
     {
         let c = read_command(line);
@@ -241,8 +241,8 @@ impl Session {
         out: &mut [u8],
     ) -> Answered
         requires { ValidSession self (received log rows order book) }
-        ensures { AnswersLine self (old log rows order book lists) (was line) result
-            (new log rows order book lists) (was out) (left out) }
+        ensures { AnswersLine self (old log rows order book lists) line.now result
+            (new log rows order book lists) out.old out.new }
     {
         let t = self.turn(log, rows, order, book, lists, line);
         let session = t.session;

@@ -1,6 +1,6 @@
 -- The site and what is lent to it as a state of the specification, the invariant of the two, and what a call promises.
 use Rattle.std.specs.Prelude.{ℕ, ◌+◌, ◌*◌, ◌≤◌, ◌≡◌, List, [], length, drop}
-use Rattle.std.specs.Borrow.{Bor}
+use Rattle.std.specs.Borrow.{MutBor}
 use Rattle.forms.specs.Lists.{below}
 use Rattle.forms.specs.Forms.{Outcome, Refused, Accepted, Answer}
 use Rattle.forms.specs.Held.{Numbers, Replied, replied, outcome_of}
@@ -33,7 +33,7 @@ abbrev pub lent : List ℕ → List ℕ → List ℕ → List ℕ → List ℕ �
 lent log rows order book lists = record { log = log; rows = rows; order = order; book = book; lists = lists }
 
 -- What was lent, in a `requires`: the lists of a reply do not matter there.
-abbrev pub received : Bor (List ℕ) → Bor (List ℕ) → Bor (List ℕ) → Bor (List ℕ) → Lent
+abbrev pub received : MutBor (List ℕ) → MutBor (List ℕ) → MutBor (List ℕ) → MutBor (List ℕ) → Lent
 received log rows order book = lent log.now rows.now order.now book.now []
 
 -- What was lent, in an `ensures`: as it came, and as it is left.

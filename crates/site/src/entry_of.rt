@@ -10,7 +10,7 @@ impl Site {
     // The entry of a live operation: "a freed entry is used again", and until then it is the operation's own.
     pub fn entry_of(self, order: &[u8], rows: &[u64], id: u64) -> Lookup
         requires { Owns self.table order.now rows.now }
-        ensures { result ≡ entry_of (was rows) id (live_numbers self.table (was order)) }
+        ensures { result ≡ entry_of rows.now id (live_numbers self.table order.now) }
     {
         let table = self.table;
         table::search::entry_of(order, rows, table.finished + table.queue, id)

@@ -17,7 +17,7 @@ impl Site {
     // "The poll of a history reads only this number and says dry exactly when a walk over the entries would."
     pub fn poll(self, book: &BookWords, h: u64) -> PollAnswer
         requires { ValidWith self book.now }
-        ensures { Polls self (was book) h result }
+        ensures { Polls self book.now h result }
     {
         let n = self.count;
         if n as u64 <= h {

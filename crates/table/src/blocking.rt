@@ -18,7 +18,7 @@ use history::{Item, either};
 pub fn marked(m: Marks, rows: &[u64], e: usize) -> Marks
     requires has_row { HasRow rows.now e × UsableEntry (row_at rows.now e) }
     requires any_len { (length m.any ≡ history_limit) × (length m.strong ≡ history_limit) }
-    ensures { More result m (entry_updates (row_at (was rows) e)) }
+    ensures { More result m (entry_updates (row_at rows.now e)) }
 {
     let mut any = m.any;
     let mut strong = m.strong;
@@ -42,7 +42,7 @@ pub fn marked(m: Marks, rows: &[u64], e: usize) -> Marks
 fn marked_by(m: Marks, rows: &[u64], e: usize) -> Marks
     requires has_row { HasRow rows.now e × UsableEntry (row_at rows.now e) }
     requires any_len { (length m.any ≡ history_limit) × (length m.strong ≡ history_limit) }
-    ensures { More result m (held_of (row_at (was rows) e)) }
+    ensures { More result m (held_of (row_at rows.now e)) }
 {
     if runs_at(rows, e) {
         marked(m, rows, e)
@@ -68,7 +68,7 @@ pub fn is_free(m: Marks, x: Item) -> bool
 // The marks of what is in progress.
 pub fn in_progress(order: &[u8], rows: &[u64], from: usize, to: usize) -> Marks
     requires { Usable order.now rows.now to × (from ≤ to) }
-    ensures { MarksOf result (gather held_of (rows_in (was order) (was rows) from to)) }
+    ensures { MarksOf result (gather held_of (rows_in order.now rows.now from to)) }
 {
     let mut m = Marks {
         any: [false; HISTORIES],

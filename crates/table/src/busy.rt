@@ -2,7 +2,6 @@
 ghost use Rattle.std.specs.Prelude.{ℕ, ◌≤◌, get_or};
 ghost use Rattle.forms.specs.Lists.{sum};
 ghost use Rattle.history.specs.Words.{busy_in, entry_in, CountsMore};
-ghost use Rattle.table.specs.Ends.{was, left};
 ghost use Rattle.table.specs.Tables.{rows_in, Usable};
 
 use super::rows::row_at;
@@ -14,7 +13,7 @@ pub fn lower_rows(order: &[u8], rows: &[u64], book: &mut BookWords, from: usize,
     requires usable { Usable order.now rows.now to × (from ≤ to) }
     requires by_index { (h : ℕ) → 1 ≤ sum (entry_in h) (rows_in order.now rows.now from to) →
         sum (entry_in h) (rows_in order.now rows.now from to) ≤ get_or (busy_in book.old) h 0 }
-    ensures { CountsMore (rows_in (was order) (was rows) from to) (left book) (was book) }
+    ensures { CountsMore (rows_in order.now rows.now from to) book.new book.old }
 {
     let mut i = from;
     while i < to {

@@ -77,7 +77,7 @@ impl Table {
     // The row of the entry at place i of those not done.
     pub fn queued_at(self, order: &[u8], rows: &[u64], i: usize) -> Entry
         requires { (self.finished + i < length order.now) × HasRow rows.now (get_or order.now (self.finished + i) 0) }
-        ensures { result ≡ row_at (was rows) (get_or (was order) (self.finished + i) 0) }
+        ensures { result ≡ row_at rows.now (get_or order.now (self.finished + i) 0) }
     {
         let e = order[self.finished + i];
         row_at(rows, e as usize)
@@ -87,7 +87,7 @@ impl Table {
     pub fn push(self, order: &[u8], rows: &mut [u64], e: Entry) -> Table
         requires { (live_count self < length order.now) × HasRow rows.old (get_or order.now (live_count self) 0) }
         ensures { (result ≡ record { finished = self.finished; queue = self.queue + 1 }) ×
-            PutRow (get_or (was order) (live_count self) 0) e (was rows) (left rows) }
+            PutRow (get_or order.now (live_count self) 0) e rows.old rows.new }
     {
         let free = order[self.finished + self.queue];
         put_row(rows, free as usize, e);
@@ -101,7 +101,7 @@ impl Table {
     pub fn rewrite_last(self, order: &[u8], rows: &mut [u64], e: Entry)
         requires { (0 < self.finished) × (self.finished ≤ length order.now)
             × HasRow rows.old (get_or order.now (self.finished - 1) 0) }
-        ensures { PutRow (get_or (was order) (self.finished - 1) 0) e (was rows) (left rows) }
+        ensures { PutRow (get_or order.now (self.finished - 1) 0) e rows.old rows.new }
     {
         let number = order[self.finished - 1];
         put_row(rows, number as usize, e);
@@ -111,7 +111,7 @@ impl Table {
     pub fn remove(self, order: &mut [u8], i: usize) -> Table
         requires { (i < self.queue) × (live_count self ≤ length order.old) }
         ensures { (result ≡ record { finished = self.finished; queue = self.queue - 1 }) ×
-            (left order ≡ moved (self.finished + i) (live_count self - 1) (was order)) }
+            (left order ≡ moved (self.finished + i) (live_count self - 1) order.old) }
     {
         let last = self.finished + self.queue - 1;
         move_back(order, self.finished + i, last);
@@ -127,8 +127,8 @@ impl Table {
         requires { (i < self.queue) × (live_count self ≤ length order.old)
             × HasRow rows.old (get_or order.old (self.finished + i) 0) }
         ensures { (result ≡ record { finished = self.finished + 1; queue = self.queue - 1 }) ×
-            (left order ≡ moved (self.finished + i) self.finished (was order)) ×
-            PutMark (get_or (was order) (self.finished + i) 0) m.0 (was rows) (left rows) }
+            (left order ≡ moved (self.finished + i) self.finished order.old) ×
+            PutMark (get_or order.old (self.finished + i) 0) m.0 rows.old rows.new }
     {
         let number = order[self.finished + i];
         put_mark(rows, number as usize, m);
@@ -144,7 +144,7 @@ impl Table {
     pub fn push_done(self, order: &[u8], rows: &mut [u64], e: Entry, m: LogNumber) -> Table
         requires { (self.finished < length order.now) × HasRow rows.old (get_or order.now self.finished 0) }
         ensures { (result ≡ record { finished = self.finished + 1; queue = self.queue }) ×
-            PutNoted (get_or (was order) self.finished 0) e m.0 (was rows) (left rows) }
+            PutNoted (get_or order.now self.finished 0) e m.0 rows.old rows.new }
     {
         let at = self.finished;
         let number = order[at];
@@ -160,7 +160,7 @@ impl Table {
     pub fn drop_first(self, order: &mut [u8], k: usize) -> Table
         requires { (k ≤ self.finished) × (live_count self ≤ length order.old) × (length order.old ≤ live_limit) }
         ensures { (result ≡ record { finished = self.finished - k; queue = self.queue }) ×
-            (left order ≡ turned k (live_count self) (was order)) }
+            (left order ≡ turned k (live_count self) order.old) }
     {
         turn(order, k, self.finished + self.queue);
         Table {

@@ -4,7 +4,7 @@ ghost use Rattle.forms.specs.Lists.{any, keep};
 ghost use Rattle.history.specs.Cells.{never_in};
 ghost use Rattle.history.specs.Entries.{UsableEntry, cells_of};
 ghost use Rattle.history.specs.Words.{histories_in};
-ghost use Rattle.table.specs.Ends.{was, left};
+ghost use Rattle.table.specs.Ends.{was};
 ghost use Rattle.table.specs.Overtaken.{overtaken_entry, row_in, Covers, Leaves, Examines, Drops};
 ghost use Rattle.table.specs.Rows.{HasRow, row_at};
 ghost use Rattle.table.specs.Tables.{queue_rows, Owns};
@@ -21,7 +21,7 @@ use history::timing::is_never;
 // Whether an update of the operation in the row of entry e can never run.
 fn never_at(rows: &[u64], e: usize, book: &BookWords) -> bool
     requires { HasRow rows.now e × UsableEntry (row_at rows.now e) }
-    ensures { result ≡ any (never_in (cells_of (histories_in (was book)))) (entry_updates (row_at (was rows) e)) }
+    ensures { result ≡ any (never_in (cells_of (histories_in book.now))) (entry_updates (row_at rows.now e)) }
 {
     let n = count_at(rows, e);
     let mut j: usize = 0;
@@ -40,7 +40,7 @@ fn never_at(rows: &[u64], e: usize, book: &BookWords) -> bool
 // Whether the operation in the row of entry e is future and holds a never.
 fn overtaken_at(rows: &[u64], e: usize, book: &BookWords) -> bool
     requires { HasRow rows.now e × UsableEntry (row_at rows.now e) }
-    ensures { result ≡ overtaken_entry (was book) (row_at (was rows) e) }
+    ensures { result ≡ overtaken_entry book.now (row_at rows.now e) }
 {
     if runs_at(rows, e) {
         false
@@ -63,8 +63,8 @@ impl Dropped {
     ) -> Dropped
         requires owns { Owns self.table order.old rows.now × (i < self.table.queue) × (at + self.count < 68) }
         requires covers { Covers book.old (row_in self.table order.old rows.now i ∷ []) }
-        ensures { Leaves (row_in self.table (was order) (was rows) i) self i (was order) (was book) (was lists) at
-            result (left order) (left book) (left lists) }
+        ensures { Leaves (row_in self.table order.old rows.now i) self i order.old book.old lists.old at
+            result order.new book.new lists.new }
     {
         let table = self.table;
         let e = table.queued_at(order, rows, i);
@@ -89,9 +89,9 @@ impl Dropped {
         requires owns { Owns self.table order.old rows.now × (i < self.table.queue) }
         requires count_bound { overtaken_entry book.old (row_in self.table order.old rows.now i) ≡ true → at + self.count < 68 }
         requires covers { Covers book.old (row_in self.table order.old rows.now i ∷ []) }
-        ensures { Examines (overtaken_entry (was book) (row_in self.table (was order) (was rows) i))
-            (row_in self.table (was order) (was rows) i) self i (was order) (was book) (was lists) at
-            result (left order) (left book) (left lists) }
+        ensures { Examines (overtaken_entry book.old (row_in self.table order.old rows.now i))
+            (row_in self.table order.old rows.now i) self i order.old book.old lists.old at
+            result order.new book.new lists.new }
     {
         let table = self.table;
         let number = order[table.finished + i] as usize;
@@ -116,7 +116,7 @@ impl Table {
         requires owns { Owns self order.old rows.now }
         requires rows_bound { at + length (keep (overtaken_entry book.old) (queue_rows self order.old rows.now)) ≤ 68 }
         requires covers { Covers book.old (queue_rows self order.old rows.now) }
-        ensures { Drops self (was order) (was rows) (was book) (was lists) at result (left order) (left book) (left lists) }
+        ensures { Drops self order.old rows.now book.old lists.old at result order.new book.new lists.new }
     {
         known_length(lists);
         let queue = self.queue;

@@ -3,7 +3,7 @@ ghost use Rattle.std.specs.Prelude.{◌≡◌, ◌+◌, ◌*◌, ◌≤◌, ◌<
 ghost use Rattle.forms.specs.Limits.{update_limit};
 ghost use Rattle.history.specs.Entries.{no_item};
 ghost use Rattle.history.specs.Words.{within};
-ghost use Rattle.table.specs.Ends.{was, left};
+ghost use Rattle.table.specs.Ends.{was};
 ghost use Rattle.table.specs.Rows.{rule_number, rule_named, item_at, PutItem, begun, row_at, mark_at, HasRow, PutRow, PutMark};
 
 use forms::limits::LIVE;
@@ -51,7 +51,7 @@ fn small_byte(n: u64) -> u8
 // The item whose words begin at `at`.
 fn item_at(words: &[u64], at: usize) -> Item
     requires { at + 5 ≤ length words.now }
-    ensures { result ≡ item_at (was words) at }
+    ensures { result ≡ item_at words.now at }
 {
     let rule = rule_named(words[at]);
     Item {
@@ -66,7 +66,7 @@ fn item_at(words: &[u64], at: usize) -> Item
 // The row of entry e.
 pub fn row_at(words: &[u64], e: usize) -> Entry
     requires { HasRow words.now e }
-    ensures { result ≡ row_at (was words) e }
+    ensures { result ≡ row_at words.now e }
 {
     let at = e * ROW;
     let a = item_at(words, at + 3);
@@ -84,7 +84,7 @@ pub fn row_at(words: &[u64], e: usize) -> Entry
 // The id in the row of entry e.
 pub fn id_at(words: &[u64], e: usize) -> u64
     requires { HasRow words.now e }
-    ensures { result ≡ (row_at (was words) e).id }
+    ensures { result ≡ (row_at words.now e).id }
 {
     words[e * ROW]
 }
@@ -92,7 +92,7 @@ pub fn id_at(words: &[u64], e: usize) -> u64
 // Whether the row of entry e is in progress.
 pub fn runs_at(words: &[u64], e: usize) -> bool
     requires { HasRow words.now e }
-    ensures { result ≡ (row_at (was words) e).running }
+    ensures { result ≡ (row_at words.now e).running }
 {
     words[e * ROW + 1] == 1
 }
@@ -100,7 +100,7 @@ pub fn runs_at(words: &[u64], e: usize) -> bool
 // How many items the row of entry e has.
 pub fn count_at(words: &[u64], e: usize) -> usize
     requires { HasRow words.now e }
-    ensures { result ≡ (row_at (was words) e).count }
+    ensures { result ≡ (row_at words.now e).count }
 {
     words[e * ROW + 2] as usize
 }
@@ -108,7 +108,7 @@ pub fn count_at(words: &[u64], e: usize) -> usize
 // Item j of the row of entry e.
 pub fn item_in(words: &[u64], e: usize, j: usize) -> Item
     requires { HasRow words.now e × (j < update_limit) }
-    ensures { result ≡ get_or (row_at (was words) e).items j no_item }
+    ensures { result ≡ get_or (row_at words.now e).items j no_item }
 {
     let at = e * ROW + 3;
     item_at(words, at + j * 5)
@@ -117,7 +117,7 @@ pub fn item_in(words: &[u64], e: usize, j: usize) -> Item
 // Writes an item to the words that begin at `at`.
 fn put_item(words: &mut [u64], at: usize, x: Item)
     requires { at + 5 ≤ length words.old }
-    ensures { PutItem at x (was words) (left words) }
+    ensures { PutItem at x words.old words.new }
 {
     let rule = x.rule;
     words[at] = rule_number(rule);
@@ -130,7 +130,7 @@ fn put_item(words: &mut [u64], at: usize, x: Item)
 // Writes the row of entry e.
 pub fn put_row(words: &mut [u64], e: usize, r: Entry)
     requires { HasRow words.old e }
-    ensures { PutRow e r (was words) (left words) }
+    ensures { PutRow e r words.old words.new }
 {
     let at = e * ROW;
     let items = r.items;
@@ -146,7 +146,7 @@ pub fn put_row(words: &mut [u64], e: usize, r: Entry)
 // The operation in the row of entry e is in progress from now on.
 pub fn start_row(words: &mut [u64], e: usize)
     requires { HasRow words.old e }
-    ensures { PutRow e (begun (row_at (was words) e)) (was words) (left words) }
+    ensures { PutRow e (begun (row_at words.old e)) words.old words.new }
 {
     words[e * ROW + 1] = 1;
 }
@@ -154,7 +154,7 @@ pub fn start_row(words: &mut [u64], e: usize)
 // The stable mark noted in the row of entry e.
 pub fn mark_at(words: &[u64], e: usize) -> LogNumber
     requires { HasRow words.now e }
-    ensures { result.0 ≡ mark_at (was words) e }
+    ensures { result.0 ≡ mark_at words.now e }
 {
     LogNumber(words[e * ROW + 23])
 }
@@ -162,7 +162,7 @@ pub fn mark_at(words: &[u64], e: usize) -> LogNumber
 // Notes the stable mark m in the row of entry e.
 pub fn put_mark(words: &mut [u64], e: usize, m: LogNumber)
     requires { HasRow words.old e }
-    ensures { PutMark e m.0 (was words) (left words) }
+    ensures { PutMark e m.0 words.old words.new }
 {
     words[e * ROW + 23] = m.0;
 }

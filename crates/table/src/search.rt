@@ -6,7 +6,6 @@ ghost use Rattle.forms.specs.Limits.{update_limit};
 ghost use Rattle.history.specs.Entries.{UsableEntry, cells_of};
 ghost use Rattle.history.specs.Lists.{Lists};
 ghost use Rattle.history.specs.Words.{histories_in};
-ghost use Rattle.table.specs.Ends.{was, left};
 ghost use Rattle.table.specs.Lists.{first_at};
 ghost use Rattle.table.specs.Rows.{HasRow, row_at};
 ghost use Rattle.table.specs.Tables.{rows_in, has_id, is_entry, id_of, can_run_entry, Usable, entry_of};
@@ -20,7 +19,7 @@ use history::turns::is_next;
 // The number x at `at`. The caller sees to it that there is room.
 pub fn push_number(lists: &mut ReplyNumbers, at: usize, x: u64)
     requires { at < 68 }
-    ensures { Wrote (was lists) at (x ∷ []) (at + 1) (left lists) }
+    ensures { Wrote lists.old at (x ∷ []) (at + 1) lists.new }
 {
     known_length(lists);
     lists[at] = x;
@@ -29,7 +28,7 @@ pub fn push_number(lists: &mut ReplyNumbers, at: usize, x: u64)
 // Whether entry e has this id, and is in progress (or future, as asked).
 fn is_entry(rows: &[u64], e: usize, id: u64, running: bool) -> bool
     requires { HasRow rows.now e }
-    ensures { result ≡ is_entry id running (row_at (was rows) e) }
+    ensures { result ≡ is_entry id running (row_at rows.now e) }
 {
     if id_at(rows, e) == id {
         let runs = runs_at(rows, e);
@@ -42,7 +41,7 @@ fn is_entry(rows: &[u64], e: usize, id: u64, running: bool) -> bool
 // Whether the line in the row of entry e can run: in each of its histories its place is next and the update may run.
 fn can_run_at(rows: &[u64], e: usize, book: &BookWords) -> bool
     requires { HasRow rows.now e × UsableEntry (row_at rows.now e) }
-    ensures { result ≡ can_run_entry (cells_of (histories_in (was book))) (row_at (was rows) e) }
+    ensures { result ≡ can_run_entry (cells_of (histories_in book.now)) (row_at rows.now e) }
 {
     let n = count_at(rows, e);
     let mut j: usize = 0;
@@ -61,7 +60,7 @@ fn can_run_at(rows: &[u64], e: usize, book: &BookWords) -> bool
 // Whether an entry has this id, one after the other.
 fn some_has(order: &[u8], rows: &[u64], from: usize, to: usize, id: u64) -> bool
     requires { Usable order.now rows.now to × (from ≤ to) }
-    ensures { result ≡ any (has_id id) (rows_in (was order) (was rows) from to) }
+    ensures { result ≡ any (has_id id) (rows_in order.now rows.now from to) }
 {
     let mut i = from;
     while i < to {
@@ -76,7 +75,7 @@ fn some_has(order: &[u8], rows: &[u64], from: usize, to: usize, id: u64) -> bool
 // Whether one of the four entries from place `at` on has this id.
 fn four_have(order: &[u8], rows: &[u64], at: usize, id: u64) -> bool
     requires { Usable order.now rows.now (at + 4) }
-    ensures { result ≡ any (has_id id) (rows_in (was order) (was rows) at (at + 4)) }
+    ensures { result ≡ any (has_id id) (rows_in order.now rows.now at (at + 4)) }
 {
     if id_at(rows, order[at] as usize) == id {
         return true;
@@ -96,7 +95,7 @@ fn four_have(order: &[u8], rows: &[u64], at: usize, id: u64) -> bool
 // Whether an entry has this id: four at a time, as long as there are four.
 pub fn has_id(order: &[u8], rows: &[u64], from: usize, to: usize, id: u64) -> bool
     requires { Usable order.now rows.now to × (from ≤ to) }
-    ensures { result ≡ any (has_id id) (rows_in (was order) (was rows) from to) }
+    ensures { result ≡ any (has_id id) (rows_in order.now rows.now from to) }
 {
     let mut i = from;
     while 3 < to - i {
@@ -111,7 +110,7 @@ pub fn has_id(order: &[u8], rows: &[u64], from: usize, to: usize, id: u64) -> bo
 // The first entry with this id that is in progress (or future, as asked).
 pub fn find(order: &[u8], rows: &[u64], from: usize, to: usize, id: u64, running: bool) -> Found
     requires { Usable order.now rows.now to × (from ≤ to) }
-    ensures { result ≡ first_at (is_entry id running) (rows_in (was order) (was rows) from to) }
+    ensures { result ≡ first_at (is_entry id running) (rows_in order.now rows.now from to) }
 {
     let mut i = from;
     while i < to {
@@ -132,7 +131,7 @@ pub fn first_ready_line(
     book: &BookWords,
 ) -> Found
     requires { Usable order.now rows.now to × (from ≤ to) }
-    ensures { result ≡ first_at (can_run_entry (cells_of (histories_in (was book)))) (rows_in (was order) (was rows) from to) }
+    ensures { result ≡ first_at (can_run_entry (cells_of (histories_in book.now))) (rows_in order.now rows.now from to) }
 {
     let mut i = from;
     while i < to {
@@ -154,7 +153,7 @@ pub fn ids(
     at: usize,
 ) -> usize
     requires { Usable order.now rows.now to × (from ≤ to) × (at ≤ update_limit) }
-    ensures { Lists (was lists) at (map id_of (rows_in (was order) (was rows) from to)) result (left lists) }
+    ensures { Lists lists.old at (map id_of (rows_in order.now rows.now from to)) result lists.new }
 {
     known_length(lists);
     let mut i = from;
@@ -168,7 +167,7 @@ pub fn ids(
 // The entry of this id among the first n of the order.
 pub fn entry_of(order: &[u8], rows: &[u64], n: usize, id: u64) -> Lookup
     requires { Usable order.now rows.now n }
-    ensures { result ≡ entry_of (was rows) id (take n (was order)) }
+    ensures { result ≡ entry_of rows.now id (take n order.now) }
 {
     let mut i: usize = 0;
     while i < n {

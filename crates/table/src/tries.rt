@@ -3,7 +3,6 @@ ghost use Rattle.std.specs.Prelude.{◌≡◌, ◌+◌, ◌≤◌};
 ghost use Rattle.forms.specs.Lists.{all};
 ghost use Rattle.history.specs.Entries.{UsableEntry, cells_of, operation_of};
 ghost use Rattle.history.specs.Words.{histories_in};
-ghost use Rattle.table.specs.Ends.{was, left};
 ghost use Rattle.table.specs.Rows.{HasRow, row_at};
 ghost use Rattle.table.specs.Tables.{Owns};
 ghost use Rattle.table.specs.Tries.{entry_updates, ready_by, starts_by, Tries};
@@ -19,7 +18,7 @@ use history::update_rules::may_run;
 // Whether each update of the operation in the row of entry e may run and is not blocked.
 fn all_ready(book: &BookWords, m: Marks, rows: &[u64], e: usize) -> bool
     requires { HasRow rows.now e × UsableEntry (row_at rows.now e) }
-    ensures { result ≡ all (ready_by (cells_of (histories_in (was book))) m) (entry_updates (row_at (was rows) e)) }
+    ensures { result ≡ all (ready_by (cells_of (histories_in book.now)) m) (entry_updates (row_at rows.now e)) }
 {
     let n = count_at(rows, e);
     let mut j: usize = 0;
@@ -44,7 +43,7 @@ fn all_ready(book: &BookWords, m: Marks, rows: &[u64], e: usize) -> bool
 // Whether the row of entry e is a future operation that is ready.
 fn may_start(book: &BookWords, m: Marks, rows: &[u64], e: usize) -> bool
     requires { HasRow rows.now e × UsableEntry (row_at rows.now e) }
-    ensures { result ≡ starts_by (cells_of (histories_in (was book))) m (operation_of (row_at (was rows) e)) }
+    ensures { result ≡ starts_by (cells_of (histories_in book.now)) m (operation_of (row_at rows.now e)) }
 {
     if runs_at(rows, e) {
         false
@@ -65,7 +64,7 @@ impl Table {
         at: usize,
     ) -> usize
         requires { Owns self order.now rows.old × (at + self.queue ≤ 68) }
-        ensures { Tries (cells_of (histories_in (was book))) self (was order) (was rows) (left rows) (was lists) at result (left lists) }
+        ensures { Tries (cells_of (histories_in book.now)) self order.now rows.old rows.new lists.old at result lists.new }
     {
         known_length(lists);
         let from = self.finished;

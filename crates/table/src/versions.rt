@@ -5,7 +5,6 @@ ghost use Rattle.forms.specs.Limits.{history_limit};
 ghost use Rattle.history.specs.Entries.{UsableEntry};
 ghost use Rattle.history.specs.Lists.{Lists};
 ghost use Rattle.table.specs.Arrays.{Tabulates, names, singled};
-ghost use Rattle.table.specs.Ends.{was, left};
 ghost use Rattle.table.specs.Rows.{HasRow, row_at};
 ghost use Rattle.table.specs.Tables.{rows_in, Usable, version_from};
 
@@ -25,7 +24,7 @@ pub enum Naming {
 // The histories' versions become those after the done operation in the row of entry e.
 fn stamp(versions: &mut [u64; HISTORIES], rows: &[u64], e: usize)
     requires { HasRow rows.now e × UsableEntry (row_at rows.now e) }
-    ensures { Tabulates 0 (left versions) (λ (h : ℕ). version_from h (get_or (was versions) h 0) (row_at (was rows) e ∷ [])) }
+    ensures { Tabulates 0 versions.new (λ (h : ℕ). version_from h (get_or versions.old h 0) (row_at rows.now e ∷ [])) }
 {
     known_length(versions);
     let n = count_at(rows, e);
@@ -47,7 +46,7 @@ pub fn advance(
     to: usize,
 ) -> [u64; HISTORIES]
     requires { Usable order.now rows.now to × (from ≤ to) }
-    ensures { Tabulates 0 result (λ (h : ℕ). version_from h (get_or versions h 0) (rows_in (was order) (was rows) from to)) }
+    ensures { Tabulates 0 result (λ (h : ℕ). version_from h (get_or versions h 0) (rows_in order.now rows.now from to)) }
 {
     let mut vs = versions;
     let mut i = from;
@@ -78,7 +77,7 @@ pub fn name_histories(
     at: usize,
 ) -> usize
     requires { (n ≤ history_limit) × (at ≤ history_limit) }
-    ensures { Lists (was lists) at (keep (singled naming before after) (below n)) result (left lists) }
+    ensures { Lists lists.old at (keep (singled naming before after) (below n)) result lists.new }
 {
     known_length(lists);
     let mut count: usize = 0;

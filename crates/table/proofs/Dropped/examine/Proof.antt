@@ -7,53 +7,50 @@ use borrow.Author.Rules.{rules}
 use Rattle.table.proofs.Dropped.examine.Statement.{statement}
 use Rattle.table.proofs.Dropped.examine.Tie as tie
 
-add-number : tie.Need-overflow-add-number
-add-number c = search rules
+overflow_add-number : tie.Need-overflow_add-number
+overflow_add-number c = search rules
 
-slice-read-number : tie.Need-slice-read-number
-slice-read-number c = search rules
+bounds-order-table : tie.Need-bounds-order-table
+bounds-order-table c = search rules
 
-cast-number : tie.Need-overflow-cast-number
-cast-number c =
-    let e = c.before.before.before.before.before in
-    let w = e.requires.0.0.within (e.args.self.table.finished + e.args.i) (omega (arith, e.requires.0.0.usable.few, e.requires.0.1)) in
-    record { fits = omega (arith, w, e.well-formed) }
+overflow_cast-number : tie.Need-overflow_cast-number
+overflow_cast-number c =
+    let w = c.requires.0.0.within (c.args.self.table.finished + c.args.i) (omega (arith, c.requires.0.0.usable.few, c.requires.0.1)) in
+    record { fits = omega (arith, w, c.well_formed) }
 
-overtaken-at-requires : tie.Need-overtaken-at-requires
-overtaken-at-requires c κs =
-    let e = c.before.before.before.before.before.before in (
-      e.requires.0.0.within (e.args.self.table.finished + e.args.i) (omega (arith, e.requires.0.0.usable.few, e.requires.0.1)),
-      queue_usable e.args.self.table e.args.order.now e.args.rows.now e.requires.0.0 e.args.i e.requires.0.1,
-    )
+overtaken_at-requires : tie.Need-overtaken_at-requires
+overtaken_at-requires c κs = (
+  c.requires.0.0.within (c.args.self.table.finished + c.args.i) (omega (arith, c.requires.0.0.usable.few, c.requires.0.1)),
+  queue_usable c.args.self.table c.args.order.now c.args.rows.now c.requires.0.0 c.args.i c.requires.0.1,
+)
 
 leave-requires : tie.Need-leave-requires
 leave-requires c κs =
-    let e = c.before.before.before.before.before.before.before.before.before.before.before in
-    let hit = sym c.before.before.before.before.overtaken-at.ensures ∙ c.before.before.before.if1.true in
-    ((e.requires.0.0, e.requires.0.1, e.requires.1.0 hit), e.requires.1.1)
+    let hit = sym c.overtaken_at.ensures ∙ c.if-overtaken_at.true in
+    ((c.requires.0.0, c.requires.0.1, c.requires.1.0 hit), c.requires.1.1)
 
-same_length : tie.Need-same-length
-same_length c = c.before.before.leave.auto.1.0
+shape_of-order-then-overtaken_at : tie.Need-shape_of-order-then-overtaken_at
+shape_of-order-then-overtaken_at c = c.leave.auto.order
+
+returns-then-overtaken_at : tie.Need-returns-then-overtaken_at
+returns-then-overtaken_at c =
+    let hit = sym c.overtaken_at.ensures ∙ c.if-overtaken_at.true in
+    rw hit c.leave.ensures
 
 returns : tie.Need-returns
 returns c =
-    let hit = sym c.before.before.before.before.before.before.before.overtaken-at.ensures ∙ c.before.before.before.before.before.before.if1.true in
-    rw hit c.before.before.leave.ensures
-
-returns-2 : tie.Need-returns-2
-returns-2 c =
-    let miss = sym c.before.overtaken-at.ensures ∙ c.if1.false in
+    let miss = sym c.overtaken_at.ensures ∙ c.if-overtaken_at.false in
     rw miss (record { dropped = refl; order = refl; book = refl; lists = refl })
 
-pub examine-spec : {M : Type 1} → statement M
-examine-spec =
+pub examine_spec : {M : Type 1} → statement M
+examine_spec =
     tie.close
     (tie.spec
-    add-number
-    slice-read-number
-    cast-number
-    overtaken-at-requires
+    overflow_add-number
+    bounds-order-table
+    overflow_cast-number
+    overtaken_at-requires
     leave-requires
-    same_length
-    returns
-    returns-2)
+    shape_of-order-then-overtaken_at
+    returns-then-overtaken_at
+    returns)

@@ -9,65 +9,65 @@ use Rattle.table.specs.MarkLaws.{marked_start, marked_next}
 use Rattle.table.proofs.blocking.in_progress.Statement.{statement}
 use Rattle.table.proofs.blocking.in_progress.Tie as tie
 
-abbrev invariant-loop : tie.invariant-loop
-invariant-loop order rows from to m₀ i₀ m i = (from ≤ i) × (i ≤ to) × (to ≤ length order) × MarksOf m (gather held_of (rows_in order rows from i))
+abbrev invariant-loop-i : tie.invariant-loop-i
+invariant-loop-i order rows from to m₀ i₀ m i = (from ≤ i) × (i ≤ to) × (to ≤ length order) × MarksOf m (gather held_of (rows_in order rows from i))
 
-abbrev decreases-loop : tie.decreases-loop
-decreases-loop order rows from to m₀ i₀ m i = to - i
+abbrev decreases-loop-i : tie.decreases-loop-i
+decreases-loop-i order rows from to m₀ i₀ m i = to - i
 
-loop-holds : tie.Need-loop-init invariant-loop decreases-loop
-loop-holds c =
-    let a = c.before.before.args in
-    (omega arith, c.before.before.requires.1, c.before.before.requires.0.few, marked_start held_of a.order.now a.rows.now a.from)
+loop-i-init : tie.Need-loop-i-init invariant-loop-i decreases-loop-i
+loop-i-init c =
+    let a = c.args in
+    (omega arith, c.requires.1, c.requires.0.few, marked_start held_of a.order.now a.rows.now a.from)
 
-shared-slice-read-marked-by : tie.Need-shared-slice-read-marked-by invariant-loop decreases-loop
-shared-slice-read-marked-by c = omega arith
+bounds-order-i : tie.Need-bounds-order-i invariant-loop-i decreases-loop-i
+bounds-order-i c = omega arith
 
-cast-marked-by : tie.Need-overflow-cast-marked-by invariant-loop decreases-loop
-cast-marked-by c =
-    let w = c.before.before.before.before.before.requires.0.within c.before.before.loop.i (omega arith) in
+overflow_cast-order : tie.Need-overflow_cast-order invariant-loop-i decreases-loop-i
+overflow_cast-order c =
+    let w = c.requires.0.within c.loop-i.i (omega arith) in
     record { fits = omega arith }
 
-marked-by-requires : tie.Need-marked-by-requires invariant-loop decreases-loop
-marked-by-requires c κs =
-    let u = c.before.before.before.before.before.requires.0 in
-    let l = c.before.before.loop in
+marked_by-m-requires : tie.Need-marked_by-m-requires invariant-loop-i decreases-loop-i
+marked_by-m-requires c κs =
+    let u = c.requires.0 in
+    let l = c.loop-i in
     ((u.within l.i (omega arith), u.each l.i (omega arith)), (l.invariant.3.each.long, l.invariant.3.strongs.long))
 
-add-i : tie.Need-overflow-add-i invariant-loop decreases-loop
-add-i c = omega arith
+overflow_add-i : tie.Need-overflow_add-i invariant-loop-i decreases-loop-i
+overflow_add-i c = omega arith
 
-loop-less : tie.Need-loop-smaller invariant-loop decreases-loop
-loop-less c = omega arith
+loop-i-smaller : tie.Need-loop-i-smaller invariant-loop-i decreases-loop-i
+loop-i-smaller c = omega arith
 
-loop-again : tie.Need-loop-preserved invariant-loop decreases-loop
-loop-again c =
-    let a = c.before.before.before.before.before.before.args in
-    let u = c.before.before.before.before.before.before.requires.0 in
-    let l = c.before.before.before.loop in (
+loop-i-preserved : tie.Need-loop-i-preserved invariant-loop-i decreases-loop-i
+loop-i-preserved c =
+    let a = c.args in
+    let u = c.requires.0 in
+    let l = c.loop-i in (
       omega arith,
       omega arith,
       l.invariant.2,
-      marked_next held_of a.order.now a.rows.now l.m c.marked_by.result a.from l.i l.invariant.0
-          (omega (arith, u.few)) l.invariant.3 c.marked_by.ensures,
+      marked_next held_of a.order.now a.rows.now l.m c.marked_by-m.result a.from l.i l.invariant.0
+          (omega (arith, u.few)) l.invariant.3 c.marked_by-m.ensures,
     )
 
-returns : tie.Need-returns invariant-loop decreases-loop
+returns : tie.Need-returns invariant-loop-i decreases-loop-i
 returns c =
-    let e : c.before.loop.i ≡ c.before.before.before.before.args.to = omega arith in
-    rw e at c.before.loop.invariant.3
+    let e : c.loop-i.i ≡ c.args.to = omega arith in
+    rw e at c.loop-i.invariant.3
 
-pub in-progress-spec : {M : Type 1} → statement M
-in-progress-spec =
+pub in_progress_spec : {M : Type 1} → statement M
+in_progress_spec =
     tie.close
     (tie.spec
-    invariant-loop
-    decreases-loop
-    loop-holds
-    shared-slice-read-marked-by
-    cast-marked-by
-    marked-by-requires
-    add-i
-    loop-less
-    loop-again
+    invariant-loop-i
+    decreases-loop-i
+    loop-i-init
+    bounds-order-i
+    overflow_cast-order
+    marked_by-m-requires
+    overflow_add-i
+    loop-i-smaller
+    loop-i-preserved
     returns)

@@ -5,25 +5,33 @@ use Rattle.table.specs.Tries.{free_by}
 use Rattle.table.proofs.blocking.is_free.Statement.{statement}
 use Rattle.table.proofs.blocking.is_free.Tie as tie
 
-cast-at : tie.Need-overflow-cast-at
-cast-at c = record { fits = omega (arith, c.before.requires) }
+overflow_cast-at : tie.Need-overflow_cast-at
+overflow_cast-at c = record { fits = omega (arith, c.requires) }
 
-is-strong-requires : tie.Need-is-strong-requires
-is-strong-requires c κs = tt
+is_strong-requires : tie.Need-is_strong-requires
+is_strong-requires c κs = tt
 
-element-copy-out-result : tie.Need-element-copy-out-result
-element-copy-out-result c = omega (arith, c.before.before.before.requires)
+bounds-m-at : tie.Need-bounds-m-at
+bounds-m-at c = omega (arith, c.requires)
 
-element-copy-out-result-2 : tie.Need-element-copy-out-result-2
-element-copy-out-result-2 c = omega (arith, c.before.before.before.requires)
+bounds-m-at-else-is_strong : tie.Need-bounds-m-at-else-is_strong
+bounds-m-at-else-is_strong c = omega (arith, c.requires)
 
-returns : tie.Need-returns
+returns-then-is_strong : tie.Need-returns-then-is_strong
 unfolding free_by
-returns c = rw (sym c.before.before.is-strong.ensures ∙ c.before.if1.true)
+returns-then-is_strong c = rw (sym c.is_strong.ensures ∙ c.if-is_strong.true)
 
-returns-2 : tie.Need-returns-2
+returns-else-is_strong : tie.Need-returns-else-is_strong
 unfolding free_by
-returns-2 c = rw (sym c.before.before.is-strong.ensures ∙ c.before.if1.false)
+returns-else-is_strong c = rw (sym c.is_strong.ensures ∙ c.if-is_strong.false)
 
-pub is-free-spec : {M : Type 1} → statement M
-is-free-spec = tie.close (tie.spec cast-at is-strong-requires element-copy-out-result element-copy-out-result-2 returns returns-2)
+pub is_free_spec : {M : Type 1} → statement M
+is_free_spec =
+    tie.close
+    (tie.spec
+    overflow_cast-at
+    is_strong-requires
+    bounds-m-at
+    bounds-m-at-else-is_strong
+    returns-then-is_strong
+    returns-else-is_strong)

@@ -10,25 +10,31 @@ use Rattle.table.specs.MarkLaws.{more_none}
 use Rattle.table.proofs.blocking.marked_by.Statement.{statement}
 use Rattle.table.proofs.blocking.marked_by.Tie as tie
 
-runs-at-requires : tie.Need-runs-at-requires
-runs-at-requires c κs = search rules
+runs_at-requires : tie.Need-runs_at-requires
+runs_at-requires c κs = search rules
 
 marked-requires : tie.Need-marked-requires
 marked-requires c κs = search rules
 
-returns : tie.Need-returns
+returns-then-runs_at : tie.Need-returns-then-runs_at
 unfolding operation_of
-returns c =
-    let a = c.before.before.before.before.args in
+returns-then-runs_at c =
+    let a = c.args in
     subst (λ (b : Bool). More c.marked.result a.m (cond b (entry_updates (row_at a.rows.now a.e)) []))
-    (sym (sym c.before.before.runs-at.ensures ∙ c.before.if1.true)) c.marked.ensures
+    (sym (sym c.runs_at.ensures ∙ c.if-runs_at.true)) c.marked.ensures
 
-returns-2 : tie.Need-returns-2
+returns-else-runs_at : tie.Need-returns-else-runs_at
 unfolding operation_of
-returns-2 c =
-    let a = c.before.before.before.args in
+returns-else-runs_at c =
+    let a = c.args in
     subst (λ (b : Bool). More a.m a.m (cond b (entry_updates (row_at a.rows.now a.e)) []))
-    (sym (sym c.before.runs-at.ensures ∙ c.if1.false)) (more_none a.m c.before.before.before.requires.1.0 c.before.before.before.requires.1.1)
+    (sym (sym c.runs_at.ensures ∙ c.if-runs_at.false)) (more_none a.m c.requires.1.0 c.requires.1.1)
 
-pub marked-by-spec : {M : Type 1} → statement M
-marked-by-spec = tie.close (tie.spec runs-at-requires marked-requires returns returns-2)
+pub marked_by_spec : {M : Type 1} → statement M
+marked_by_spec =
+    tie.close
+    (tie.spec
+    runs_at-requires
+    marked-requires
+    returns-then-runs_at
+    returns-else-runs_at)

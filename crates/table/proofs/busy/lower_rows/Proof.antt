@@ -10,77 +10,74 @@ use Rattle.table.specs.BusyLaws.{lowered_start, lowered_next, lowered_some}
 use Rattle.table.proofs.busy.lower_rows.Statement.{statement}
 use Rattle.table.proofs.busy.lower_rows.Tie as tie
 
-abbrev invariant-loop : tie.invariant-loop
-invariant-loop order rows book₀ from to i₀ book i = (from ≤ i) × (i ≤ to) × (to ≤ length order) × CountsMore (rows_in order rows from i) book book₀
+abbrev invariant-loop-i : tie.invariant-loop-i
+invariant-loop-i order rows book₀ from to i₀ book i = (from ≤ i) × (i ≤ to) × (to ≤ length order) × CountsMore (rows_in order rows from i) book book₀
 
-abbrev decreases-loop : tie.decreases-loop
-decreases-loop order rows book₀ from to i₀ book i = to - i
+abbrev decreases-loop-i : tie.decreases-loop-i
+decreases-loop-i order rows book₀ from to i₀ book i = to - i
 
-loop-holds : tie.Need-loop-init invariant-loop decreases-loop
-loop-holds c =
-    let e = c.before.before in
-    let a = e.args in
-    (omega arith, e.requires.0.1, e.requires.0.0.few, lowered_start a.order.now a.rows.now a.from a.book.now)
+loop-i-init : tie.Need-loop-i-init invariant-loop-i decreases-loop-i
+loop-i-init c =
+    let a = c.args in
+    (omega arith, c.requires.0.1, c.requires.0.0.few, lowered_start a.order.now a.rows.now a.from a.book.now)
 
-shared-slice-read-row-at : tie.Need-shared-slice-read-row-at invariant-loop decreases-loop
-shared-slice-read-row-at c = omega arith
+bounds-order-i : tie.Need-bounds-order-i invariant-loop-i decreases-loop-i
+bounds-order-i c = omega arith
 
-cast-row-at : tie.Need-overflow-cast-row-at invariant-loop decreases-loop
-cast-row-at c =
-    let w = c.before.before.before.before.before.requires.0.0.within c.before.before.loop.i (omega arith) in
+overflow_cast-order : tie.Need-overflow_cast-order invariant-loop-i decreases-loop-i
+overflow_cast-order c =
+    let w = c.requires.0.0.within c.loop-i.i (omega arith) in
     record { fits = omega arith }
 
-row-at-requires : tie.Need-row-at-requires invariant-loop decreases-loop
-row-at-requires c κs = c.before.before.before.before.before.requires.0.0.within c.before.before.loop.i (omega arith)
+row_at-e-requires : tie.Need-row_at-e-requires invariant-loop-i decreases-loop-i
+row_at-e-requires c κs = c.requires.0.0.within c.loop-i.i (omega arith)
 
-lower-requires : tie.Need-lower-requires invariant-loop decreases-loop
+lower-requires : tie.Need-lower-requires invariant-loop-i decreases-loop-i
 lower-requires c κs =
-    let e = c.before.before.before.before.before.before.before in
-    let a = e.args in
-    let l = c.before.before.before.before.loop in
-    let u = e.requires.0.0 in
-    let usable = subst UsableEntry (sym c.before.row_at.ensures) (u.each l.i (omega arith)) in (
+    let a = c.args in
+    let l = c.loop-i in
+    let u = c.requires.0.0 in
+    let usable = subst UsableEntry (sym c.row_at-e.ensures) (u.each l.i (omega arith)) in (
       usable,
-      lowered_some a.order.now a.rows.now a.from l.i l.invariant.0 _ c.before.row_at.ensures l.book a.book.now l.invariant.3
-          a.to (omega arith) (omega (arith, u.few)) usable e.requires.1,
+      lowered_some a.order.now a.rows.now a.from l.i l.invariant.0 _ c.row_at-e.ensures l.book a.book.now l.invariant.3
+          a.to (omega arith) (omega (arith, u.few)) usable c.requires.1,
     )
 
-add-i : tie.Need-overflow-add-i invariant-loop decreases-loop
-add-i c = omega arith
+overflow_add-i : tie.Need-overflow_add-i invariant-loop-i decreases-loop-i
+overflow_add-i c = omega arith
 
-loop-less : tie.Need-loop-smaller invariant-loop decreases-loop
-loop-less c = omega arith
+loop-i-smaller : tie.Need-loop-i-smaller invariant-loop-i decreases-loop-i
+loop-i-smaller c = omega arith
 
-loop-again : tie.Need-loop-preserved invariant-loop decreases-loop
-loop-again c =
-    let e = c.before.before.before.before.before.before.before.before in
-    let a = e.args in
-    let l = c.before.before.before.before.before.loop in
-    let u = e.requires.0.0 in (
+loop-i-preserved : tie.Need-loop-i-preserved invariant-loop-i decreases-loop-i
+loop-i-preserved c =
+    let a = c.args in
+    let l = c.loop-i in
+    let u = c.requires.0.0 in (
       omega arith,
       omega arith,
       l.invariant.2,
-      lowered_next a.order.now a.rows.now a.from l.i l.invariant.0 _ c.before.before.row_at.ensures l.book a.book.now l.invariant.3 _
+      lowered_next a.order.now a.rows.now a.from l.i l.invariant.0 _ c.row_at-e.ensures l.book a.book.now l.invariant.3 _
           (omega (arith, u.few)) c.lower.ensures,
     )
 
-returns : tie.Need-returns invariant-loop decreases-loop
+returns : tie.Need-returns invariant-loop-i decreases-loop-i
 returns c =
-    let e : c.before.loop.i ≡ c.before.before.before.before.args.to = omega arith in
-    rw e at c.before.loop.invariant.3
+    let e : c.loop-i.i ≡ c.args.to = omega arith in
+    rw e at c.loop-i.invariant.3
 
-pub lower-rows-spec : {M : Type 1} → statement M
-lower-rows-spec =
+pub lower_rows_spec : {M : Type 1} → statement M
+lower_rows_spec =
     tie.close
     (tie.spec
-    invariant-loop
-    decreases-loop
-    loop-holds
-    shared-slice-read-row-at
-    cast-row-at
-    row-at-requires
+    invariant-loop-i
+    decreases-loop-i
+    loop-i-init
+    bounds-order-i
+    overflow_cast-order
+    row_at-e-requires
     lower-requires
-    add-i
-    loop-less
-    loop-again
+    overflow_add-i
+    loop-i-smaller
+    loop-i-preserved
     returns)

@@ -8,69 +8,69 @@ use Rattle.table.specs.ShiftLaws.{omit_up, moved-end}
 use Rattle.table.proofs.order.move_back.Statement.{statement}
 use Rattle.table.proofs.order.move_back.Tie as tie
 
-abbrev invariant-loop : tie.invariant-loop
-invariant-loop order₀ from to x i₀ order i = (from ≤ i) × (i ≤ to) × (length order ≡ length order₀) × (omit i order ≡ omit from order₀)
+abbrev invariant-loop-i : tie.invariant-loop-i
+invariant-loop-i order₀ from to x i₀ order i = (from ≤ i) × (i ≤ to) × (length order ≡ length order₀) × (omit i order ≡ omit from order₀)
 
-abbrev decreases-loop : tie.decreases-loop
-decreases-loop order₀ from to x i₀ order i = to - i
+abbrev decreases-loop-i : tie.decreases-loop-i
+decreases-loop-i order₀ from to x i₀ order i = to - i
 
-slice-read-x : tie.Need-slice-read-x invariant-loop decreases-loop
-slice-read-x c = omega arith
+bounds-order-from : tie.Need-bounds-order-from invariant-loop-i decreases-loop-i
+bounds-order-from c = omega arith
 
-loop-holds : tie.Need-loop-init invariant-loop decreases-loop
-loop-holds c = (omega arith, omega arith, refl, refl)
+loop-i-init : tie.Need-loop-i-init invariant-loop-i decreases-loop-i
+loop-i-init c = (omega arith, omega arith, refl, refl)
 
-add-order : tie.Need-overflow-add-order invariant-loop decreases-loop
-add-order c = omega arith
+overflow_add-order : tie.Need-overflow_add-order invariant-loop-i decreases-loop-i
+overflow_add-order c = omega arith
 
-slice-read-order : tie.Need-slice-read-order invariant-loop decreases-loop
-slice-read-order c = omega arith
+bounds-order-i : tie.Need-bounds-order-i invariant-loop-i decreases-loop-i
+bounds-order-i c = omega arith
 
-slice-write-order : tie.Need-slice-write-order invariant-loop decreases-loop
-slice-write-order c = omega arith
+bounds-order-i-in-loop-i : tie.Need-bounds-order-i-in-loop-i invariant-loop-i decreases-loop-i
+bounds-order-i-in-loop-i c = omega arith
 
-add-i : tie.Need-overflow-add-i invariant-loop decreases-loop
-add-i c = omega arith
+overflow_add-i : tie.Need-overflow_add-i invariant-loop-i decreases-loop-i
+overflow_add-i c = omega arith
 
-loop-less : tie.Need-loop-smaller invariant-loop decreases-loop
-loop-less c = omega arith
+loop-i-smaller : tie.Need-loop-i-smaller invariant-loop-i decreases-loop-i
+loop-i-smaller c = omega arith
 
-loop-again : tie.Need-loop-preserved invariant-loop decreases-loop
-loop-again c =
-    let l = c.before.before.loop in (
+loop-i-preserved : tie.Need-loop-i-preserved invariant-loop-i decreases-loop-i
+loop-i-preserved c =
+    let l = c.loop-i in (
       omega arith,
       omega arith,
       length-set l.order l.i _ ∙ l.invariant.2,
       omit_up l.i l.order (omega arith) ∙ l.invariant.3,
     )
 
-slice-write-order-2 : tie.Need-slice-write-order-2 invariant-loop decreases-loop
-slice-write-order-2 c = omega arith
+bounds-order-to : tie.Need-bounds-order-to invariant-loop-i decreases-loop-i
+bounds-order-to c = omega arith
 
-same_length : tie.Need-same-length invariant-loop decreases-loop
-same_length c = length-set c.before.loop.order _ _ ∙ c.before.loop.invariant.2
+shape_of-order : tie.Need-shape_of-order invariant-loop-i decreases-loop-i
+shape_of-order c = length-set c.loop-i.order _ _ ∙ c.loop-i.invariant.2
 
-returns : tie.Need-returns invariant-loop decreases-loop
+returns : tie.Need-returns invariant-loop-i decreases-loop-i
 returns c =
-    let a = c.before.before.before.args in
-    let l = c.before.loop in
+    let a = c.args in
+    let l = c.loop-i in
     let e : l.i ≡ a.to = omega arith in
     moved-end a.from a.to _ a.order.now l.order (omega arith) (ap (λ (k : ℕ). omit k l.order) (sym e) ∙ l.invariant.3) refl
 
-pub move-back-spec : {M : Type 1} → statement M
-move-back-spec =
+pub move_back_spec : {M : Type 1} → statement M
+move_back_spec =
     tie.close
     (tie.spec
-    invariant-loop
-    decreases-loop
-    slice-read-x
-    loop-holds
-    add-order
-    slice-read-order
-    slice-write-order
-    add-i
-    loop-less
-    loop-again
-    slice-write-order-2
-    same_length
+    invariant-loop-i
+    decreases-loop-i
+    bounds-order-from
+    loop-i-init
+    overflow_add-order
+    bounds-order-i
+    bounds-order-i-in-loop-i
+    overflow_add-i
+    loop-i-smaller
+    loop-i-preserved
+    bounds-order-to
+    shape_of-order
     returns)

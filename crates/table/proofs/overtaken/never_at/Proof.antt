@@ -16,102 +16,102 @@ use Rattle.table.specs.EntryLaws.{never_read}
 use Rattle.table.proofs.overtaken.never_at.Statement.{statement}
 use Rattle.table.proofs.overtaken.never_at.Tie as tie
 
-abbrev invariant-loop : tie.invariant-loop
-invariant-loop rows e book n j₀ j =
+abbrev invariant-loop-j : tie.invariant-loop-j
+invariant-loop-j rows e book n j₀ j =
     (j ≤ n) × (n ≡ (row_at rows e).count)
     × (any (λ (x : Item). never_in (cells_of (histories_in book)) (item_update x)) (take j (row_at rows e).items) ≡ false)
 
-abbrev decreases-loop : tie.decreases-loop
-decreases-loop rows e book n j₀ j = n - j
+abbrev decreases-loop-j : tie.decreases-loop-j
+decreases-loop-j rows e book n j₀ j = n - j
 
-count-at-requires : tie.Need-count-at-requires invariant-loop decreases-loop
-count-at-requires c κs = c.before.requires.0
+count_at-n-requires : tie.Need-count_at-n-requires invariant-loop-j decreases-loop-j
+count_at-n-requires c κs = c.requires.0
 
-loop-holds : tie.Need-loop-init invariant-loop decreases-loop
-loop-holds c = (omega arith, c.count_at.ensures, refl)
+loop-j-init : tie.Need-loop-j-init invariant-loop-j decreases-loop-j
+loop-j-init c = (omega arith, c.count_at-n.ensures, refl)
 
-item-in-requires : tie.Need-item-in-requires invariant-loop decreases-loop
-item-in-requires c κs =
-    (c.before.before.before.before.requires.0, omega (arith, c.before.loop.invariant.1, c.before.before.before.before.requires.1.few))
+item_in-x-requires : tie.Need-item_in-x-requires invariant-loop-j decreases-loop-j
+item_in-x-requires c κs =
+    (c.requires.0, omega (arith, c.loop-j.invariant.1, c.requires.1.few))
 
-cast-at : tie.Need-overflow-cast-at invariant-loop decreases-loop
-cast-at c = search rules
+overflow_cast-at : tie.Need-overflow_cast-at invariant-loop-j decreases-loop-j
+overflow_cast-at c = search rules
 
-history-at-requires : tie.Need-history-at-requires invariant-loop decreases-loop
-history-at-requires c κs =
-    let l = c.before.before.before.loop in
-    subst (λ (x : Item). x.history < 16) (sym c.before.item_in.ensures)
-    (c.before.before.before.before.before.before.requires.1.each l.j (omega (arith, l.invariant.1))).history
+history_at-h-requires : tie.Need-history_at-h-requires invariant-loop-j decreases-loop-j
+history_at-h-requires c κs =
+    let l = c.loop-j in
+    subst (λ (x : Item). x.history < 16) (sym c.item_in-x.ensures)
+    (c.requires.1.each l.j (omega (arith, l.invariant.1))).history
 
-is-never-requires : tie.Need-is-never-requires invariant-loop decreases-loop
-is-never-requires c κs = tt
+is_never-requires : tie.Need-is_never-requires invariant-loop-j decreases-loop-j
+is_never-requires c κs = tt
 
-returns : tie.Need-returns invariant-loop decreases-loop
+returns-then-is_never : tie.Need-returns-then-is_never invariant-loop-j decreases-loop-j
 unfolding operation_of
-returns c =
-    let a = c.before.before.before.before.before.before.before.before.before.args in
-    let v = c.before.before.before.before.before.before.before.before.before.requires.1 in
-    let l = c.before.before.before.before.before.before.loop in
+returns-then-is_never c =
+    let a = c.args in
+    let v = c.requires.1 in
+    let l = c.loop-j in
     let cells = cells_of (histories_in a.book.now) in
     let e = row_at a.rows.now a.e in
     sym (any-map item_update (never_in cells) (items_of e)
     ∙ any_hit (λ (x : Item). never_in cells (item_update x)) e.items no_item l.j e.count (omega (arith, l.invariant.1))
     (omega (arith, v.long, v.few))
-    (never_read (histories_in a.book.now) (get_or e.items l.j no_item) c.before.before.before.before.item_in.ensures
-    c.before.before.history-at.ensures c.before.is_never.ensures
-    ∙ c.if1.true))
+    (never_read (histories_in a.book.now) (get_or e.items l.j no_item) c.item_in-x.ensures
+    c.history_at-h.ensures c.is_never.ensures
+    ∙ c.if-is_never.true))
 
-add-j : tie.Need-overflow-add-j invariant-loop decreases-loop
-add-j c =
+overflow_add-j : tie.Need-overflow_add-j invariant-loop-j decreases-loop-j
+overflow_add-j c =
     omega (
       arith,
-      c.before.before.before.before.before.before.loop.invariant.1,
-      c.before.before.before.before.before.before.before.before.before.requires.1.few,
+      c.loop-j.invariant.1,
+      c.requires.1.few,
     )
 
-loop-less : tie.Need-loop-smaller invariant-loop decreases-loop
-loop-less c = omega arith
+loop-j-smaller : tie.Need-loop-j-smaller invariant-loop-j decreases-loop-j
+loop-j-smaller c = omega arith
 
-loop-again : tie.Need-loop-preserved invariant-loop decreases-loop
-loop-again c =
-    let a = c.before.before.before.before.before.before.before.before.before.args in
-    let v = c.before.before.before.before.before.before.before.before.before.requires.1 in
-    let l = c.before.before.before.before.before.before.loop in
+loop-j-preserved : tie.Need-loop-j-preserved invariant-loop-j decreases-loop-j
+loop-j-preserved c =
+    let a = c.args in
+    let v = c.requires.1 in
+    let l = c.loop-j in
     let cells = cells_of (histories_in a.book.now) in
     let e = row_at a.rows.now a.e in (
       omega arith,
       l.invariant.1,
       any_next (λ (x : Item). never_in cells (item_update x)) e.items no_item l.j
           (omega (arith, l.invariant.1, v.long, v.few)) l.invariant.2
-          (never_read (histories_in a.book.now) (get_or e.items l.j no_item) c.before.before.before.before.item_in.ensures
-          c.before.before.history-at.ensures c.before.is_never.ensures
-          ∙ c.if1.false),
+          (never_read (histories_in a.book.now) (get_or e.items l.j no_item) c.item_in-x.ensures
+          c.history_at-h.ensures c.is_never.ensures
+          ∙ c.if-is_never.false),
     )
 
-returns-2 : tie.Need-returns-2 invariant-loop decreases-loop
+returns : tie.Need-returns invariant-loop-j decreases-loop-j
 unfolding operation_of
-returns-2 c =
-    let a = c.before.before.before.before.args in
-    let l = c.before.loop in
+returns c =
+    let a = c.args in
+    let l = c.loop-j in
     let cells = cells_of (histories_in a.book.now) in
     let e = row_at a.rows.now a.e in
     let q : l.j ≡ e.count = omega (arith, l.invariant.1) in
     sym (any-map item_update (never_in cells) (items_of e) ∙ rw q at l.invariant.2)
 
-pub never-at-spec : {M : Type 1} → statement M
-never-at-spec =
+pub never_at_spec : {M : Type 1} → statement M
+never_at_spec =
     tie.close
     (tie.spec
-    invariant-loop
-    decreases-loop
-    count-at-requires
-    loop-holds
-    item-in-requires
-    cast-at
-    history-at-requires
-    is-never-requires
-    returns
-    add-j
-    loop-less
-    loop-again
-    returns-2)
+    invariant-loop-j
+    decreases-loop-j
+    count_at-n-requires
+    loop-j-init
+    item_in-x-requires
+    overflow_cast-at
+    history_at-h-requires
+    is_never-requires
+    returns-then-is_never
+    overflow_add-j
+    loop-j-smaller
+    loop-j-preserved
+    returns)

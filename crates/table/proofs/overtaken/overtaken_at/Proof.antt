@@ -6,19 +6,25 @@ use borrow.Author.Rules.{rules}
 use Rattle.table.proofs.overtaken.overtaken_at.Statement.{statement}
 use Rattle.table.proofs.overtaken.overtaken_at.Tie as tie
 
-runs-at-requires : tie.Need-runs-at-requires
-runs-at-requires c κs = search rules
+runs_at-requires : tie.Need-runs_at-requires
+runs_at-requires c κs = search rules
 
-never-at-requires : tie.Need-never-at-requires
-never-at-requires c κs = search rules
+never_at-requires : tie.Need-never_at-requires
+never_at-requires c κs = search rules
 
-returns : tie.Need-returns
+returns-then-runs_at : tie.Need-returns-then-runs_at
 unfolding overtaken_in operation_of
-returns c = rw (sym c.before.runs-at.ensures ∙ c.if1.true)
+returns-then-runs_at c = rw (sym c.runs_at.ensures ∙ c.if-runs_at.true)
 
-returns-2 : tie.Need-returns-2
+returns-else-runs_at : tie.Need-returns-else-runs_at
 unfolding overtaken_in operation_of
-returns-2 c = rw (sym c.before.before.runs-at.ensures ∙ c.before.if1.false) c.never-at.ensures
+returns-else-runs_at c = rw (sym c.runs_at.ensures ∙ c.if-runs_at.false) c.never_at.ensures
 
-pub overtaken-at-spec : {M : Type 1} → statement M
-overtaken-at-spec = tie.close (tie.spec runs-at-requires never-at-requires returns returns-2)
+pub overtaken_at_spec : {M : Type 1} → statement M
+overtaken_at_spec =
+    tie.close
+    (tie.spec
+    runs_at-requires
+    never_at-requires
+    returns-then-runs_at
+    returns-else-runs_at)

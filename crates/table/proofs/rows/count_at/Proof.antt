@@ -4,20 +4,27 @@ use Rattle.table.specs.RowLaws.{row_count}
 use Rattle.table.proofs.rows.count_at.Statement.{statement}
 use Rattle.table.proofs.rows.count_at.Tie as tie
 
-mul-result : tie.Need-overflow-mul-result
-mul-result c = search rules
+overflow_mul-result : tie.Need-overflow_mul-result
+overflow_mul-result c = search rules
 
-add-result : tie.Need-overflow-add-result
-add-result c = search rules
+overflow_add-result : tie.Need-overflow_add-result
+overflow_add-result c = search rules
 
-mul-result-2 : tie.Need-overflow-mul-result-2
-mul-result-2 c = search rules
+offset_bounds-words-e : tie.Need-offset_bounds-words-e
+offset_bounds-words-e c = search rules
 
-shared-slice-read-result : tie.Need-shared-slice-read-result
-shared-slice-read-result c = search rules
+bounds-words-e : tie.Need-bounds-words-e
+bounds-words-e c = search rules
 
 returns : tie.Need-returns
 returns c = row_count _ _
 
-pub count-at-spec : {M : Type 1} → statement M
-count-at-spec = tie.close (tie.spec mul-result add-result mul-result-2 shared-slice-read-result returns)
+pub count_at_spec : {M : Type 1} → statement M
+count_at_spec =
+    tie.close
+    (tie.spec
+    overflow_mul-result
+    overflow_add-result
+    offset_bounds-words-e
+    bounds-words-e
+    returns)

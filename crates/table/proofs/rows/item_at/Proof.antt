@@ -4,78 +4,77 @@ use borrow.Author.Rules.{rules}
 use Rattle.table.proofs.rows.item_at.Statement.{statement}
 use Rattle.table.proofs.rows.item_at.Tie as tie
 
-mul-rule-named : tie.Need-overflow-mul-rule-named
-mul-rule-named c = search rules
+offset_bounds-words-at : tie.Need-offset_bounds-words-at
+offset_bounds-words-at c = search rules
 
-shared-slice-read-rule-named : tie.Need-shared-slice-read-rule-named
-shared-slice-read-rule-named c = search rules
+bounds-words-at : tie.Need-bounds-words-at
+bounds-words-at c = search rules
 
-rule-named-requires : tie.Need-rule-named-requires
-rule-named-requires c κs = search rules
+rule_named-rule-requires : tie.Need-rule_named-rule-requires
+rule_named-rule-requires c κs = search rules
 
-add-t4 : tie.Need-overflow-add-t4
-add-t4 c = search rules
+overflow_add-result : tie.Need-overflow_add-result
+overflow_add-result c = search rules
 
-mul-t7 : tie.Need-overflow-mul-t7
-mul-t7 c = search rules
+offset_bounds-words-at-2 : tie.Need-offset_bounds-words-at-2
+offset_bounds-words-at-2 c = search rules
 
-shared-slice-read-t6 : tie.Need-shared-slice-read-t6
-shared-slice-read-t6 c = search rules
+bounds-words-at-2 : tie.Need-bounds-words-at-2
+bounds-words-at-2 c = search rules
 
-add-t10 : tie.Need-overflow-add-t10
-add-t10 c = search rules
+overflow_add-result-2 : tie.Need-overflow_add-result-2
+overflow_add-result-2 c = search rules
 
-mul-t11 : tie.Need-overflow-mul-t11
-mul-t11 c = search rules
+offset_bounds-words-at-3 : tie.Need-offset_bounds-words-at-3
+offset_bounds-words-at-3 c = search rules
 
-shared-slice-read-t13 : tie.Need-shared-slice-read-t13
-shared-slice-read-t13 c = search rules
+bounds-words-at-3 : tie.Need-bounds-words-at-3
+bounds-words-at-3 c = search rules
 
-add-t15 : tie.Need-overflow-add-t15
-add-t15 c = search rules
+overflow_add-result-3 : tie.Need-overflow_add-result-3
+overflow_add-result-3 c = search rules
 
-mul-t16 : tie.Need-overflow-mul-t16
-mul-t16 c = search rules
+offset_bounds-words-at-4 : tie.Need-offset_bounds-words-at-4
+offset_bounds-words-at-4 c = search rules
 
-shared-slice-read-t18 : tie.Need-shared-slice-read-t18
-shared-slice-read-t18 c = search rules
+bounds-words-at-4 : tie.Need-bounds-words-at-4
+bounds-words-at-4 c = search rules
 
-add-small-byte : tie.Need-overflow-add-small-byte
-add-small-byte c = search rules
+overflow_add-at : tie.Need-overflow_add-at
+overflow_add-at c = search rules
 
-mul-small-byte : tie.Need-overflow-mul-small-byte
-mul-small-byte c = search rules
+offset_bounds-words-at-5 : tie.Need-offset_bounds-words-at-5
+offset_bounds-words-at-5 c = search rules
 
-shared-slice-read-small-byte : tie.Need-shared-slice-read-small-byte
-shared-slice-read-small-byte c = search rules
+bounds-words-at-5 : tie.Need-bounds-words-at-5
+bounds-words-at-5 c = search rules
 
-small-byte-requires : tie.Need-small-byte-requires
-small-byte-requires c κs = search rules
+small_byte-requires : tie.Need-small_byte-requires
+small_byte-requires c κs = search rules
 
 returns : tie.Need-returns
 returns c =
-    let e = c.before.before.before.before.before.before.before.before in
-    item_read e.args.words.now e.args.at c.before.before.before.before.before.rule-named.ensures
-    c.small-byte.ensures
+    item_read c.args.words.now c.args.at c.rule_named-rule.ensures
+    c.small_byte.ensures
 
-pub item-at-spec : {M : Type 1} → statement M
-item-at-spec =
+pub item_at_spec : {M : Type 1} → statement M
+item_at_spec =
     tie.close
     (tie.spec
-    mul-rule-named
-    shared-slice-read-rule-named
-    rule-named-requires
-    add-t4
-    mul-t7
-    shared-slice-read-t6
-    add-t10
-    mul-t11
-    shared-slice-read-t13
-    add-t15
-    mul-t16
-    shared-slice-read-t18
-    add-small-byte
-    mul-small-byte
-    shared-slice-read-small-byte
-    small-byte-requires
+    offset_bounds-words-at
+    bounds-words-at
+    rule_named-rule-requires
+    overflow_add-result
+    offset_bounds-words-at-2
+    bounds-words-at-2
+    overflow_add-result-2
+    offset_bounds-words-at-3
+    bounds-words-at-3
+    overflow_add-result-3
+    offset_bounds-words-at-4
+    bounds-words-at-4
+    overflow_add-at
+    offset_bounds-words-at-5
+    bounds-words-at-5
+    small_byte-requires
     returns)

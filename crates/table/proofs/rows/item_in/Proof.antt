@@ -5,25 +5,32 @@ use Rattle.table.specs.RowLaws.{row-item}
 use Rattle.table.proofs.rows.item_in.Statement.{statement}
 use Rattle.table.proofs.rows.item_in.Tie as tie
 
-mul_at : tie.Need-overflow-mul-at
-mul_at c = search rules
+overflow_mul-at : tie.Need-overflow_mul-at
+overflow_mul-at c = search rules
 
-add_at : tie.Need-overflow-add-at
-add_at c = search rules
+overflow_add-at : tie.Need-overflow_add-at
+overflow_add-at c = search rules
 
-mul-item-at : tie.Need-overflow-mul-item-at
-mul-item-at c = search rules
+overflow_mul-j : tie.Need-overflow_mul-j
+overflow_mul-j c = search rules
 
-add-item-at : tie.Need-overflow-add-item-at
-add-item-at c = search rules
+overflow_add-at-2 : tie.Need-overflow_add-at-2
+overflow_add-at-2 c = search rules
 
-item-at-requires : tie.Need-item-at-requires
-item-at-requires c κs = search rules
+item_at-requires : tie.Need-item_at-requires
+item_at-requires c κs = search rules
 
 returns : tie.Need-returns
 returns c =
-    let e = c.before.before in
-    c.item-at.ensures ∙ row-item e.args.words.now e.args.e e.args.j e.requires.1
+    c.item_at.ensures ∙ row-item c.args.words.now c.args.e c.args.j c.requires.1
 
-pub item-in-spec : {M : Type 1} → statement M
-item-in-spec = tie.close (tie.spec mul_at add_at mul-item-at add-item-at item-at-requires returns)
+pub item_in_spec : {M : Type 1} → statement M
+item_in_spec =
+    tie.close
+    (tie.spec
+    overflow_mul-at
+    overflow_add-at
+    overflow_mul-j
+    overflow_add-at-2
+    item_at-requires
+    returns)

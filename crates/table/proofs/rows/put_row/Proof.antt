@@ -17,128 +17,118 @@ bit : (b : Bool) → eqb (bool_byte b) 1 ≡ b
 bit true = refl
 bit false = refl
 
-mul_at : tie.Need-overflow-mul-at
-mul_at c = search rules
+overflow_mul-at : tie.Need-overflow_mul-at
+overflow_mul-at c = search rules
 
-mul_words : tie.Need-overflow-mul-words
-mul_words c = search rules
+offset_bounds-words-at : tie.Need-offset_bounds-words-at
+offset_bounds-words-at c = search rules
 
-slice-write-words : tie.Need-slice-write-words
-slice-write-words c = search rules
+bounds-words-at : tie.Need-bounds-words-at
+bounds-words-at c = search rules
 
-cast-words : tie.Need-overflow-cast-words
-cast-words c = search rules
+overflow_cast-words : tie.Need-overflow_cast-words
+overflow_cast-words c = search rules
 
-add_words : tie.Need-overflow-add-words
-add_words c = search rules
+overflow_add-words : tie.Need-overflow_add-words
+overflow_add-words c = search rules
 
-mul-words-2 : tie.Need-overflow-mul-words-2
-mul-words-2 c = search rules
+offset_bounds-words-at-2 : tie.Need-offset_bounds-words-at-2
+offset_bounds-words-at-2 c = search rules
 
-slice-write-words-2 : tie.Need-slice-write-words-2
-slice-write-words-2 c = simp length-set (omega arith)
+bounds-words-at-2 : tie.Need-bounds-words-at-2
+bounds-words-at-2 c = simp length-set (omega arith)
 
-add-words-2 : tie.Need-overflow-add-words-2
-add-words-2 c = search rules
+overflow_add-words-2 : tie.Need-overflow_add-words-2
+overflow_add-words-2 c = search rules
 
-mul-words-3 : tie.Need-overflow-mul-words-3
-mul-words-3 c = search rules
+offset_bounds-words-at-3 : tie.Need-offset_bounds-words-at-3
+offset_bounds-words-at-3 c = search rules
 
-slice-write-words-3 : tie.Need-slice-write-words-3
-slice-write-words-3 c = simp length-set (omega arith)
+bounds-words-at-3 : tie.Need-bounds-words-at-3
+bounds-words-at-3 c = simp length-set (omega arith)
 
-add-put-item : tie.Need-overflow-add-put-item
-add-put-item c = search rules
+overflow_add-at : tie.Need-overflow_add-at
+overflow_add-at c = search rules
 
-array-copy-out-put-item : tie.Need-array-copy-out-put-item
-array-copy-out-put-item c = search rules
+bounds-items-0 : tie.Need-bounds-items-0
+bounds-items-0 c = search rules
 
-put-item-requires : tie.Need-put-item-requires
-put-item-requires c κs = simp length-set (omega arith)
+put_item-requires : tie.Need-put_item-requires
+put_item-requires c κs = simp length-set (omega arith)
 
-add-put-item-2 : tie.Need-overflow-add-put-item-2
-add-put-item-2 c = search rules
+overflow_add-at-2 : tie.Need-overflow_add-at-2
+overflow_add-at-2 c = search rules
 
-array-copy-out-put-item-2 : tie.Need-array-copy-out-put-item-2
-array-copy-out-put-item-2 c = search rules
+bounds-items-1 : tie.Need-bounds-items-1
+bounds-items-1 c = search rules
 
-put-item-requires-2 : tie.Need-put-item-requires-2
-put-item-requires-2 c κs =
-    let a = c.before.before.before.before.before.before.before.before.before.before.args in
-    put_room _ _ _ _ c.before.before.before.before.put_item.ensures _
+put_item-requires-2 : tie.Need-put_item-requires-2
+put_item-requires-2 c κs =
+    let a = c.args in
+    put_room _ _ _ _ c.put_item.ensures _
     (first_room a.words.now (a.e * row_width) a.r.id (bool_byte a.r.running) a.r.count _ (omega arith))
 
-add-put-item-3 : tie.Need-overflow-add-put-item-3
-add-put-item-3 c = search rules
+overflow_add-at-3 : tie.Need-overflow_add-at-3
+overflow_add-at-3 c = search rules
 
-array-copy-out-put-item-3 : tie.Need-array-copy-out-put-item-3
-array-copy-out-put-item-3 c = search rules
+bounds-items-2 : tie.Need-bounds-items-2
+bounds-items-2 c = search rules
 
-put-item-requires-3 : tie.Need-put-item-requires-3
-put-item-requires-3 c κs =
-    let two = c.before.before.before.before in
-    let one = two.before.before.before.before.before in
-    let a = one.before.before.before.before.before.before.args in
-    put_room _ _ _ _ two.put-item2.ensures _
-    (put_room _ _ _ _ one.put_item.ensures _
+put_item-requires-3 : tie.Need-put_item-requires-3
+put_item-requires-3 c κs =
+    let a = c.args in
+    put_room _ _ _ _ c.put_item-2.ensures _
+    (put_room _ _ _ _ c.put_item.ensures _
     (first_room a.words.now (a.e * row_width) a.r.id (bool_byte a.r.running) a.r.count _ (omega arith)))
 
-add-put-item-4 : tie.Need-overflow-add-put-item-4
-add-put-item-4 c = search rules
+overflow_add-at-4 : tie.Need-overflow_add-at-4
+overflow_add-at-4 c = search rules
 
-array-copy-out-put-item-4 : tie.Need-array-copy-out-put-item-4
-array-copy-out-put-item-4 c = search rules
+bounds-items-3 : tie.Need-bounds-items-3
+bounds-items-3 c = search rules
 
-put-item-requires-4 : tie.Need-put-item-requires-4
-put-item-requires-4 c κs =
-    let three = c.before.before.before.before in
-    let two = three.before.before.before.before.before in
-    let one = two.before.before.before.before.before in
-    let a = one.before.before.before.before.before.before.args in
-    put_room _ _ _ _ three.put-item3.ensures _
-    (put_room _ _ _ _ two.put-item2.ensures _
-    (put_room _ _ _ _ one.put_item.ensures _
+put_item-requires-4 : tie.Need-put_item-requires-4
+put_item-requires-4 c κs =
+    let a = c.args in
+    put_room _ _ _ _ c.put_item-3.ensures _
+    (put_room _ _ _ _ c.put_item-2.ensures _
+    (put_room _ _ _ _ c.put_item.ensures _
     (first_room a.words.now (a.e * row_width) a.r.id (bool_byte a.r.running) a.r.count _ (omega arith))))
 
 returns : tie.Need-returns
 returns c =
-    let four = c.before.before in
-    let three = four.before.before.before.before.before in
-    let two = three.before.before.before.before.before in
-    let one = two.before.before.before.before.before in
-    let s = one.before.before.before.before.before.before in
-    let long : length s.args.r.items ≡ 4 = sym (length-map s.args.r.items _) ∙ s.well-formed.1.1.0.1.1.1.1.1.0.1.0.1 in
-    row_written s.args.words.now (s.args.e * row_width) s.args.r _ s.requires long (bit s.args.r.running) _ _ _ _
-    one.put_item.ensures two.put-item2.ensures three.put-item3.ensures four.put-item4.ensures s.args.e refl
+    let long : length c.args.r.items ≡ 4 = c.well_formed.1.1.0.1.1.1.1.1.0.1.0.1 in
+    row_written c.args.words.now (c.args.e * row_width) c.args.r _ c.requires long (bit c.args.r.running) _ _ _ _
+    c.put_item.ensures c.put_item-2.ensures c.put_item-3.ensures c.put_item-4.ensures c.args.e refl
 
-same_length : tie.Need-same-length
-same_length c = (returns c).long
+shape_of-words : tie.Need-shape_of-words
+shape_of-words c = (returns c).long
 
-pub put-row-spec : {M : Type 1} → statement M
-put-row-spec =
+pub put_row_spec : {M : Type 1} → statement M
+put_row_spec =
     tie.close
     (tie.spec
-    mul_at
-    mul_words
-    slice-write-words
-    cast-words
-    add_words
-    mul-words-2
-    slice-write-words-2
-    add-words-2
-    mul-words-3
-    slice-write-words-3
-    add-put-item
-    array-copy-out-put-item
-    put-item-requires
-    add-put-item-2
-    array-copy-out-put-item-2
-    put-item-requires-2
-    add-put-item-3
-    array-copy-out-put-item-3
-    put-item-requires-3
-    add-put-item-4
-    array-copy-out-put-item-4
-    put-item-requires-4
-    same_length
+    overflow_mul-at
+    offset_bounds-words-at
+    bounds-words-at
+    overflow_cast-words
+    overflow_add-words
+    offset_bounds-words-at-2
+    bounds-words-at-2
+    overflow_add-words-2
+    offset_bounds-words-at-3
+    bounds-words-at-3
+    overflow_add-at
+    bounds-items-0
+    put_item-requires
+    overflow_add-at-2
+    bounds-items-1
+    put_item-requires-2
+    overflow_add-at-3
+    bounds-items-2
+    put_item-requires-3
+    overflow_add-at-4
+    bounds-items-3
+    put_item-requires-4
+    shape_of-words
     returns)

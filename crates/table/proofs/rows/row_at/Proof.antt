@@ -6,83 +6,82 @@ use borrow.Author.Rules.{rules}
 use Rattle.table.proofs.rows.row_at.Statement.{statement}
 use Rattle.table.proofs.rows.row_at.Tie as tie
 
-mul_at : tie.Need-overflow-mul-at
-mul_at c = search rules
+overflow_mul-at : tie.Need-overflow_mul-at
+overflow_mul-at c = search rules
 
-add-item-at : tie.Need-overflow-add-item-at
-add-item-at c = search rules
+overflow_add-at : tie.Need-overflow_add-at
+overflow_add-at c = search rules
 
-item-at-requires : tie.Need-item-at-requires
-item-at-requires c κs = search rules
+item_at-a-requires : tie.Need-item_at-a-requires
+item_at-a-requires c κs = search rules
 
-add-item-at-2 : tie.Need-overflow-add-item-at-2
-add-item-at-2 c = search rules
+overflow_add-at-2 : tie.Need-overflow_add-at-2
+overflow_add-at-2 c = search rules
 
-item-at-requires-2 : tie.Need-item-at-requires-2
-item-at-requires-2 c κs = search rules
+item_at-b-requires : tie.Need-item_at-b-requires
+item_at-b-requires c κs = search rules
 
-add-item-at-3 : tie.Need-overflow-add-item-at-3
-add-item-at-3 c = search rules
+overflow_add-at-3 : tie.Need-overflow_add-at-3
+overflow_add-at-3 c = search rules
 
-item-at-requires-3 : tie.Need-item-at-requires-3
-item-at-requires-3 c κs = search rules
+item_at-c-requires : tie.Need-item_at-c-requires
+item_at-c-requires c κs = search rules
 
-add-item-at-4 : tie.Need-overflow-add-item-at-4
-add-item-at-4 c = search rules
+overflow_add-at-4 : tie.Need-overflow_add-at-4
+overflow_add-at-4 c = search rules
 
-item-at-requires-4 : tie.Need-item-at-requires-4
-item-at-requires-4 c κs = search rules
+item_at-d-requires : tie.Need-item_at-d-requires
+item_at-d-requires c κs = search rules
 
-mul-t8 : tie.Need-overflow-mul-t8
-mul-t8 c = search rules
+offset_bounds-words-at : tie.Need-offset_bounds-words-at
+offset_bounds-words-at c = search rules
 
-shared-slice-read-t10 : tie.Need-shared-slice-read-t10
-shared-slice-read-t10 c = search rules
+bounds-words-at : tie.Need-bounds-words-at
+bounds-words-at c = search rules
 
-add-t11 : tie.Need-overflow-add-t11
-add-t11 c = search rules
+overflow_add-result : tie.Need-overflow_add-result
+overflow_add-result c = search rules
 
-mul-t12 : tie.Need-overflow-mul-t12
-mul-t12 c = search rules
+offset_bounds-words-at-2 : tie.Need-offset_bounds-words-at-2
+offset_bounds-words-at-2 c = search rules
 
-shared-slice-read-t14 : tie.Need-shared-slice-read-t14
-shared-slice-read-t14 c = search rules
+bounds-words-at-2 : tie.Need-bounds-words-at-2
+bounds-words-at-2 c = search rules
 
-add-t16 : tie.Need-overflow-add-t16
-add-t16 c = search rules
+overflow_add-result-2 : tie.Need-overflow_add-result-2
+overflow_add-result-2 c = search rules
 
-mul-t17 : tie.Need-overflow-mul-t17
-mul-t17 c = search rules
+offset_bounds-words-at-3 : tie.Need-offset_bounds-words-at-3
+offset_bounds-words-at-3 c = search rules
 
-shared-slice-read-t19 : tie.Need-shared-slice-read-t19
-shared-slice-read-t19 c = search rules
+bounds-words-at-3 : tie.Need-bounds-words-at-3
+bounds-words-at-3 c = search rules
 
 returns : tie.Need-returns
 returns c =
-    let e = c.before.before.before.before.before.before.before.before in
-    entry_read e.args.words.now (e.args.e * row_width)
-    c.before.before.before.before.before.before.item-at.ensures c.before.before.before.before.before.item-at2.ensures
-    c.before.before.before.before.item-at3.ensures c.before.before.before.item-at4.ensures
+    entry_read c.args.words.now (c.args.e * row_width)
+    c.item_at-a.ensures c.item_at-b.ensures
+    c.item_at-c.ensures c.item_at-d.ensures
 
-pub row-at-spec : {M : Type 1} → statement M
-row-at-spec =
+pub row_at_spec : {M : Type 1} → statement M
+row_at_spec =
     tie.close
     (tie.spec
-    mul_at
-    add-item-at
-    item-at-requires
-    add-item-at-2
-    item-at-requires-2
-    add-item-at-3
-    item-at-requires-3
-    add-item-at-4
-    item-at-requires-4
-    mul-t8
-    shared-slice-read-t10
-    add-t11
-    mul-t12
-    shared-slice-read-t14
-    add-t16
-    mul-t17
-    shared-slice-read-t19
+    overflow_mul-at
+    overflow_add-at
+    item_at-a-requires
+    overflow_add-at-2
+    item_at-b-requires
+    overflow_add-at-3
+    item_at-c-requires
+    overflow_add-at-4
+    item_at-d-requires
+    offset_bounds-words-at
+    bounds-words-at
+    overflow_add-result
+    offset_bounds-words-at-2
+    bounds-words-at-2
+    overflow_add-result-2
+    offset_bounds-words-at-3
+    bounds-words-at-3
     returns)

@@ -4,20 +4,27 @@ use Rattle.table.specs.RowLaws.{row_running}
 use Rattle.table.proofs.rows.runs_at.Statement.{statement}
 use Rattle.table.proofs.rows.runs_at.Tie as tie
 
-mul-result : tie.Need-overflow-mul-result
-mul-result c = search rules
+overflow_mul-result : tie.Need-overflow_mul-result
+overflow_mul-result c = search rules
 
-add-result : tie.Need-overflow-add-result
-add-result c = search rules
+overflow_add-result : tie.Need-overflow_add-result
+overflow_add-result c = search rules
 
-mul-result-2 : tie.Need-overflow-mul-result-2
-mul-result-2 c = search rules
+offset_bounds-words-e : tie.Need-offset_bounds-words-e
+offset_bounds-words-e c = search rules
 
-shared-slice-read-result : tie.Need-shared-slice-read-result
-shared-slice-read-result c = search rules
+bounds-words-e : tie.Need-bounds-words-e
+bounds-words-e c = search rules
 
 returns : tie.Need-returns
 returns c = row_running _ _
 
-pub runs-at-spec : {M : Type 1} → statement M
-runs-at-spec = tie.close (tie.spec mul-result add-result mul-result-2 shared-slice-read-result returns)
+pub runs_at_spec : {M : Type 1} → statement M
+runs_at_spec =
+    tie.close
+    (tie.spec
+    overflow_mul-result
+    overflow_add-result
+    offset_bounds-words-e
+    bounds-words-e
+    returns)

@@ -5,16 +5,21 @@ use Rattle.history.specs.Words.{within}
 use Rattle.table.proofs.rows.small_byte.Statement.{statement}
 use Rattle.table.proofs.rows.small_byte.Tie as tie
 
-cast-result : tie.Need-overflow-cast-result
-cast-result c = search rules
+overflow_cast-result : tie.Need-overflow_cast-result
+overflow_cast-result c = search rules
 
-returns : tie.Need-returns
+returns-then-n-lt256 : tie.Need-returns-then-n-lt256
 unfolding within
-returns c = rw (lt-ltb _ _ c.if1.true)
+returns-then-n-lt256 c = rw (lt-ltb _ _ c.if-n-lt256.true)
 
-returns-2 : tie.Need-returns-2
+returns-else-n-lt256 : tie.Need-returns-else-n-lt256
 unfolding within
-returns-2 c = rw (le-ltb _ _ c.if1.false)
+returns-else-n-lt256 c = rw (le-ltb _ _ c.if-n-lt256.false)
 
-pub small-byte-spec : {M : Type 1} → statement M
-small-byte-spec = tie.close (tie.spec cast-result returns returns-2)
+pub small_byte_spec : {M : Type 1} → statement M
+small_byte_spec =
+    tie.close
+    (tie.spec
+    overflow_cast-result
+    returns-then-n-lt256
+    returns-else-n-lt256)

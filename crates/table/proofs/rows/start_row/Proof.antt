@@ -4,24 +4,31 @@ use borrow.Author.Rules.{rules}
 use Rattle.table.proofs.rows.start_row.Statement.{statement}
 use Rattle.table.proofs.rows.start_row.Tie as tie
 
-mul_words : tie.Need-overflow-mul-words
-mul_words c = search rules
+overflow_mul-words : tie.Need-overflow_mul-words
+overflow_mul-words c = search rules
 
-add_words : tie.Need-overflow-add-words
-add_words c = search rules
+overflow_add-words : tie.Need-overflow_add-words
+overflow_add-words c = search rules
 
-mul-words-2 : tie.Need-overflow-mul-words-2
-mul-words-2 c = search rules
+offset_bounds-words-e : tie.Need-offset_bounds-words-e
+offset_bounds-words-e c = search rules
 
-slice-write-words : tie.Need-slice-write-words
-slice-write-words c = search rules
+bounds-words-e : tie.Need-bounds-words-e
+bounds-words-e c = search rules
 
-same_length : tie.Need-same-length
-same_length c = search rules
+shape_of-words : tie.Need-shape_of-words
+shape_of-words c = search rules
 
 returns : tie.Need-returns
 returns c = start-put c.args.words.now c.args.e c.requires
 
-pub start-row-spec : {M : Type 1} → statement M
-start-row-spec =
-    tie.close (tie.spec mul_words add_words mul-words-2 slice-write-words same_length returns)
+pub start_row_spec : {M : Type 1} → statement M
+start_row_spec =
+    tie.close
+    (tie.spec
+    overflow_mul-words
+    overflow_add-words
+    offset_bounds-words-e
+    bounds-words-e
+    shape_of-words
+    returns)

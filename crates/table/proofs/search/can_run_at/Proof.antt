@@ -19,102 +19,102 @@ use Rattle.table.specs.LoopLaws.{all-next, all_miss}
 use Rattle.table.proofs.search.can_run_at.Statement.{statement}
 use Rattle.table.proofs.search.can_run_at.Tie as tie
 
-abbrev invariant-loop : tie.invariant-loop
-invariant-loop rows e book n j₀ j =
+abbrev invariant-loop-j : tie.invariant-loop-j
+invariant-loop-j rows e book n j₀ j =
     (j ≤ n) × (n ≡ (row_at rows e).count)
     × (all (λ (x : Item). runs_at (cells_of (histories_in book) x.history) (item_change x)) (take j (row_at rows e).items) ≡ true)
 
-abbrev decreases-loop : tie.decreases-loop
-decreases-loop rows e book n j₀ j = n - j
+abbrev decreases-loop-j : tie.decreases-loop-j
+decreases-loop-j rows e book n j₀ j = n - j
 
-count-at-requires : tie.Need-count-at-requires invariant-loop decreases-loop
-count-at-requires c κs = c.before.requires.0
+count_at-n-requires : tie.Need-count_at-n-requires invariant-loop-j decreases-loop-j
+count_at-n-requires c κs = c.requires.0
 
-loop-holds : tie.Need-loop-init invariant-loop decreases-loop
-loop-holds c = (omega arith, c.count_at.ensures, refl)
+loop-j-init : tie.Need-loop-j-init invariant-loop-j decreases-loop-j
+loop-j-init c = (omega arith, c.count_at-n.ensures, refl)
 
-item-in-requires : tie.Need-item-in-requires invariant-loop decreases-loop
-item-in-requires c κs =
-    (c.before.before.before.before.requires.0, omega (arith, c.before.loop.invariant.1, c.before.before.before.before.requires.1.few))
+item_in-x-requires : tie.Need-item_in-x-requires invariant-loop-j decreases-loop-j
+item_in-x-requires c κs =
+    (c.requires.0, omega (arith, c.loop-j.invariant.1, c.requires.1.few))
 
-cast-at : tie.Need-overflow-cast-at invariant-loop decreases-loop
-cast-at c = search rules
+overflow_cast-at : tie.Need-overflow_cast-at invariant-loop-j decreases-loop-j
+overflow_cast-at c = search rules
 
-history-at-requires : tie.Need-history-at-requires invariant-loop decreases-loop
-history-at-requires c κs =
-    let l = c.before.before.before.loop in
-    subst (λ (x : Item). x.history < 16) (sym c.before.item_in.ensures)
-    (c.before.before.before.before.before.before.requires.1.each l.j (omega (arith, l.invariant.1))).history
+history_at-h-requires : tie.Need-history_at-h-requires invariant-loop-j decreases-loop-j
+history_at-h-requires c κs =
+    let l = c.loop-j in
+    subst (λ (x : Item). x.history < 16) (sym c.item_in-x.ensures)
+    (c.requires.1.each l.j (omega (arith, l.invariant.1))).history
 
-is-next-requires : tie.Need-is-next-requires invariant-loop decreases-loop
-is-next-requires c κs = tt
+is_next-requires : tie.Need-is_next-requires invariant-loop-j decreases-loop-j
+is_next-requires c κs = tt
 
-returns : tie.Need-returns invariant-loop decreases-loop
+returns-then-not-is_next : tie.Need-returns-then-not-is_next invariant-loop-j decreases-loop-j
 unfolding can_run_in did_of_entry
-returns c =
-    let a = c.before.before.before.before.before.before.before.before.before.args in
-    let v = c.before.before.before.before.before.before.before.before.before.requires.1 in
-    let l = c.before.before.before.before.before.before.loop in
+returns-then-not-is_next c =
+    let a = c.args in
+    let v = c.requires.1 in
+    let l = c.loop-j in
     let cells = cells_of (histories_in a.book.now) in
     let e = row_at a.rows.now a.e in
     sym (all_map item_change (λ (y : Change). runs_at (cells y.history) y) (items_of e)
     ∙ all_miss (λ (x : Item). runs_at (cells x.history) (item_change x)) e.items no_item l.j e.count (omega (arith, l.invariant.1))
     (omega (arith, v.long, v.few))
-    (runs_read (histories_in a.book.now) (get_or e.items l.j no_item) c.before.before.before.before.item_in.ensures
-    c.before.before.history-at.ensures c.before.is-next.ensures
-    ∙ not-true _ c.if1.true))
+    (runs_read (histories_in a.book.now) (get_or e.items l.j no_item) c.item_in-x.ensures
+    c.history_at-h.ensures c.is_next.ensures
+    ∙ c.if-not-is_next.true))
 
-add-j : tie.Need-overflow-add-j invariant-loop decreases-loop
-add-j c =
+overflow_add-j : tie.Need-overflow_add-j invariant-loop-j decreases-loop-j
+overflow_add-j c =
     omega (
       arith,
-      c.before.before.before.before.before.before.loop.invariant.1,
-      c.before.before.before.before.before.before.before.before.before.requires.1.few,
+      c.loop-j.invariant.1,
+      c.requires.1.few,
     )
 
-loop-less : tie.Need-loop-smaller invariant-loop decreases-loop
-loop-less c = omega arith
+loop-j-smaller : tie.Need-loop-j-smaller invariant-loop-j decreases-loop-j
+loop-j-smaller c = omega arith
 
-loop-again : tie.Need-loop-preserved invariant-loop decreases-loop
-loop-again c =
-    let a = c.before.before.before.before.before.before.before.before.before.args in
-    let v = c.before.before.before.before.before.before.before.before.before.requires.1 in
-    let l = c.before.before.before.before.before.before.loop in
+loop-j-preserved : tie.Need-loop-j-preserved invariant-loop-j decreases-loop-j
+loop-j-preserved c =
+    let a = c.args in
+    let v = c.requires.1 in
+    let l = c.loop-j in
     let cells = cells_of (histories_in a.book.now) in
     let e = row_at a.rows.now a.e in (
       omega arith,
       l.invariant.1,
       all-next (λ (x : Item). runs_at (cells x.history) (item_change x)) e.items no_item l.j
           (omega (arith, l.invariant.1, v.long, v.few)) l.invariant.2
-          (runs_read (histories_in a.book.now) (get_or e.items l.j no_item) c.before.before.before.before.item_in.ensures
-          c.before.before.history-at.ensures c.before.is-next.ensures
-          ∙ not-false _ c.if1.false),
+          (runs_read (histories_in a.book.now) (get_or e.items l.j no_item) c.item_in-x.ensures
+          c.history_at-h.ensures c.is_next.ensures
+          ∙ c.if-not-is_next.false),
     )
 
-returns-2 : tie.Need-returns-2 invariant-loop decreases-loop
+returns : tie.Need-returns invariant-loop-j decreases-loop-j
 unfolding can_run_in did_of_entry
-returns-2 c =
-    let a = c.before.before.before.before.args in
-    let l = c.before.loop in
+returns c =
+    let a = c.args in
+    let l = c.loop-j in
     let cells = cells_of (histories_in a.book.now) in
     let e = row_at a.rows.now a.e in
     let q : l.j ≡ e.count = omega (arith, l.invariant.1) in
     sym (all_map item_change (λ (y : Change). runs_at (cells y.history) y) (items_of e) ∙ rw q at l.invariant.2)
 
-pub can-run-at-spec : {M : Type 1} → statement M
-can-run-at-spec =
+pub can_run_at_spec : {M : Type 1} → statement M
+can_run_at_spec =
     tie.close
     (tie.spec
-    invariant-loop
-    decreases-loop
-    count-at-requires
-    loop-holds
-    item-in-requires
-    cast-at
-    history-at-requires
-    is-next-requires
-    returns
-    add-j
-    loop-less
-    loop-again
-    returns-2)
+    invariant-loop-j
+    decreases-loop-j
+    count_at-n-requires
+    loop-j-init
+    item_in-x-requires
+    overflow_cast-at
+    history_at-h-requires
+    is_next-requires
+    returns-then-not-is_next
+    overflow_add-j
+    loop-j-smaller
+    loop-j-preserved
+    returns)

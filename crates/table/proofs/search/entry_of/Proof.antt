@@ -10,69 +10,69 @@ use Rattle.table.specs.LookupLaws.{lookup_start, lookup_next, lookup_hit}
 use Rattle.table.proofs.search.entry_of.Statement.{statement}
 use Rattle.table.proofs.search.entry_of.Tie as tie
 
-abbrev invariant-loop : tie.invariant-loop
-invariant-loop order rows n id i₀ i = (i ≤ n) × (n ≤ length order) × (entry_of rows id (take i order) ≡ Nothing)
+abbrev invariant-loop-i : tie.invariant-loop-i
+invariant-loop-i order rows n id i₀ i = (i ≤ n) × (n ≤ length order) × (entry_of rows id (take i order) ≡ Nothing)
 
-abbrev decreases-loop : tie.decreases-loop
-decreases-loop order rows n id i₀ i = n - i
+abbrev decreases-loop-i : tie.decreases-loop-i
+decreases-loop-i order rows n id i₀ i = n - i
 
-loop-holds : tie.Need-loop-init invariant-loop decreases-loop
-loop-holds c =
-    (omega arith, c.before.before.requires.few, lookup_start c.before.before.args.rows.now c.before.before.args.id c.before.before.args.order.now)
+loop-i-init : tie.Need-loop-i-init invariant-loop-i decreases-loop-i
+loop-i-init c =
+    (omega arith, c.requires.few, lookup_start c.args.rows.now c.args.id c.args.order.now)
 
-shared-slice-read-e : tie.Need-shared-slice-read-e invariant-loop decreases-loop
-shared-slice-read-e c = omega arith
+bounds-order-i : tie.Need-bounds-order-i invariant-loop-i decreases-loop-i
+bounds-order-i c = omega arith
 
-cast-id-at : tie.Need-overflow-cast-id-at invariant-loop decreases-loop
-cast-id-at c =
-    let w = c.before.before.before.before.before.requires.within c.before.before.loop.i (omega arith) in
+overflow_cast-e : tie.Need-overflow_cast-e invariant-loop-i decreases-loop-i
+overflow_cast-e c =
+    let w = c.requires.within c.loop-i.i (omega arith) in
     record { fits = omega arith }
 
-id-at-requires : tie.Need-id-at-requires invariant-loop decreases-loop
-id-at-requires c κs = c.before.before.before.before.before.requires.within c.before.before.loop.i (omega arith)
+id_at-requires : tie.Need-id_at-requires invariant-loop-i decreases-loop-i
+id_at-requires c κs = c.requires.within c.loop-i.i (omega arith)
 
-returns : tie.Need-returns invariant-loop decreases-loop
-returns c =
-    let a = c.before.before.before.before.before.before.before.args in
-    let u = c.before.before.before.before.before.before.before.requires in
-    let l = c.before.before.before.before.loop in
+returns-then-id_at-id : tie.Need-returns-then-id_at-id invariant-loop-i decreases-loop-i
+returns-then-id_at-id c =
+    let a = c.args in
+    let u = c.requires in
+    let l = c.loop-i in
     sym (lookup_hit a.rows.now a.id a.order.now l.i a.n (omega arith) (omega (arith, u.few)) l.invariant.2
-    (eq-eqb _ _ (sym c.before.id-at.ensures ∙ c.if1.true)))
+    (eq-eqb _ _ (sym c.id_at.ensures ∙ c.if-id_at-id.true)))
 
-add-i : tie.Need-overflow-add-i invariant-loop decreases-loop
-add-i c = omega arith
+overflow_add-i : tie.Need-overflow_add-i invariant-loop-i decreases-loop-i
+overflow_add-i c = omega arith
 
-loop-less : tie.Need-loop-smaller invariant-loop decreases-loop
-loop-less c = omega arith
+loop-i-smaller : tie.Need-loop-i-smaller invariant-loop-i decreases-loop-i
+loop-i-smaller c = omega arith
 
-loop-again : tie.Need-loop-preserved invariant-loop decreases-loop
-loop-again c =
-    let a = c.before.before.before.before.before.before.before.args in
-    let u = c.before.before.before.before.before.before.before.requires in
-    let l = c.before.before.before.before.loop in (
+loop-i-preserved : tie.Need-loop-i-preserved invariant-loop-i decreases-loop-i
+loop-i-preserved c =
+    let a = c.args in
+    let u = c.requires in
+    let l = c.loop-i in (
       omega arith,
       l.invariant.1,
       lookup_next a.rows.now a.id a.order.now l.i (omega (arith, u.few)) l.invariant.2
-          (ne_eqb _ _ (λ e. c.if1.false (c.before.id-at.ensures ∙ e))),
+          (ne_eqb _ _ (λ e. c.if-id_at-id.false (c.id_at.ensures ∙ e))),
     )
 
-returns-2 : tie.Need-returns-2 invariant-loop decreases-loop
-returns-2 c =
-    let e : c.before.loop.i ≡ c.before.before.before.before.args.n = omega arith in
-    sym (rw e at c.before.loop.invariant.2)
+returns : tie.Need-returns invariant-loop-i decreases-loop-i
+returns c =
+    let e : c.loop-i.i ≡ c.args.n = omega arith in
+    sym (rw e at c.loop-i.invariant.2)
 
-pub entry-of-spec : {M : Type 1} → statement M
-entry-of-spec =
+pub entry_of_spec : {M : Type 1} → statement M
+entry_of_spec =
     tie.close
     (tie.spec
-    invariant-loop
-    decreases-loop
-    loop-holds
-    shared-slice-read-e
-    cast-id-at
-    id-at-requires
-    returns
-    add-i
-    loop-less
-    loop-again
-    returns-2)
+    invariant-loop-i
+    decreases-loop-i
+    loop-i-init
+    bounds-order-i
+    overflow_cast-e
+    id_at-requires
+    returns-then-id_at-id
+    overflow_add-i
+    loop-i-smaller
+    loop-i-preserved
+    returns)

@@ -10,81 +10,81 @@ use Rattle.table.specs.RangeLaws.{first-start, first_next, first_hit}
 use Rattle.table.proofs.search.find.Statement.{statement}
 use Rattle.table.proofs.search.find.Tie as tie
 
-abbrev invariant-loop : tie.invariant-loop
-invariant-loop order rows from to id running i₀ i =
+abbrev invariant-loop-i : tie.invariant-loop-i
+invariant-loop-i order rows from to id running i₀ i =
     (from ≤ i) × (i ≤ to) × (to ≤ length order) × (first_at (is_entry id running) (rows_in order rows from i) ≡ Nothing)
 
-abbrev decreases-loop : tie.decreases-loop
-decreases-loop order rows from to id running i₀ i = to - i
+abbrev decreases-loop-i : tie.decreases-loop-i
+decreases-loop-i order rows from to id running i₀ i = to - i
 
-loop-holds : tie.Need-loop-init invariant-loop decreases-loop
-loop-holds c = (
+loop-i-init : tie.Need-loop-i-init invariant-loop-i decreases-loop-i
+loop-i-init c = (
   omega arith,
-  c.before.before.requires.1,
-  c.before.before.requires.0.few,
-  first-start _ c.before.before.args.order.now c.before.before.args.rows.now
-      c.before.before.args.from,
+  c.requires.1,
+  c.requires.0.few,
+  first-start _ c.args.order.now c.args.rows.now
+      c.args.from,
 )
 
-shared-slice-read-is-entry : tie.Need-shared-slice-read-is-entry invariant-loop decreases-loop
-shared-slice-read-is-entry c = omega arith
+bounds-order-i : tie.Need-bounds-order-i invariant-loop-i decreases-loop-i
+bounds-order-i c = omega arith
 
-cast-is-entry : tie.Need-overflow-cast-is-entry invariant-loop decreases-loop
-cast-is-entry c =
-    let w = c.before.before.before.before.before.requires.0.within c.before.before.loop.i (omega arith) in
+overflow_cast-order : tie.Need-overflow_cast-order invariant-loop-i decreases-loop-i
+overflow_cast-order c =
+    let w = c.requires.0.within c.loop-i.i (omega arith) in
     record { fits = omega arith }
 
-is-entry-requires : tie.Need-is-entry-requires invariant-loop decreases-loop
-is-entry-requires c κs = c.before.before.before.before.before.requires.0.within c.before.before.loop.i (omega arith)
+is_entry-requires : tie.Need-is_entry-requires invariant-loop-i decreases-loop-i
+is_entry-requires c κs = c.requires.0.within c.loop-i.i (omega arith)
 
-sub-t13 : tie.Need-overflow-sub-t13 invariant-loop decreases-loop
-sub-t13 c = omega arith
+overflow_sub-result : tie.Need-overflow_sub-result invariant-loop-i decreases-loop-i
+overflow_sub-result c = omega arith
 
-returns : tie.Need-returns invariant-loop decreases-loop
-returns c =
-    let a = c.before.before.before.before.before.before.before.args in
-    let u = c.before.before.before.before.before.before.before.requires.0 in
-    let l = c.before.before.before.before.loop in
+returns-then-is_entry : tie.Need-returns-then-is_entry invariant-loop-i decreases-loop-i
+returns-then-is_entry c =
+    let a = c.args in
+    let u = c.requires.0 in
+    let l = c.loop-i in
     sym (first_hit (is_entry a.id a.running) a.order.now a.rows.now a.from l.i a.to l.invariant.0 (omega arith)
-    (omega (arith, u.few)) l.invariant.3 (sym c.before.is-entry.ensures ∙ c.if1.true))
+    (omega (arith, u.few)) l.invariant.3 (sym c.is_entry.ensures ∙ c.if-is_entry.true))
 
-add-i : tie.Need-overflow-add-i invariant-loop decreases-loop
-add-i c = omega arith
+overflow_add-i : tie.Need-overflow_add-i invariant-loop-i decreases-loop-i
+overflow_add-i c = omega arith
 
-loop-less : tie.Need-loop-smaller invariant-loop decreases-loop
-loop-less c = omega arith
+loop-i-smaller : tie.Need-loop-i-smaller invariant-loop-i decreases-loop-i
+loop-i-smaller c = omega arith
 
-loop-again : tie.Need-loop-preserved invariant-loop decreases-loop
-loop-again c =
-    let a = c.before.before.before.before.before.before.before.args in
-    let u = c.before.before.before.before.before.before.before.requires.0 in
-    let l = c.before.before.before.before.loop in (
+loop-i-preserved : tie.Need-loop-i-preserved invariant-loop-i decreases-loop-i
+loop-i-preserved c =
+    let a = c.args in
+    let u = c.requires.0 in
+    let l = c.loop-i in (
       omega arith,
       omega arith,
       l.invariant.2,
       first_next (is_entry a.id a.running) a.order.now a.rows.now a.from l.i l.invariant.0 (omega (arith, u.few))
           l.invariant.3
-          (sym c.before.is-entry.ensures ∙ c.if1.false),
+          (sym c.is_entry.ensures ∙ c.if-is_entry.false),
     )
 
-returns-2 : tie.Need-returns-2 invariant-loop decreases-loop
-returns-2 c =
-    let e : c.before.loop.i ≡ c.before.before.before.before.args.to = omega arith in
-    sym (rw e at c.before.loop.invariant.3)
+returns : tie.Need-returns invariant-loop-i decreases-loop-i
+returns c =
+    let e : c.loop-i.i ≡ c.args.to = omega arith in
+    sym (rw e at c.loop-i.invariant.3)
 
 pub find_spec : {M : Type 1} → statement M
 find_spec =
     tie.close
     (tie.spec
-    invariant-loop
-    decreases-loop
-    loop-holds
-    shared-slice-read-is-entry
-    cast-is-entry
-    is-entry-requires
-    sub-t13
-    returns
-    add-i
-    loop-less
-    loop-again
-    returns-2)
+    invariant-loop-i
+    decreases-loop-i
+    loop-i-init
+    bounds-order-i
+    overflow_cast-order
+    is_entry-requires
+    overflow_sub-result
+    returns-then-is_entry
+    overflow_add-i
+    loop-i-smaller
+    loop-i-preserved
+    returns)

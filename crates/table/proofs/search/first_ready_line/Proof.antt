@@ -12,78 +12,78 @@ use Rattle.table.specs.RangeLaws.{first-start, first_next, first_hit}
 use Rattle.table.proofs.search.first_ready_line.Statement.{statement}
 use Rattle.table.proofs.search.first_ready_line.Tie as tie
 
-abbrev invariant-loop : tie.invariant-loop
-invariant-loop order rows from to book i₀ i =
+abbrev invariant-loop-i : tie.invariant-loop-i
+invariant-loop-i order rows from to book i₀ i =
     (from ≤ i) × (i ≤ to) × (to ≤ length order) × (first_at (can_run_entry (cells_of (histories_in book))) (rows_in order rows from i) ≡ Nothing)
 
-abbrev decreases-loop : tie.decreases-loop
-decreases-loop order rows from to book i₀ i = to - i
+abbrev decreases-loop-i : tie.decreases-loop-i
+decreases-loop-i order rows from to book i₀ i = to - i
 
-loop-holds : tie.Need-loop-init invariant-loop decreases-loop
-loop-holds c =
-    let a = c.before.before.args in
-    (omega arith, c.before.before.requires.1, c.before.before.requires.0.few, first-start _ a.order.now a.rows.now a.from)
+loop-i-init : tie.Need-loop-i-init invariant-loop-i decreases-loop-i
+loop-i-init c =
+    let a = c.args in
+    (omega arith, c.requires.1, c.requires.0.few, first-start _ a.order.now a.rows.now a.from)
 
-shared-slice-read-can-run-at : tie.Need-shared-slice-read-can-run-at invariant-loop decreases-loop
-shared-slice-read-can-run-at c = omega arith
+bounds-order-i : tie.Need-bounds-order-i invariant-loop-i decreases-loop-i
+bounds-order-i c = omega arith
 
-cast-can-run-at : tie.Need-overflow-cast-can-run-at invariant-loop decreases-loop
-cast-can-run-at c =
-    let w = c.before.before.before.before.before.requires.0.within c.before.before.loop.i (omega arith) in
+overflow_cast-order : tie.Need-overflow_cast-order invariant-loop-i decreases-loop-i
+overflow_cast-order c =
+    let w = c.requires.0.within c.loop-i.i (omega arith) in
     record { fits = omega arith }
 
-can-run-at-requires : tie.Need-can-run-at-requires invariant-loop decreases-loop
-can-run-at-requires c κs =
-    let u = c.before.before.before.before.before.requires.0 in
-    (u.within c.before.before.loop.i (omega arith), u.each c.before.before.loop.i (omega arith))
+can_run_at-requires : tie.Need-can_run_at-requires invariant-loop-i decreases-loop-i
+can_run_at-requires c κs =
+    let u = c.requires.0 in
+    (u.within c.loop-i.i (omega arith), u.each c.loop-i.i (omega arith))
 
-sub-t12 : tie.Need-overflow-sub-t12 invariant-loop decreases-loop
-sub-t12 c = omega arith
+overflow_sub-result : tie.Need-overflow_sub-result invariant-loop-i decreases-loop-i
+overflow_sub-result c = omega arith
 
-returns : tie.Need-returns invariant-loop decreases-loop
-returns c =
-    let a = c.before.before.before.before.before.before.before.args in
-    let u = c.before.before.before.before.before.before.before.requires.0 in
-    let l = c.before.before.before.before.loop in
+returns-then-can_run_at : tie.Need-returns-then-can_run_at invariant-loop-i decreases-loop-i
+returns-then-can_run_at c =
+    let a = c.args in
+    let u = c.requires.0 in
+    let l = c.loop-i in
     sym (first_hit (can_run_entry (cells_of (histories_in a.book.now))) a.order.now a.rows.now a.from l.i a.to l.invariant.0
-    (omega arith) (omega (arith, u.few)) l.invariant.3 (sym c.before.can-run-at.ensures ∙ c.if1.true))
+    (omega arith) (omega (arith, u.few)) l.invariant.3 (sym c.can_run_at.ensures ∙ c.if-can_run_at.true))
 
-add-i : tie.Need-overflow-add-i invariant-loop decreases-loop
-add-i c = omega arith
+overflow_add-i : tie.Need-overflow_add-i invariant-loop-i decreases-loop-i
+overflow_add-i c = omega arith
 
-loop-less : tie.Need-loop-smaller invariant-loop decreases-loop
-loop-less c = omega arith
+loop-i-smaller : tie.Need-loop-i-smaller invariant-loop-i decreases-loop-i
+loop-i-smaller c = omega arith
 
-loop-again : tie.Need-loop-preserved invariant-loop decreases-loop
-loop-again c =
-    let a = c.before.before.before.before.before.before.before.args in
-    let u = c.before.before.before.before.before.before.before.requires.0 in
-    let l = c.before.before.before.before.loop in (
+loop-i-preserved : tie.Need-loop-i-preserved invariant-loop-i decreases-loop-i
+loop-i-preserved c =
+    let a = c.args in
+    let u = c.requires.0 in
+    let l = c.loop-i in (
       omega arith,
       omega arith,
       l.invariant.2,
       first_next (can_run_entry (cells_of (histories_in a.book.now))) a.order.now a.rows.now a.from l.i l.invariant.0
-          (omega (arith, u.few)) l.invariant.3 (sym c.before.can-run-at.ensures ∙ c.if1.false),
+          (omega (arith, u.few)) l.invariant.3 (sym c.can_run_at.ensures ∙ c.if-can_run_at.false),
     )
 
-returns-2 : tie.Need-returns-2 invariant-loop decreases-loop
-returns-2 c =
-    let e : c.before.loop.i ≡ c.before.before.before.before.args.to = omega arith in
-    sym (rw e at c.before.loop.invariant.3)
+returns : tie.Need-returns invariant-loop-i decreases-loop-i
+returns c =
+    let e : c.loop-i.i ≡ c.args.to = omega arith in
+    sym (rw e at c.loop-i.invariant.3)
 
-pub first-ready-line-spec : {M : Type 1} → statement M
-first-ready-line-spec =
+pub first_ready_line_spec : {M : Type 1} → statement M
+first_ready_line_spec =
     tie.close
     (tie.spec
-    invariant-loop
-    decreases-loop
-    loop-holds
-    shared-slice-read-can-run-at
-    cast-can-run-at
-    can-run-at-requires
-    sub-t12
-    returns
-    add-i
-    loop-less
-    loop-again
-    returns-2)
+    invariant-loop-i
+    decreases-loop-i
+    loop-i-init
+    bounds-order-i
+    overflow_cast-order
+    can_run_at-requires
+    overflow_sub-result
+    returns-then-can_run_at
+    overflow_add-i
+    loop-i-smaller
+    loop-i-preserved
+    returns)

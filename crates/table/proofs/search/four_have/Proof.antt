@@ -22,123 +22,123 @@ miss o ws at id few k low e q =
     let z : at + k + 1 ≡ at + (k + 1) = omega arith in
     subst (λ (n : ℕ). any (has_id id) (rows_in o ws at n) ≡ false) z (none_next (has_id id) o ws at (at + k) (omega arith) (omega arith) e q)
 
-shared-slice-read-id-at : tie.Need-shared-slice-read-id-at
-shared-slice-read-id-at c = search rules
+bounds-order-at : tie.Need-bounds-order-at
+bounds-order-at c = search rules
 
-cast-id-at : tie.Need-overflow-cast-id-at
-cast-id-at c =
-    let w = c.before.before.before.requires.within c.before.before.before.args.at (omega arith) in
+overflow_cast-order : tie.Need-overflow_cast-order
+overflow_cast-order c =
+    let w = c.requires.within c.args.at (omega arith) in
     record { fits = omega arith }
 
-id-at-requires : tie.Need-id-at-requires
-id-at-requires c κs = c.before.before.before.requires.within c.before.before.before.args.at (omega arith)
+id_at-requires : tie.Need-id_at-requires
+id_at-requires c κs = c.requires.within c.args.at (omega arith)
+
+returns-then-id_at-id : tie.Need-returns-then-id_at-id
+returns-then-id_at-id c =
+    let a = c.args in
+    let u = c.requires in
+    sym (some_hit (has_id a.id) a.order.now a.rows.now a.at a.at (a.at + 4) (omega arith) (omega arith) u.few
+    (eq-eqb _ _ (sym c.id_at.ensures ∙ c.if-id_at-id.true)))
+
+overflow_add-at : tie.Need-overflow_add-at
+overflow_add-at c = search rules
+
+bounds-order-at-2 : tie.Need-bounds-order-at-2
+bounds-order-at-2 c = search rules
+
+overflow_cast-order-2 : tie.Need-overflow_cast-order-2
+overflow_cast-order-2 c =
+    let w = c.requires.within (c.args.at + 1) (omega arith) in
+    record { fits = omega arith }
+
+id_at-requires-2 : tie.Need-id_at-requires-2
+id_at-requires-2 c κs = c.requires.within (c.args.at + 1) (omega arith)
+
+returns-then-id_at-id-2 : tie.Need-returns-then-id_at-id-2
+returns-then-id_at-id-2 c =
+    let a = c.args in
+    let u = c.requires in
+    sym (some_hit (has_id a.id) a.order.now a.rows.now a.at (a.at + 1) (a.at + 4) (omega arith) (omega arith) u.few
+    (eq-eqb _ _ (sym c.id_at-2.ensures ∙ c.if-id_at-id-2.true)))
+
+overflow_add-at-2 : tie.Need-overflow_add-at-2
+overflow_add-at-2 c = search rules
+
+bounds-order-at-3 : tie.Need-bounds-order-at-3
+bounds-order-at-3 c = search rules
+
+overflow_cast-order-3 : tie.Need-overflow_cast-order-3
+overflow_cast-order-3 c =
+    let w = c.requires.within (c.args.at + 2) (omega arith) in
+    record { fits = omega arith }
+
+id_at-requires-3 : tie.Need-id_at-requires-3
+id_at-requires-3 c κs = c.requires.within (c.args.at + 2) (omega arith)
+
+returns-then-id_at-id-3 : tie.Need-returns-then-id_at-id-3
+returns-then-id_at-id-3 c =
+    let a = c.args in
+    let u = c.requires in
+    sym (some_hit (has_id a.id) a.order.now a.rows.now a.at (a.at + 2) (a.at + 4) (omega arith) (omega arith) u.few
+    (eq-eqb _ _ (sym c.id_at-3.ensures ∙ c.if-id_at-id-3.true)))
+
+overflow_add-at-3 : tie.Need-overflow_add-at-3
+overflow_add-at-3 c = search rules
+
+bounds-order-at-4 : tie.Need-bounds-order-at-4
+bounds-order-at-4 c = search rules
+
+overflow_cast-order-4 : tie.Need-overflow_cast-order-4
+overflow_cast-order-4 c =
+    let w = c.requires.within (c.args.at + 3) (omega arith) in
+    record { fits = omega arith }
+
+id_at-requires-4 : tie.Need-id_at-requires-4
+id_at-requires-4 c κs = c.requires.within (c.args.at + 3) (omega arith)
+
+returns-then-id_at-id-4 : tie.Need-returns-then-id_at-id-4
+returns-then-id_at-id-4 c =
+    let a = c.args in
+    let u = c.requires in
+    sym (some_hit (has_id a.id) a.order.now a.rows.now a.at (a.at + 3) (a.at + 4) (omega arith) (omega arith) u.few
+    (eq-eqb _ _ (sym c.id_at-4.ensures ∙ c.if-id_at-id-4.true)))
 
 returns : tie.Need-returns
 returns c =
-    let a = c.before.before.before.before.before.args in
-    let u = c.before.before.before.before.before.requires in
-    sym (some_hit (has_id a.id) a.order.now a.rows.now a.at a.at (a.at + 4) (omega arith) (omega arith) u.few
-    (eq-eqb _ _ (sym c.before.id-at.ensures ∙ c.if1.true)))
-
-add-id-at : tie.Need-overflow-add-id-at
-add-id-at c = search rules
-
-shared-slice-read-id-at-2 : tie.Need-shared-slice-read-id-at-2
-shared-slice-read-id-at-2 c = search rules
-
-cast-id-at-2 : tie.Need-overflow-cast-id-at-2
-cast-id-at-2 c =
-    let w = c.before.before.before.before.before.before.requires.within (c.before.before.before.before.before.before.args.at + 1) (omega arith) in
-    record { fits = omega arith }
-
-id-at-requires-2 : tie.Need-id-at-requires-2
-id-at-requires-2 c κs = c.before.before.before.before.before.before.requires.within (c.before.before.before.before.before.before.args.at + 1) (omega arith)
-
-returns-2 : tie.Need-returns-2
-returns-2 c =
-    let a = c.before.before.before.before.before.before.before.before.args in
-    let u = c.before.before.before.before.before.before.before.before.requires in
-    sym (some_hit (has_id a.id) a.order.now a.rows.now a.at (a.at + 1) (a.at + 4) (omega arith) (omega arith) u.few
-    (eq-eqb _ _ (sym c.before.id-at2.ensures ∙ c.if2.true)))
-
-add-id-at-2 : tie.Need-overflow-add-id-at-2
-add-id-at-2 c = search rules
-
-shared-slice-read-id-at-3 : tie.Need-shared-slice-read-id-at-3
-shared-slice-read-id-at-3 c = search rules
-
-cast-id-at-3 : tie.Need-overflow-cast-id-at-3
-cast-id-at-3 c =
-    let w = c.before.before.before.before.before.before.before.before.before.requires.within (c.before.before.before.before.before.before.before.before.before.args.at + 2) (omega arith) in
-    record { fits = omega arith }
-
-id-at-requires-3 : tie.Need-id-at-requires-3
-id-at-requires-3 c κs = c.before.before.before.before.before.before.before.before.before.requires.within (c.before.before.before.before.before.before.before.before.before.args.at + 2) (omega arith)
-
-returns-3 : tie.Need-returns-3
-returns-3 c =
-    let a = c.before.before.before.before.before.before.before.before.before.before.before.args in
-    let u = c.before.before.before.before.before.before.before.before.before.before.before.requires in
-    sym (some_hit (has_id a.id) a.order.now a.rows.now a.at (a.at + 2) (a.at + 4) (omega arith) (omega arith) u.few
-    (eq-eqb _ _ (sym c.before.id-at3.ensures ∙ c.if3.true)))
-
-add-id-at-3 : tie.Need-overflow-add-id-at-3
-add-id-at-3 c = search rules
-
-shared-slice-read-id-at-4 : tie.Need-shared-slice-read-id-at-4
-shared-slice-read-id-at-4 c = search rules
-
-cast-id-at-4 : tie.Need-overflow-cast-id-at-4
-cast-id-at-4 c =
-    let w = c.before.before.before.before.before.before.before.before.before.before.before.before.requires.within (c.before.before.before.before.before.before.before.before.before.before.before.before.args.at + 3) (omega arith) in
-    record { fits = omega arith }
-
-id-at-requires-4 : tie.Need-id-at-requires-4
-id-at-requires-4 c κs = c.before.before.before.before.before.before.before.before.before.before.before.before.requires.within (c.before.before.before.before.before.before.before.before.before.before.before.before.args.at + 3) (omega arith)
-
-returns-4 : tie.Need-returns-4
-returns-4 c =
-    let a = c.before.before.before.before.before.before.before.before.before.before.before.before.before.before.args in
-    let u = c.before.before.before.before.before.before.before.before.before.before.before.before.before.before.requires in
-    sym (some_hit (has_id a.id) a.order.now a.rows.now a.at (a.at + 3) (a.at + 4) (omega arith) (omega arith) u.few
-    (eq-eqb _ _ (sym c.before.id-at4.ensures ∙ c.if4.true)))
-
-returns-5 : tie.Need-returns-5
-returns-5 c =
-    let a = c.before.before.before.before.before.before.before.before.before.before.before.before.before.before.args in
-    let u = c.before.before.before.before.before.before.before.before.before.before.before.before.before.before.requires in
+    let a = c.args in
+    let u = c.requires in
     let none = miss a.order.now a.rows.now a.at a.id u.few in
     sym (none 3 (omega arith)
     (none 2 (omega arith)
     (none 1 (omega arith)
     (none_next (has_id a.id) a.order.now a.rows.now a.at a.at (omega arith) (omega (arith, u.few))
     (none_start _ a.order.now a.rows.now a.at)
-    (ne_eqb _ _ (λ e. c.before.before.before.before.before.before.before.before.before.if1.false (c.before.before.before.before.before.before.before.before.before.before.id-at.ensures ∙ e))))
-    (ne_eqb _ _ (λ e. c.before.before.before.before.before.before.if2.false (c.before.before.before.before.before.before.before.id-at2.ensures ∙ e))))
-    (ne_eqb _ _ (λ e. c.before.before.before.if3.false (c.before.before.before.before.id-at3.ensures ∙ e))))
-    (ne_eqb _ _ (λ e. c.if4.false (c.before.id-at4.ensures ∙ e))))
+    (ne_eqb _ _ (λ e. c.if-id_at-id.false (c.id_at.ensures ∙ e))))
+    (ne_eqb _ _ (λ e. c.if-id_at-id-2.false (c.id_at-2.ensures ∙ e))))
+    (ne_eqb _ _ (λ e. c.if-id_at-id-3.false (c.id_at-3.ensures ∙ e))))
+    (ne_eqb _ _ (λ e. c.if-id_at-id-4.false (c.id_at-4.ensures ∙ e))))
 
-pub four-have-spec : {M : Type 1} → statement M
-four-have-spec =
+pub four_have_spec : {M : Type 1} → statement M
+four_have_spec =
     tie.close
     (tie.spec
-    shared-slice-read-id-at
-    cast-id-at
-    id-at-requires
-    returns
-    add-id-at
-    shared-slice-read-id-at-2
-    cast-id-at-2
-    id-at-requires-2
-    returns-2
-    add-id-at-2
-    shared-slice-read-id-at-3
-    cast-id-at-3
-    id-at-requires-3
-    returns-3
-    add-id-at-3
-    shared-slice-read-id-at-4
-    cast-id-at-4
-    id-at-requires-4
-    returns-4
-    returns-5)
+    bounds-order-at
+    overflow_cast-order
+    id_at-requires
+    returns-then-id_at-id
+    overflow_add-at
+    bounds-order-at-2
+    overflow_cast-order-2
+    id_at-requires-2
+    returns-then-id_at-id-2
+    overflow_add-at-2
+    bounds-order-at-3
+    overflow_cast-order-3
+    id_at-requires-3
+    returns-then-id_at-id-3
+    overflow_add-at-3
+    bounds-order-at-4
+    overflow_cast-order-4
+    id_at-requires-4
+    returns-then-id_at-id-4
+    returns)

@@ -6,27 +6,34 @@ use Rattle.table.specs.Tables.{is_entry}
 use Rattle.table.proofs.search.is_entry.Statement.{statement}
 use Rattle.table.proofs.search.is_entry.Tie as tie
 
-id-at-requires : tie.Need-id-at-requires
-id-at-requires c κs = c.before.requires
+id_at-requires : tie.Need-id_at-requires
+id_at-requires c κs = c.requires
 
-runs-at-requires : tie.Need-runs-at-requires
-runs-at-requires c κs = c.before.before.before.requires
+runs_at-runs-requires : tie.Need-runs_at-runs-requires
+runs_at-runs-requires c κs = c.requires
 
-returns : tie.Need-returns
+returns-then-running : tie.Need-returns-then-running
 unfolding is_entry
-returns c =
-    rw (eq-eqb _ _ (sym c.before.before.before.id-at.ensures ∙ c.before.before.if1.true), c.if2.true)
-    c.before.runs-at.ensures
+returns-then-running c =
+    rw (eq-eqb _ _ (sym c.id_at.ensures ∙ c.if-id_at-id.true), c.if-running.true)
+    c.runs_at-runs.ensures
 
-returns-2 : tie.Need-returns-2
+returns-else-running : tie.Need-returns-else-running
 unfolding is_entry
-returns-2 c =
-    rw (eq-eqb _ _ (sym c.before.before.before.id-at.ensures ∙ c.before.before.if1.true), c.if2.false)
-    (ap not c.before.runs-at.ensures)
+returns-else-running c =
+    rw (eq-eqb _ _ (sym c.id_at.ensures ∙ c.if-id_at-id.true), c.if-running.false)
+    (ap not c.runs_at-runs.ensures)
 
-returns-3 : tie.Need-returns-3
+returns-else-id_at-id : tie.Need-returns-else-id_at-id
 unfolding is_entry
-returns-3 c = rw (ne_eqb _ _ (λ e. c.if1.false (c.before.id-at.ensures ∙ e)))
+returns-else-id_at-id c = rw (ne_eqb _ _ (λ e. c.if-id_at-id.false (c.id_at.ensures ∙ e)))
 
-pub is-entry-spec : {M : Type 1} → statement M
-is-entry-spec = tie.close (tie.spec id-at-requires runs-at-requires returns returns-2 returns-3)
+pub is_entry_spec : {M : Type 1} → statement M
+is_entry_spec =
+    tie.close
+    (tie.spec
+    id_at-requires
+    runs_at-runs-requires
+    returns-then-running
+    returns-else-running
+    returns-else-id_at-id)

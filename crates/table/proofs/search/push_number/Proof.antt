@@ -7,20 +7,25 @@ use Rattle.forms.specs.WriteLaws.{wrote_one}
 use Rattle.table.proofs.search.push_number.Statement.{statement}
 use Rattle.table.proofs.search.push_number.Tie as tie
 
-known-length-requires : tie.Need-known-length-requires
-known-length-requires c κs = search rules
+known_length-requires : tie.Need-known_length-requires
+known_length-requires c κs = search rules
 
-mul-lists : tie.Need-overflow-mul-lists
-mul-lists c = search rules
+offset_bounds-lists-at : tie.Need-offset_bounds-lists-at
+offset_bounds-lists-at c = search rules
 
-element-write-lists : tie.Need-element-write-lists
-element-write-lists c = search rules
+bounds-lists-at : tie.Need-bounds-lists-at
+bounds-lists-at c = search rules
 
 returns : tie.Need-returns
 returns c =
-    let e = c.before.before.before in
-    let long : length e.args.lists.now ≡ 68 = search rules in
-    wrote_one e.args.lists.now e.args.at e.args.x (omega (arith, long, e.requires))
+    let long : length c.args.lists.now ≡ 68 = search rules in
+    wrote_one c.args.lists.now c.args.at c.args.x (omega (arith, long, c.requires))
 
-pub push-number-spec : {M : Type 1} → statement M
-push-number-spec = tie.close (tie.spec known-length-requires mul-lists element-write-lists returns)
+pub push_number_spec : {M : Type 1} → statement M
+push_number_spec =
+    tie.close
+    (tie.spec
+    known_length-requires
+    offset_bounds-lists-at
+    bounds-lists-at
+    returns)

@@ -18,127 +18,123 @@ use Rattle.table.specs.LoopLaws.{all-next, all_miss}
 use Rattle.table.proofs.tries.all_ready.Statement.{statement}
 use Rattle.table.proofs.tries.all_ready.Tie as tie
 
-abbrev invariant-loop : tie.invariant-loop
-invariant-loop book m rows e n j₀ j =
+abbrev invariant-loop-j : tie.invariant-loop-j
+invariant-loop-j book m rows e n j₀ j =
     (j ≤ n) × (n ≡ (row_at rows e).count)
     × (all (λ (x : Item). ready_by (cells_of (histories_in book)) m (item_update x)) (take j (row_at rows e).items) ≡ true)
 
-abbrev decreases-loop : tie.decreases-loop
-decreases-loop book m rows e n j₀ j = n - j
+abbrev decreases-loop-j : tie.decreases-loop-j
+decreases-loop-j book m rows e n j₀ j = n - j
 
 -- the history of the update that is read
-low : (c : tie.After-struct-known invariant-loop decreases-loop) → c.before.item_in.result.history < 16
+low : (c : tie.After-struct_known-1 invariant-loop-j decreases-loop-j) → c.item_in-x.result.history < 16
 low c =
-    let l = c.before.before.before.loop in
-    subst (λ (x : Item). x.history < 16) (sym c.before.item_in.ensures)
-    (c.before.before.before.before.before.before.requires.1.each l.j (omega (arith, l.invariant.1))).history
+    let l = c.loop-j in
+    subst (λ (x : Item). x.history < 16) (sym c.item_in-x.ensures)
+    (c.requires.1.each l.j (omega (arith, l.invariant.1))).history
 
-count-at-requires : tie.Need-count-at-requires invariant-loop decreases-loop
-count-at-requires c κs = search rules
+count_at-n-requires : tie.Need-count_at-n-requires invariant-loop-j decreases-loop-j
+count_at-n-requires c κs = search rules
 
-loop-holds : tie.Need-loop-init invariant-loop decreases-loop
-loop-holds c = (omega arith, c.count_at.ensures, refl)
+loop-j-init : tie.Need-loop-j-init invariant-loop-j decreases-loop-j
+loop-j-init c = (omega arith, c.count_at-n.ensures, refl)
 
-item-in-requires : tie.Need-item-in-requires invariant-loop decreases-loop
-item-in-requires c κs =
-    (c.before.before.before.before.requires.0, omega (arith, c.before.loop.invariant.1, c.before.before.before.before.requires.1.few))
+item_in-x-requires : tie.Need-item_in-x-requires invariant-loop-j decreases-loop-j
+item_in-x-requires c κs =
+    (c.requires.0, omega (arith, c.loop-j.invariant.1, c.requires.1.few))
 
-cast-at : tie.Need-overflow-cast-at invariant-loop decreases-loop
-cast-at c = search rules
+overflow_cast-at : tie.Need-overflow_cast-at invariant-loop-j decreases-loop-j
+overflow_cast-at c = search rules
 
-history-at-requires : tie.Need-history-at-requires invariant-loop decreases-loop
-history-at-requires c κs = low c
+history_at-h-requires : tie.Need-history_at-h-requires invariant-loop-j decreases-loop-j
+history_at-h-requires c κs = low c
 
-may-run-requires : tie.Need-may-run-requires invariant-loop decreases-loop
-may-run-requires c κs = tt
+may_run-requires : tie.Need-may_run-requires invariant-loop-j decreases-loop-j
+may_run-requires c κs = tt
 
-returns : tie.Need-returns invariant-loop decreases-loop
+returns-then-not-may_run : tie.Need-returns-then-not-may_run invariant-loop-j decreases-loop-j
 unfolding operation_of
-returns c =
-    let p = c.before.before.before.before.before.before.before.before.before.before.before in
-    let v = p.requires.1 in
-    let l = c.before.before.before.before.before.before.before.before.loop in
-    let e = row_at p.args.rows.now p.args.e in
-    let ready = ready_by (cells_of (histories_in p.args.book.now)) p.args.m in
+returns-then-not-may_run c =
+    let v = c.requires.1 in
+    let l = c.loop-j in
+    let e = row_at c.args.rows.now c.args.e in
+    let ready = ready_by (cells_of (histories_in c.args.book.now)) c.args.m in
     sym (all_map item_update ready (items_of e)
     ∙ all_miss (λ (x : Item). ready (item_update x)) e.items no_item l.j e.count (omega (arith, l.invariant.1))
     (omega (arith, v.long, v.few))
-    (ap (λ (t : Bool). t && free_by p.args.m (item_update (get_or e.items l.j no_item)))
-    (may_read (histories_in p.args.book.now) (get_or e.items l.j no_item) c.before.before.before.before.before.before.item_in.ensures
-    c.before.before.before.before.history-at.ensures c.before.may-run.ensures
-    ∙ not-true _ c.if1.true)))
+    (ap (λ (t : Bool). t && free_by c.args.m (item_update (get_or e.items l.j no_item)))
+    (may_read (histories_in c.args.book.now) (get_or e.items l.j no_item) c.item_in-x.ensures
+    c.history_at-h.ensures c.may_run.ensures
+    ∙ c.if-not-may_run.true)))
 
-is-free-requires : tie.Need-is-free-requires invariant-loop decreases-loop
-is-free-requires c κs = low c.before.before.before.before.before
+is_free-requires : tie.Need-is_free-requires invariant-loop-j decreases-loop-j
+is_free-requires c κs = low c.before.before.before.before.before
 
-returns-2 : tie.Need-returns-2 invariant-loop decreases-loop
+returns-then-not-is_free : tie.Need-returns-then-not-is_free invariant-loop-j decreases-loop-j
 unfolding operation_of
-returns-2 c =
-    let p = c.before.before.before.before.before.before.before.before.before.before.before.before.before in
-    let v = p.requires.1 in
-    let l = c.before.before.before.before.before.before.before.before.before.before.loop in
-    let e = row_at p.args.rows.now p.args.e in
-    let ready = ready_by (cells_of (histories_in p.args.book.now)) p.args.m in
+returns-then-not-is_free c =
+    let v = c.requires.1 in
+    let l = c.loop-j in
+    let e = row_at c.args.rows.now c.args.e in
+    let ready = ready_by (cells_of (histories_in c.args.book.now)) c.args.m in
     sym (all_map item_update ready (items_of e)
     ∙ all_miss (λ (x : Item). ready (item_update x)) e.items no_item l.j e.count (omega (arith, l.invariant.1))
     (omega (arith, v.long, v.few))
     (ap₂ ◌&&◌
-    (may_read (histories_in p.args.book.now) (get_or e.items l.j no_item) c.before.before.before.before.before.before.before.before.item_in.ensures
-    c.before.before.before.before.before.before.history-at.ensures c.before.before.before.may-run.ensures
-    ∙ not-false _ c.before.before.if1.false)
-    (free_read p.args.m _ _ _ c.before.before.before.before.before.before.before.before.item_in.ensures c.before.is_free.ensures
-    ∙ not-true _ c.if2.true)))
+    (may_read (histories_in c.args.book.now) (get_or e.items l.j no_item) c.item_in-x.ensures
+    c.history_at-h.ensures c.may_run.ensures
+    ∙ c.if-not-may_run.false)
+    (free_read c.args.m _ _ _ c.item_in-x.ensures c.is_free.ensures
+    ∙ c.if-not-is_free.true)))
 
-add-j : tie.Need-overflow-add-j invariant-loop decreases-loop
-add-j c = omega (arith, c.before.before.before.before.before.before.before.before.before.before.loop.invariant.1, c.before.before.before.before.before.before.before.before.before.before.before.before.before.requires.1.few)
+overflow_add-j : tie.Need-overflow_add-j invariant-loop-j decreases-loop-j
+overflow_add-j c = omega (arith, c.loop-j.invariant.1, c.requires.1.few)
 
-loop-less : tie.Need-loop-smaller invariant-loop decreases-loop
-loop-less c = omega arith
+loop-j-smaller : tie.Need-loop-j-smaller invariant-loop-j decreases-loop-j
+loop-j-smaller c = omega arith
 
-loop-again : tie.Need-loop-preserved invariant-loop decreases-loop
-loop-again c =
-    let p = c.before.before.before.before.before.before.before.before.before.before.before.before.before in
-    let v = p.requires.1 in
-    let l = c.before.before.before.before.before.before.before.before.before.before.loop in
-    let e = row_at p.args.rows.now p.args.e in (
+loop-j-preserved : tie.Need-loop-j-preserved invariant-loop-j decreases-loop-j
+loop-j-preserved c =
+    let v = c.requires.1 in
+    let l = c.loop-j in
+    let e = row_at c.args.rows.now c.args.e in (
       omega arith,
       l.invariant.1,
-      all-next (λ (x : Item). ready_by (cells_of (histories_in p.args.book.now)) p.args.m (item_update x)) e.items no_item l.j
+      all-next (λ (x : Item). ready_by (cells_of (histories_in c.args.book.now)) c.args.m (item_update x)) e.items no_item l.j
           (omega (arith, l.invariant.1, v.long, v.few)) l.invariant.2
           (ap₂ ◌&&◌
-          (may_read (histories_in p.args.book.now) (get_or e.items l.j no_item) c.before.before.before.before.before.before.before.before.item_in.ensures
-          c.before.before.before.before.before.before.history-at.ensures c.before.before.before.may-run.ensures
-          ∙ not-false _ c.before.before.if1.false)
-          (free_read p.args.m _ _ _ c.before.before.before.before.before.before.before.before.item_in.ensures
-          c.before.is_free.ensures
-          ∙ not-false _ c.if2.false)),
+          (may_read (histories_in c.args.book.now) (get_or e.items l.j no_item) c.item_in-x.ensures
+          c.history_at-h.ensures c.may_run.ensures
+          ∙ c.if-not-may_run.false)
+          (free_read c.args.m _ _ _ c.item_in-x.ensures
+          c.is_free.ensures
+          ∙ c.if-not-is_free.false)),
     )
 
-returns-3 : tie.Need-returns-3 invariant-loop decreases-loop
+returns : tie.Need-returns invariant-loop-j decreases-loop-j
 unfolding operation_of
-returns-3 c =
-    let p = c.before.before.before.before in
-    let l = c.before.loop in
-    let e = row_at p.args.rows.now p.args.e in
+returns c =
+    let l = c.loop-j in
+    let e = row_at c.args.rows.now c.args.e in
     let q : l.j ≡ e.count = omega (arith, l.invariant.1) in
-    sym (all_map item_update (ready_by (cells_of (histories_in p.args.book.now)) p.args.m) (items_of e) ∙ rw q at l.invariant.2)
+    sym (all_map item_update (ready_by (cells_of (histories_in c.args.book.now)) c.args.m) (items_of e) ∙ rw q at l.invariant.2)
 
-pub all-ready-spec : {M : Type 1} → statement M
-all-ready-spec =
+pub all_ready_spec : {M : Type 1} → statement M
+all_ready_spec =
     tie.close
     (tie.spec
-    invariant-loop
-    decreases-loop
-    count-at-requires
-    loop-holds
-    item-in-requires
-    cast-at
-    history-at-requires
-    may-run-requires
-    returns
-    is-free-requires
-    returns-2
-    add-j
-    loop-less
-    loop-again
-    returns-3)
+    invariant-loop-j
+    decreases-loop-j
+    count_at-n-requires
+    loop-j-init
+    item_in-x-requires
+    overflow_cast-at
+    history_at-h-requires
+    may_run-requires
+    returns-then-not-may_run
+    is_free-requires
+    returns-then-not-is_free
+    overflow_add-j
+    loop-j-smaller
+    loop-j-preserved
+    returns)

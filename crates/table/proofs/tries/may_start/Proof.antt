@@ -6,19 +6,25 @@ use Rattle.table.specs.Tries.{starts_by}
 use Rattle.table.proofs.tries.may_start.Statement.{statement}
 use Rattle.table.proofs.tries.may_start.Tie as tie
 
-runs-at-requires : tie.Need-runs-at-requires
-runs-at-requires c κs = search rules
+runs_at-requires : tie.Need-runs_at-requires
+runs_at-requires c κs = search rules
 
-all-ready-requires : tie.Need-all-ready-requires
-all-ready-requires c κs = search rules
+all_ready-requires : tie.Need-all_ready-requires
+all_ready-requires c κs = search rules
 
-returns : tie.Need-returns
+returns-then-runs_at : tie.Need-returns-then-runs_at
 unfolding starts_by operation_of
-returns c = rw (sym c.before.runs-at.ensures ∙ c.if1.true)
+returns-then-runs_at c = rw (sym c.runs_at.ensures ∙ c.if-runs_at.true)
 
-returns-2 : tie.Need-returns-2
+returns-else-runs_at : tie.Need-returns-else-runs_at
 unfolding starts_by operation_of
-returns-2 c = rw (sym c.before.before.runs-at.ensures ∙ c.before.if1.false) c.all-ready.ensures
+returns-else-runs_at c = rw (sym c.runs_at.ensures ∙ c.if-runs_at.false) c.all_ready.ensures
 
-pub may-start-spec : {M : Type 1} → statement M
-may-start-spec = tie.close (tie.spec runs-at-requires all-ready-requires returns returns-2)
+pub may_start_spec : {M : Type 1} → statement M
+may_start_spec =
+    tie.close
+    (tie.spec
+    runs_at-requires
+    all_ready-requires
+    returns-then-runs_at
+    returns-else-runs_at)

@@ -10,47 +10,47 @@ use Rattle.table.specs.VersionLaws.{advance_start, advance_next}
 use Rattle.table.proofs.versions.advance.Statement.{statement}
 use Rattle.table.proofs.versions.advance.Tie as tie
 
-abbrev invariant-loop : tie.invariant-loop
-invariant-loop order rows from to vs₀ i₀ vs i =
+abbrev invariant-loop-i : tie.invariant-loop-i
+invariant-loop-i order rows from to vs₀ i₀ vs i =
     (from ≤ i) × (i ≤ to) × (to ≤ length order) × Tabulates 0 vs (λ (h : ℕ). version_from h (get_or vs₀ h 0) (rows_in order rows from i))
 
-abbrev decreases-loop : tie.decreases-loop
-decreases-loop order rows from to vs₀ i₀ vs i = to - i
+abbrev decreases-loop-i : tie.decreases-loop-i
+decreases-loop-i order rows from to vs₀ i₀ vs i = to - i
 
-loop-holds : tie.Need-loop-init invariant-loop decreases-loop
-loop-holds c =
-    let a = c.before.before.args in (
+loop-i-init : tie.Need-loop-i-init invariant-loop-i decreases-loop-i
+loop-i-init c =
+    let a = c.args in (
       omega arith,
-      c.before.before.requires.1,
-      c.before.before.requires.0.few,
+      c.requires.1,
+      c.requires.0.few,
       advance_start a.order.now a.rows.now a.from a.versions
           (search rules),
     )
 
-shared-slice-read-stamp : tie.Need-shared-slice-read-stamp invariant-loop decreases-loop
-shared-slice-read-stamp c = omega arith
+bounds-order-i : tie.Need-bounds-order-i invariant-loop-i decreases-loop-i
+bounds-order-i c = omega arith
 
-cast-stamp : tie.Need-overflow-cast-stamp invariant-loop decreases-loop
-cast-stamp c =
-    let w = c.before.before.before.before.before.before.requires.0.within c.before.before.before.loop.i (omega arith) in
+overflow_cast-order : tie.Need-overflow_cast-order invariant-loop-i decreases-loop-i
+overflow_cast-order c =
+    let w = c.requires.0.within c.loop-i.i (omega arith) in
     record { fits = omega arith }
 
-stamp-requires : tie.Need-stamp-requires invariant-loop decreases-loop
+stamp-requires : tie.Need-stamp-requires invariant-loop-i decreases-loop-i
 stamp-requires c κs =
-    let u = c.before.before.before.before.before.before.requires.0 in
-    (u.within c.before.before.before.loop.i (omega arith), u.each c.before.before.before.loop.i (omega arith))
+    let u = c.requires.0 in
+    (u.within c.loop-i.i (omega arith), u.each c.loop-i.i (omega arith))
 
-add-i : tie.Need-overflow-add-i invariant-loop decreases-loop
-add-i c = omega arith
+overflow_add-i : tie.Need-overflow_add-i invariant-loop-i decreases-loop-i
+overflow_add-i c = omega arith
 
-loop-less : tie.Need-loop-smaller invariant-loop decreases-loop
-loop-less c = omega arith
+loop-i-smaller : tie.Need-loop-i-smaller invariant-loop-i decreases-loop-i
+loop-i-smaller c = omega arith
 
-loop-again : tie.Need-loop-preserved invariant-loop decreases-loop
-loop-again c =
-    let a = c.before.before.before.before.before.before.before.args in
-    let u = c.before.before.before.before.before.before.before.requires.0 in
-    let l = c.before.before.before.before.loop in (
+loop-i-preserved : tie.Need-loop-i-preserved invariant-loop-i decreases-loop-i
+loop-i-preserved c =
+    let a = c.args in
+    let u = c.requires.0 in
+    let l = c.loop-i in (
       omega arith,
       omega arith,
       l.invariant.2,
@@ -58,22 +58,22 @@ loop-again c =
           (omega (arith, u.few)) l.invariant.3 c.stamp.ensures,
     )
 
-returns : tie.Need-returns invariant-loop decreases-loop
+returns : tie.Need-returns invariant-loop-i decreases-loop-i
 returns c =
-    let e : c.before.loop.i ≡ c.before.before.before.before.args.to = omega arith in
-    rw e at c.before.loop.invariant.3
+    let e : c.loop-i.i ≡ c.args.to = omega arith in
+    rw e at c.loop-i.invariant.3
 
-pub advance-spec : {M : Type 1} → statement M
-advance-spec =
+pub advance_spec : {M : Type 1} → statement M
+advance_spec =
     tie.close
     (tie.spec
-    invariant-loop
-    decreases-loop
-    loop-holds
-    shared-slice-read-stamp
-    cast-stamp
+    invariant-loop-i
+    decreases-loop-i
+    loop-i-init
+    bounds-order-i
+    overflow_cast-order
     stamp-requires
-    add-i
-    loop-less
-    loop-again
+    overflow_add-i
+    loop-i-smaller
+    loop-i-preserved
     returns)

@@ -14,28 +14,35 @@ use Rattle.table.proofs.versions.is_named.Tie as tie
 by : {n m : Naming} (a b : ℕ) → n ≡ m → names m a b ≡ names n a b
 by a b e = ap (λ (k : Naming). names k a b) (sym e)
 
-enum_told : tie.Need-enum-told
-enum_told c = search rules
+enum_told-1 : tie.Need-enum_told-1
+enum_told-1 c = search rules
 
-enum-told-2 : tie.Need-enum-told-2
-enum-told-2 c = search rules
+enum_told-in-Dried : tie.Need-enum_told-in-Dried
+enum_told-in-Dried c = search rules
 
-returns : tie.Need-returns
+returns-in-Risen : tie.Need-returns-in-Risen
 unfolding names
-returns c = let a = c.before.before.args in by a.before a.after c.enum_told.given.1
+returns-in-Risen c = let a = c.args in by a.before a.after c.in-Risen.is
 
-returns-2 : tie.Need-returns-2
+returns-then-before-gt0 : tie.Need-returns-then-before-gt0
 unfolding names
-returns-2 c =
-    let a = c.before.before.before.args in
-    ap (λ (t : Bool). t && eqb a.after 0) (sym (lt-ltb 0 a.before c.if1.true)) ∙ by a.before a.after c.before.enum-told2.given.1
+returns-then-before-gt0 c =
+    let a = c.args in
+    ap (λ (t : Bool). t && eqb a.after 0) (sym (lt-ltb 0 a.before c.if-before-gt0.true)) ∙ by a.before a.after c.in-Dried.is
 
-returns-3 : tie.Need-returns-3
+returns-else-before-gt0 : tie.Need-returns-else-before-gt0
 unfolding names
-returns-3 c =
-    let a = c.before.before.before.args in
-    let none = le-ltb 0 a.before c.if1.false in
-    none ∙ ap (λ (t : Bool). t && eqb a.after 0) (sym none) ∙ by a.before a.after c.before.enum-told2.given.1
+returns-else-before-gt0 c =
+    let a = c.args in
+    let none = le-ltb 0 a.before c.if-before-gt0.false in
+    none ∙ ap (λ (t : Bool). t && eqb a.after 0) (sym none) ∙ by a.before a.after c.in-Dried.is
 
-pub is-named-spec : {M : Type 1} → statement M
-is-named-spec = tie.close (tie.spec enum_told enum-told-2 returns returns-2 returns-3)
+pub is_named_spec : {M : Type 1} → statement M
+is_named_spec =
+    tie.close
+    (tie.spec
+    enum_told-1
+    enum_told-in-Dried
+    returns-in-Risen
+    returns-then-before-gt0
+    returns-else-before-gt0)

@@ -12,81 +12,81 @@ use Rattle.table.specs.VersionLaws.{stamp_start, stamp_next, stamp_end}
 use Rattle.table.proofs.versions.stamp.Statement.{statement}
 use Rattle.table.proofs.versions.stamp.Tie as tie
 
-abbrev invariant-loop : tie.invariant-loop
-invariant-loop versions₀ rows e n j₀ versions j =
+abbrev invariant-loop-j : tie.invariant-loop-j
+invariant-loop-j versions₀ rows e n j₀ versions j =
     (j ≤ n) × (n ≡ (row_at rows e).count)
     × Tabulates 0 versions (λ (h : ℕ). version_by h (get_or versions₀ h 0) (take j (row_at rows e).items))
 
-abbrev decreases-loop : tie.decreases-loop
-decreases-loop versions₀ rows e n j₀ versions j = n - j
+abbrev decreases-loop-j : tie.decreases-loop-j
+decreases-loop-j versions₀ rows e n j₀ versions j = n - j
 
 -- the history of the update that is read
-low : (c : tie.After-struct-known invariant-loop decreases-loop) → c.before.item_in.result.history < 16
+low : (c : tie.After-struct_known-1 invariant-loop-j decreases-loop-j) → c.item_in-x.result.history < 16
 low c =
-    let l = c.before.before.before.loop in
-    subst (λ (x : Item). x.history < 16) (sym c.before.item_in.ensures)
-    (c.before.before.before.before.before.before.before.before.before.requires.1.each l.j (omega (arith, l.invariant.1))).history
+    let l = c.loop-j in
+    subst (λ (x : Item). x.history < 16) (sym c.item_in-x.ensures)
+    (c.requires.1.each l.j (omega (arith, l.invariant.1))).history
 
-known-length-requires : tie.Need-known-length-requires invariant-loop decreases-loop
-known-length-requires c κs = search rules
+known_length-requires : tie.Need-known_length-requires invariant-loop-j decreases-loop-j
+known_length-requires c κs = search rules
 
-count-at-requires : tie.Need-count-at-requires invariant-loop decreases-loop
-count-at-requires c κs = search rules
+count_at-n-requires : tie.Need-count_at-n-requires invariant-loop-j decreases-loop-j
+count_at-n-requires c κs = search rules
 
-loop-holds : tie.Need-loop-init invariant-loop decreases-loop
-loop-holds c =
-    let a = c.before.before.before.before.before.args in
+loop-j-init : tie.Need-loop-j-init invariant-loop-j decreases-loop-j
+loop-j-init c =
+    let a = c.args in
     let long : length a.versions.now ≡ 16 = search rules in
-    (omega arith, c.count_at.ensures, stamp_start a.versions.now (row_at a.rows.now a.e) long)
+    (omega arith, c.count_at-n.ensures, stamp_start a.versions.now (row_at a.rows.now a.e) long)
 
-item-in-requires : tie.Need-item-in-requires invariant-loop decreases-loop
-item-in-requires c κs = (c.before.before.before.before.before.before.before.requires.0, omega (arith, c.before.loop.invariant.1, c.before.before.before.before.before.before.before.requires.1.few))
+item_in-x-requires : tie.Need-item_in-x-requires invariant-loop-j decreases-loop-j
+item_in-x-requires c κs = (c.requires.0, omega (arith, c.loop-j.invariant.1, c.requires.1.few))
 
-cast-at : tie.Need-overflow-cast-at invariant-loop decreases-loop
-cast-at c = search rules
+overflow_cast-at : tie.Need-overflow_cast-at invariant-loop-j decreases-loop-j
+overflow_cast-at c = search rules
 
-mul-versions : tie.Need-overflow-mul-versions invariant-loop decreases-loop
-mul-versions c = omega (arith, low c)
+offset_bounds-versions-at : tie.Need-offset_bounds-versions-at invariant-loop-j decreases-loop-j
+offset_bounds-versions-at c = omega (arith, low c)
 
-element-write-versions : tie.Need-element-write-versions invariant-loop decreases-loop
-element-write-versions c = low c
+bounds-versions-at : tie.Need-bounds-versions-at invariant-loop-j decreases-loop-j
+bounds-versions-at c = low c.before
 
-add-j : tie.Need-overflow-add-j invariant-loop decreases-loop
-add-j c = omega (arith, c.before.before.before.loop.invariant.1, c.before.before.before.before.before.before.before.before.before.requires.1.few)
+overflow_add-j : tie.Need-overflow_add-j invariant-loop-j decreases-loop-j
+overflow_add-j c = omega (arith, c.loop-j.invariant.1, c.requires.1.few)
 
-loop-less : tie.Need-loop-smaller invariant-loop decreases-loop
-loop-less c = omega arith
+loop-j-smaller : tie.Need-loop-j-smaller invariant-loop-j decreases-loop-j
+loop-j-smaller c = omega arith
 
-loop-again : tie.Need-loop-preserved invariant-loop decreases-loop
-loop-again c =
-    let l = c.before.before.before.loop in
-    let a = c.before.before.before.before.before.before.before.before.before.args in (
+loop-j-preserved : tie.Need-loop-j-preserved invariant-loop-j decreases-loop-j
+loop-j-preserved c =
+    let l = c.loop-j in
+    let a = c.args in (
       omega arith,
       l.invariant.1,
-      stamp_next l.versions a.versions.now (row_at a.rows.now a.e) l.j c.before.item_in.result c.before.before.before.before.before.before.before.before.before.requires.1
-          (omega (arith, l.invariant.1)) c.before.item_in.ensures l.invariant.2,
+      stamp_next l.versions a.versions.now (row_at a.rows.now a.e) l.j c.item_in-x.result c.requires.1
+          (omega (arith, l.invariant.1)) c.item_in-x.ensures l.invariant.2,
     )
 
-returns : tie.Need-returns invariant-loop decreases-loop
+returns : tie.Need-returns invariant-loop-j decreases-loop-j
 returns c =
-    let a = c.before.before.before.before.before.before.before.args in
-    let l = c.before.loop in
+    let a = c.args in
+    let l = c.loop-j in
     stamp_end l.versions (λ (h : ℕ). get_or a.versions.now h 0) (row_at a.rows.now a.e) l.j (omega (arith, l.invariant.1)) l.invariant.2
 
-pub stamp-spec : {M : Type 1} → statement M
-stamp-spec =
+pub stamp_spec : {M : Type 1} → statement M
+stamp_spec =
     tie.close
     (tie.spec
-    invariant-loop
-    decreases-loop
-    known-length-requires
-    count-at-requires
-    loop-holds
-    item-in-requires
-    cast-at
-    mul-versions
-    element-write-versions
-    add-j
-    loop-less
-    loop-again
+    invariant-loop-j
+    decreases-loop-j
+    known_length-requires
+    count_at-n-requires
+    loop-j-init
+    item_in-x-requires
+    overflow_cast-at
+    offset_bounds-versions-at
+    bounds-versions-at
+    overflow_add-j
+    loop-j-smaller
+    loop-j-preserved
     returns)
