@@ -5,16 +5,21 @@ use borrow.Author.Rules.{rules}
 use Rattle.records.proofs.answer_of.Statement.{statement}
 use Rattle.records.proofs.answer_of.Tie as tie
 
-is-persistent-requires : tie.Need-is-persistent-requires
-is-persistent-requires c κs = search rules
+is_persistent-requires : tie.Need-is_persistent-requires
+is_persistent-requires c κs = search rules
 
-returns : tie.Need-returns
+returns-then-is_persistent : tie.Need-returns-then-is_persistent
 unfolding answer_by
-returns c = ap answer_by (sym c.if1.true ∙ c.before.is-persistent.ensures)
+returns-then-is_persistent c = ap answer_by (sym c.if-is_persistent.true ∙ c.is_persistent.ensures)
 
-returns-2 : tie.Need-returns-2
+returns-else-is_persistent : tie.Need-returns-else-is_persistent
 unfolding answer_by
-returns-2 c = ap answer_by (sym c.if1.false ∙ c.before.is-persistent.ensures)
+returns-else-is_persistent c = ap answer_by (sym c.if-is_persistent.false ∙ c.is_persistent.ensures)
 
-pub answer-of-spec : {M : Type 1} → statement M
-answer-of-spec = tie.close (tie.spec is-persistent-requires returns returns-2)
+pub answer_of_spec : {M : Type 1} → statement M
+answer_of_spec =
+    tie.close
+    (tie.spec
+    is_persistent-requires
+    returns-then-is_persistent
+    returns-else-is_persistent)

@@ -15,9 +15,13 @@ ones-requires c κs = search rules
 returns : tie.Need-returns
 unfolding counts full_reports record_of
 returns c =
-    let r = c.before.before.before.args.r in
+    let r = c.args.r in
     let small : r.full < 256 = search rules in
-    ap (λ (n : ℕ). leb r.threshold n) (c.before.ones.ensures ∙ sym (mask_reports r.full r.reported small))
+    ap (λ (n : ℕ). leb r.threshold n) (c.ones.ensures ∙ sym (mask_reports r.full r.reported small))
 
-pub is-persistent-spec : {M : Type 1} → statement M
-is-persistent-spec = tie.close (tie.spec ones-requires returns)
+pub is_persistent_spec : {M : Type 1} → statement M
+is_persistent_spec =
+    tie.close
+    (tie.spec
+    ones-requires
+    returns)

@@ -12,17 +12,22 @@ use Rattle.records.proofs.is_wrong.Tie as tie
 ones-requires : tie.Need-ones-requires
 ones-requires c κs = search rules
 
-returns : tie.Need-returns
+returns-then-threshold-eq0 : tie.Need-returns-then-threshold-eq0
 unfolding wrong_threshold
-returns c = rw (eq-eqb c.before.args.threshold 0 c.if1.true)
+returns-then-threshold-eq0 c = rw (eq-eqb c.args.threshold 0 c.if-threshold-eq0.true)
 
-returns-2 : tie.Need-returns-2
+returns-else-threshold-eq0 : tie.Need-returns-else-threshold-eq0
 unfolding wrong_threshold
-returns-2 c =
-    let a = c.before.before.args in
+returns-else-threshold-eq0 c =
+    let a = c.args in
     let small : a.full < 256 = search rules in
-    rw (ne_eqb a.threshold 0 c.before.if1.false)
+    rw (ne_eqb a.threshold 0 c.if-threshold-eq0.false)
     (ap (λ (n : ℕ). ltb n a.threshold) (c.ones.ensures ∙ sym (mask_ones a.full small)))
 
-pub is-wrong-spec : {M : Type 1} → statement M
-is-wrong-spec = tie.close (tie.spec ones-requires returns returns-2)
+pub is_wrong_spec : {M : Type 1} → statement M
+is_wrong_spec =
+    tie.close
+    (tie.spec
+    ones-requires
+    returns-then-threshold-eq0
+    returns-else-threshold-eq0)

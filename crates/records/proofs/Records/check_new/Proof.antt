@@ -9,84 +9,67 @@ use Rattle.records.proofs.Records.check_new.Tie as tie
 find-requires : tie.Need-find-requires
 find-requires c κs = search rules
 
-enum_told : tie.Need-enum-told
-enum_told c = search rules
+enum_told-1 : tie.Need-enum_told-1
+enum_told-1 c = search rules
 
-enum-told-2 : tie.Need-enum-told-2
-enum-told-2 c = search rules
+enum_told-in_default : tie.Need-enum_told-in_default
+enum_told-in_default c = search rules
+
+returns-in_default : tie.Need-returns-in_default
+returns-in_default c =
+    let a = c.args in
+    check-again a.self a.words.now c.requires a.id (sites_of a.sent) (sites_of a.full) a.threshold _
+    (sym c.find.ensures ∙ c.in_default.is)
+
+returns-then-self-eq-LIMIT : tie.Need-returns-then-self-eq-LIMIT
+returns-then-self-eq-LIMIT c =
+    let a = c.args in
+    check-full a.self a.words.now c.requires a.id (sites_of a.sent) (sites_of a.full) a.threshold
+    (sym c.find.ensures ∙ c.in-Nothing.is) c.if-self-eq-LIMIT.true
+
+is_wrong-requires : tie.Need-is_wrong-requires
+is_wrong-requires c κs = search rules
+
+returns-then-is_wrong : tie.Need-returns-then-is_wrong
+returns-then-is_wrong c =
+    let a = c.args in
+    check_wrong a.self a.words.now c.requires a.id (sites_of a.sent) (sites_of a.full) a.threshold
+    (sym c.find.ensures ∙ c.in-Nothing.is)
+    (below_limit a.self.count c.requires.few c.if-self-eq-LIMIT.false)
+    (sym c.is_wrong.ensures ∙ c.if-is_wrong.true)
+
+is_outside-requires : tie.Need-is_outside-requires
+is_outside-requires c κs = search rules
+
+returns-then-is_outside : tie.Need-returns-then-is_outside
+returns-then-is_outside c =
+    let a = c.args in
+    check_outside a.self a.words.now c.requires a.id (sites_of a.sent) (sites_of a.full) a.threshold
+    (sym c.find.ensures ∙ c.in-Nothing.is)
+    (below_limit a.self.count c.requires.few c.if-self-eq-LIMIT.false)
+    (sym c.is_wrong.ensures ∙ c.if-is_wrong.false)
+    (sym c.is_outside.ensures ∙ c.if-is_outside.true)
 
 returns : tie.Need-returns
 returns c =
-    let f = c.before.before in
-    let s = f.before.before in
-    let a = s.args in
-    check-again a.self a.words.now s.requires a.id (sites_of a.sent) (sites_of a.full) a.threshold _
-    (sym f.find.ensures ∙ c.enum-told2.given.1)
+    let a = c.args in
+    check_ok a.self a.words.now c.requires a.id (sites_of a.sent) (sites_of a.full) a.threshold
+    (sym c.find.ensures ∙ c.in-Nothing.is)
+    (below_limit a.self.count c.requires.few c.if-self-eq-LIMIT.false)
+    (sym c.is_wrong.ensures ∙ c.if-is_wrong.false)
+    (sym c.is_outside.ensures ∙ c.if-is_outside.false)
 
-returns-2 : tie.Need-returns-2
-returns-2 c =
-    let fresh = c.before.before in
-    let f = fresh.before.before in
-    let s = f.before.before in
-    let a = s.args in
-    check-full a.self a.words.now s.requires a.id (sites_of a.sent) (sites_of a.full) a.threshold
-    (sym f.find.ensures ∙ fresh.enum_told.given.1) c.if1.true
-
-is-wrong-requires : tie.Need-is-wrong-requires
-is-wrong-requires c κs = search rules
-
-returns-3 : tie.Need-returns-3
-returns-3 c =
-    let room = c.before.before in
-    let fresh = room.before.before in
-    let f = fresh.before.before in
-    let s = f.before.before in
-    let a = s.args in
-    check_wrong a.self a.words.now s.requires a.id (sites_of a.sent) (sites_of a.full) a.threshold
-    (sym f.find.ensures ∙ fresh.enum_told.given.1)
-    (below_limit a.self.count s.requires.few room.if1.false)
-    (sym c.before.is-wrong.ensures ∙ c.if2.true)
-
-is-outside-requires : tie.Need-is-outside-requires
-is-outside-requires c κs = search rules
-
-returns-4 : tie.Need-returns-4
-returns-4 c =
-    let room = c.before.before.before.before in
-    let fresh = room.before.before in
-    let f = fresh.before.before in
-    let s = f.before.before in
-    let a = s.args in
-    check_outside a.self a.words.now s.requires a.id (sites_of a.sent) (sites_of a.full) a.threshold
-    (sym f.find.ensures ∙ fresh.enum_told.given.1)
-    (below_limit a.self.count s.requires.few room.if1.false)
-    (sym c.before.before.before.is-wrong.ensures ∙ c.before.before.if2.false)
-    (sym c.before.is-outside.ensures ∙ c.if3.true)
-
-returns-5 : tie.Need-returns-5
-returns-5 c =
-    let room = c.before.before.before.before in
-    let fresh = room.before.before in
-    let f = fresh.before.before in
-    let s = f.before.before in
-    let a = s.args in
-    check_ok a.self a.words.now s.requires a.id (sites_of a.sent) (sites_of a.full) a.threshold
-    (sym f.find.ensures ∙ fresh.enum_told.given.1)
-    (below_limit a.self.count s.requires.few room.if1.false)
-    (sym c.before.before.before.is-wrong.ensures ∙ c.before.before.if2.false)
-    (sym c.before.is-outside.ensures ∙ c.if3.false)
-
-pub check-new-spec : {M : Type 1} → statement M
-check-new-spec =
+pub check_new_spec : {M : Type 1} → statement M
+check_new_spec =
     tie.close
     (tie.spec
     find-requires
-    enum_told
-    enum-told-2
-    returns
-    returns-2
-    is-wrong-requires
-    returns-3
-    is-outside-requires
-    returns-4
-    returns-5)
+    enum_told-1
+    enum_told-in_default
+    returns-in_default
+    returns-then-self-eq-LIMIT
+    is_wrong-requires
+    returns-then-is_wrong
+    is_outside-requires
+    returns-then-is_outside
+    returns)

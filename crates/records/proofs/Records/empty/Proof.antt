@@ -14,5 +14,8 @@ returns c =
       none = λ ws. refl;
     }
 
-pub empty-spec : {M : Type 1} → statement M
-empty-spec = tie.close (tie.spec returns)
+pub empty_spec : {M : Type 1} → statement M
+empty_spec =
+    tie.close
+    (tie.spec
+    returns)

@@ -15,52 +15,52 @@ use Rattle.records.specs.FindLaws.{place_hit, place_end}
 use Rattle.records.proofs.Records.find.Statement.{statement}
 use Rattle.records.proofs.Records.find.Tie as tie
 
-abbrev invariant-loop : tie.invariant-loop
-invariant-loop words id n i₀ i = (i ≤ n) × (any (is_for id) (take i (records_view (record { count = n }) words)) ≡ false)
+abbrev invariant-loop-i : tie.invariant-loop-i
+invariant-loop-i words id n i₀ i = (i ≤ n) × (any (is_for id) (take i (records_view (record { count = n }) words)) ≡ false)
 
-abbrev decreases-loop : tie.decreases-loop
-decreases-loop words id n i₀ i = n - i
+abbrev decreases-loop-i : tie.decreases-loop-i
+decreases-loop-i words id n i₀ i = n - i
 
-loop-holds : tie.Need-loop-init invariant-loop decreases-loop
-loop-holds c = (omega arith, refl)
+loop-i-init : tie.Need-loop-i-init invariant-loop-i decreases-loop-i
+loop-i-init c = (omega arith, refl)
 
-id-at-requires : tie.Need-id-at-requires invariant-loop decreases-loop
-id-at-requires c κs = omega (arith, c.before.before.before.requires.few, c.before.before.before.requires.long)
+id_at-requires : tie.Need-id_at-requires invariant-loop-i decreases-loop-i
+id_at-requires c κs = omega (arith, c.requires.few, c.requires.long)
 
-returns : tie.Need-returns invariant-loop decreases-loop
-returns c =
-    let a = c.before.before.before.before.before.args in
-    let l = c.before.before.before.loop in
+returns-then-id_at-id : tie.Need-returns-then-id_at-id invariant-loop-i decreases-loop-i
+returns-then-id_at-id c =
+    let a = c.args in
+    let l = c.loop-i in
     let rs = records_view a.self a.words.now in
     let low : l.i < a.self.count = omega arith in
     sym (place_hit (is_for a.id) rs no_record l.i (omega (arith, low, view_long a.self a.words.now)) l.invariant.1
-    (view_for a.self a.words.now l.i a.id c.before.id-at.result low c.before.id-at.ensures
-    ∙ eq-eqb c.before.id-at.result a.id c.if1.true))
+    (view_for a.self a.words.now l.i a.id c.id_at.result low c.id_at.ensures
+    ∙ eq-eqb c.id_at.result a.id c.if-id_at-id.true))
 
-add-i : tie.Need-overflow-add-i invariant-loop decreases-loop
-add-i c = omega arith
+overflow_add-i : tie.Need-overflow_add-i invariant-loop-i decreases-loop-i
+overflow_add-i c = omega arith
 
-loop-less : tie.Need-loop-smaller invariant-loop decreases-loop
-loop-less c = omega arith
+loop-i-smaller : tie.Need-loop-i-smaller invariant-loop-i decreases-loop-i
+loop-i-smaller c = omega arith
 
-loop-again : tie.Need-loop-preserved invariant-loop decreases-loop
-loop-again c =
-    let a = c.before.before.before.before.before.args in
-    let l = c.before.before.before.loop in
+loop-i-preserved : tie.Need-loop-i-preserved invariant-loop-i decreases-loop-i
+loop-i-preserved c =
+    let a = c.args in
+    let l = c.loop-i in
     let rs = records_view a.self a.words.now in
     let low : l.i < a.self.count = omega arith in (
       omega arith,
       any_next (is_for a.id) rs no_record l.i (omega (arith, low, view_long a.self a.words.now)) l.invariant.1
-          (view_for a.self a.words.now l.i a.id c.before.id-at.result low c.before.id-at.ensures
-          ∙ ne_eqb c.before.id-at.result a.id c.if1.false),
+          (view_for a.self a.words.now l.i a.id c.id_at.result low c.id_at.ensures
+          ∙ ne_eqb c.id_at.result a.id c.if-id_at-id.false),
     )
 
-returns-2 : tie.Need-returns-2 invariant-loop decreases-loop
-returns-2 c =
-    let a = c.before.before.before.args in
-    let l = c.before.loop in
+returns : tie.Need-returns invariant-loop-i decreases-loop-i
+returns c =
+    let a = c.args in
+    let l = c.loop-i in
     let rs = records_view a.self a.words.now in
-    let past : length rs ≤ l.i = omega (arith, c.loop-test.false, view_long a.self a.words.now) in
+    let past : length rs ≤ l.i = omega (arith, c.loop-i-test.false, view_long a.self a.words.now) in
     let none_passed : any (is_for a.id) rs ≡ false = rw (take_all l.i rs past) at l.invariant.1 in
     sym (place_end (is_for a.id) rs none_passed)
 
@@ -68,12 +68,12 @@ pub find_spec : {M : Type 1} → statement M
 find_spec =
     tie.close
     (tie.spec
-    invariant-loop
-    decreases-loop
-    loop-holds
-    id-at-requires
-    returns
-    add-i
-    loop-less
-    loop-again
-    returns-2)
+    invariant-loop-i
+    decreases-loop-i
+    loop-i-init
+    id_at-requires
+    returns-then-id_at-id
+    overflow_add-i
+    loop-i-smaller
+    loop-i-preserved
+    returns)

@@ -8,76 +8,67 @@ use Rattle.records.proofs.Records.forget.Statement.{statement}
 use Rattle.records.proofs.Records.forget.Tie as tie
 
 -- the record that was found is one of those in use
-low : (c : tie.After-known-told) → c.before.i.given.0.0 < c.before.before.before.before.before.before.args.self.count
+low : (c : tie.In-At) → c.in-At.i < c.args.self.count
 low c =
-    let f = c.before.before.before in
-    let s = f.before.before.before in
-    found_low s.args.self s.args.words.now s.requires s.args.id c.before.i.given.0.0 (sym f.find.ensures ∙ c.before.i.given.1)
+    found_low c.args.self c.args.words.now c.requires c.args.id c.in-At.i (sym c.find.ensures ∙ c.in-At.is)
 
 find-requires : tie.Need-find-requires
 find-requires c κs = search rules
 
-enum-known-i : tie.Need-enum-known-i
-enum-known-i c = search rules
+enum_known-i : tie.Need-enum_known-i
+enum_known-i c = search rules
 
-enum_told : tie.Need-enum-told
-enum_told c = search rules
+enum_told-1 : tie.Need-enum_told-1
+enum_told-1 c = search rules
 
 refused-requires : tie.Need-refused-requires
 refused-requires c κs = search rules
 
-same_length : tie.Need-same-length
-same_length c = search rules
+shape_of-words-in_default : tie.Need-shape_of-words-in_default
+shape_of-words-in_default c = search rules
+
+returns-in_default : tie.Need-returns-in_default
+returns-in_default c =
+    let a = c.args in
+    not_sent a.self a.words.now c.requires _
+    (forget_gone a.self a.words.now c.requires a.id (sym c.find.ensures ∙ c.in_default.is))
+    c.refused.result c.refused.ensures
+
+overflow_sub-last : tie.Need-overflow_sub-last
+overflow_sub-last c = omega (arith, low c.before)
+
+overflow_mul-i : tie.Need-overflow_mul-i
+overflow_mul-i c = omega (arith, low c.before.before, c.requires.few)
+
+overflow_mul-last : tie.Need-overflow_mul-last
+overflow_mul-last c = search rules
+
+close_gap-requires : tie.Need-close_gap-requires
+close_gap-requires c κs =
+    (omega (arith, low c.before.before), omega (arith, low c.before.before, c.requires.few, c.requires.long))
+
+shape_of-words : tie.Need-shape_of-words
+shape_of-words c = search rules
 
 returns : tie.Need-returns
 returns c =
-    let f = c.before.before.before in
-    let s = f.before.before.before in
-    let a = s.args in
-    not_sent a.self a.words.now s.requires _
-    (forget_gone a.self a.words.now s.requires a.id (sym f.find.ensures ∙ c.before.enum_told.given.1))
-    c.refused.result c.refused.ensures
+    let a = c.args in
+    forgets a.self a.words.now c.requires a.id c.in-At.i (sym c.find.ensures ∙ c.in-At.is) (a.self.count - 1) c.close_gap.new.words
+    (omega (arith, low c.before.before.before.before.before)) c.close_gap.ensures
 
-sub-last : tie.Need-overflow-sub-last
-sub-last c = omega (arith, low c.before)
-
-mul-close-gap : tie.Need-overflow-mul-close-gap
-mul-close-gap c = omega (arith, low c.before.before, c.before.before.before.before.before.before.before.before.requires.few)
-
-mul-close-gap-2 : tie.Need-overflow-mul-close-gap-2
-mul-close-gap-2 c = search rules
-
-close-gap-requires : tie.Need-close-gap-requires
-close-gap-requires c κs =
-    let s = c.before.before.before.before.before.before.before.before in
-    (omega (arith, low c.before.before), omega (arith, low c.before.before, s.requires.few, s.requires.long))
-
-same-length-2 : tie.Need-same-length-2
-same-length-2 c = search rules
-
-returns-2 : tie.Need-returns-2
-returns-2 c =
-    let gap = c.before.before in
-    let k = gap.before.before.before.before in
-    let f = k.before.before in
-    let s = f.before.before.before in
-    let a = s.args in
-    forgets a.self a.words.now s.requires a.id k.i.given.0.0 (sym f.find.ensures ∙ k.i.given.1) (a.self.count - 1) gap.close-gap.new.0
-    (omega (arith, low gap.before.before.before)) gap.close-gap.ensures
-
-pub forget-spec : {M : Type 1} → statement M
-forget-spec =
+pub forget_spec : {M : Type 1} → statement M
+forget_spec =
     tie.close
     (tie.spec
     find-requires
-    enum-known-i
-    enum_told
+    enum_known-i
+    enum_told-1
     refused-requires
-    same_length
-    returns
-    sub-last
-    mul-close-gap
-    mul-close-gap-2
-    close-gap-requires
-    same-length-2
-    returns-2)
+    shape_of-words-in_default
+    returns-in_default
+    overflow_sub-last
+    overflow_mul-i
+    overflow_mul-last
+    close_gap-requires
+    shape_of-words
+    returns)

@@ -9,49 +9,42 @@ use Rattle.records.proofs.Records.question.Tie as tie
 find-requires : tie.Need-find-requires
 find-requires c κs = search rules
 
-enum-known-i : tie.Need-enum-known-i
-enum-known-i c = search rules
+enum_known-i : tie.Need-enum_known-i
+enum_known-i c = search rules
 
-enum_told : tie.Need-enum-told
-enum_told c = search rules
+enum_told-1 : tie.Need-enum_told-1
+enum_told-1 c = search rules
+
+returns-in_default : tie.Need-returns-in_default
+unfolding answer_in
+returns-in_default c =
+    let a = c.args in
+    sym (ap answer_in (question_gone a.self a.words.now c.requires a.id (sym c.find.ensures ∙ c.in_default.is)))
+
+record_at-requires : tie.Need-record_at-requires
+record_at-requires c κs =
+    let a = c.args in
+    found-fits a.self a.words.now c.requires a.id c.in-At.i
+    (sym c.find.ensures ∙ c.in-At.is)
+
+answer_of-requires : tie.Need-answer_of-requires
+answer_of-requires c κs = search rules
 
 returns : tie.Need-returns
-unfolding answer_in
 returns c =
-    let f = c.before.before in
-    let s = f.before.before in
-    let a = s.args in
-    sym (ap answer_in (question_gone a.self a.words.now s.requires a.id (sym f.find.ensures ∙ c.enum_told.given.1)))
+    let a = c.args in
+    c.answer_of.ensures
+    ∙ question-found a.self a.words.now c.requires a.id c.in-At.i (sym c.find.ensures ∙ c.in-At.is)
+    c.record_at.result c.record_at.ensures
 
-record-at-requires : tie.Need-record-at-requires
-record-at-requires c κs =
-    let s = c.before.before.before.before.before in
-    let a = s.args in
-    found-fits a.self a.words.now s.requires a.id c.before.i.given.0.0
-    (sym c.before.before.before.find.ensures ∙ c.before.i.given.1)
-
-answer-of-requires : tie.Need-answer-of-requires
-answer-of-requires c κs = search rules
-
-returns-2 : tie.Need-returns-2
-returns-2 c =
-    let read = c.before in
-    let k = read.before.before in
-    let f = k.before.before in
-    let s = f.before.before in
-    let a = s.args in
-    c.answer-of.ensures
-    ∙ question-found a.self a.words.now s.requires a.id k.i.given.0.0 (sym f.find.ensures ∙ k.i.given.1)
-    read.record-at.result read.record-at.ensures
-
-pub question-spec : {M : Type 1} → statement M
-question-spec =
+pub question_spec : {M : Type 1} → statement M
+question_spec =
     tie.close
     (tie.spec
     find-requires
-    enum-known-i
-    enum_told
-    returns
-    record-at-requires
-    answer-of-requires
-    returns-2)
+    enum_known-i
+    enum_told-1
+    returns-in_default
+    record_at-requires
+    answer_of-requires
+    returns)

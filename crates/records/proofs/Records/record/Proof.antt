@@ -5,64 +5,56 @@ use borrow.Author.Rules.{rules}
 use Rattle.records.proofs.Records.record.Statement.{statement}
 use Rattle.records.proofs.Records.record.Tie as tie
 
-check-new-requires : tie.Need-check-new-requires
-check-new-requires c κs = search rules
+check_new-verdict-requires : tie.Need-check_new-verdict-requires
+check_new-verdict-requires c κs = search rules
 
-enum-known-verdict : tie.Need-enum-known-verdict
-enum-known-verdict c = search rules
+enum_known-verdict : tie.Need-enum_known-verdict
+enum_known-verdict c = search rules
 
-enum_told : tie.Need-enum-told
-enum_told c = search rules
+enum_told-1 : tie.Need-enum_told-1
+enum_told-1 c = search rules
 
-put-record-requires : tie.Need-put-record-requires
-put-record-requires c κs =
-    let v = c.before.before.before in
-    let s = v.before.before.before in
-    let a = s.args in
-    records_fits a.self a.words.now s.requires a.id a.sent a.full a.threshold v.check-new.result
-    v.check-new.ensures c.before.enum_told.given.1
+put_record-requires : tie.Need-put_record-requires
+put_record-requires c κs =
+    let a = c.args in
+    records_fits a.self a.words.now c.requires a.id a.sent a.full a.threshold c.check_new-verdict.result
+    c.check_new-verdict.ensures c.in-Passes.is
 
-add-t18 : tie.Need-overflow-add-t18
-add-t18 c = search rules
+overflow_add-result : tie.Need-overflow_add-result
+overflow_add-result c = search rules
 
-same_length : tie.Need-same-length
-same_length c = search rules
+shape_of-words-in-Refused : tie.Need-shape_of-words-in-Refused
+shape_of-words-in-Refused c = search rules
 
-returns : tie.Need-returns
-returns c =
-    let v = c.before.before.before in
-    let s = v.before.before.before in
-    let a = s.args in
-    records_not a.self a.words.now s.requires a.id a.sent a.full a.threshold v.check-new.result
-    v.check-new.ensures
-    c.before.verdict.given.0.0 c.before.verdict.given.1
+returns-in-Refused : tie.Need-returns-in-Refused
+returns-in-Refused c =
+    let a = c.args in
+    records_not a.self a.words.now c.requires a.id a.sent a.full a.threshold c.check_new-verdict.result
+    c.check_new-verdict.ensures
+    c.in-Refused.q c.in-Refused.is
 
-same-length-2 : tie.Need-same-length-2
-same-length-2 c = search rules
+shape_of-words-in-Passes : tie.Need-shape_of-words-in-Passes
+shape_of-words-in-Passes c = search rules
 
-returns-2 : tie.Need-returns-2
-returns-2 c =
-    let put = c.before.before in
-    let told = put.before.before in
-    let v = told.before.before in
-    let s = v.before.before.before in
-    let a = s.args in
+returns-in-Passes : tie.Need-returns-in-Passes
+returns-in-Passes c =
+    let a = c.args in
     let sent-small : a.sent < 256 = search rules in
     let full-small : a.full < 256 = search rules in
-    records_as a.self a.words.now s.requires a.id a.sent a.full a.threshold v.check-new.result
-    v.check-new.ensures told.enum_told.given.1
-    put.put_record.new.0 sent-small full-small put.put_record.ensures
+    records_as a.self a.words.now c.requires a.id a.sent a.full a.threshold c.check_new-verdict.result
+    c.check_new-verdict.ensures c.in-Passes.is
+    c.put_record.new.words sent-small full-small c.put_record.ensures
 
-pub record-spec : {M : Type 1} → statement M
-record-spec =
+pub record_spec : {M : Type 1} → statement M
+record_spec =
     tie.close
     (tie.spec
-    check-new-requires
-    enum-known-verdict
-    enum_told
-    put-record-requires
-    add-t18
-    same_length
-    returns
-    same-length-2
-    returns-2)
+    check_new-verdict-requires
+    enum_known-verdict
+    enum_told-1
+    put_record-requires
+    overflow_add-result
+    shape_of-words-in-Refused
+    returns-in-Refused
+    shape_of-words-in-Passes
+    returns-in-Passes)

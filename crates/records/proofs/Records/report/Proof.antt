@@ -9,107 +9,86 @@ use Rattle.records.proofs.Records.report.Tie as tie
 find-requires : tie.Need-find-requires
 find-requires c κs = search rules
 
-enum-known-i : tie.Need-enum-known-i
-enum-known-i c = search rules
+enum_known-i : tie.Need-enum_known-i
+enum_known-i c = search rules
 
-enum_told : tie.Need-enum-told
-enum_told c = search rules
+enum_told-1 : tie.Need-enum_told-1
+enum_told-1 c = search rules
 
 refused-requires : tie.Need-refused-requires
 refused-requires c κs = search rules
 
-same_length : tie.Need-same-length
-same_length c = search rules
+shape_of-words-in_default : tie.Need-shape_of-words-in_default
+shape_of-words-in_default c = search rules
 
-returns : tie.Need-returns
-returns c =
-    let f = c.before.before.before in
-    let s = f.before.before.before in
-    let a = s.args in
-    not_sent a.self a.words.now s.requires _
-    (report_gone a.self a.words.now s.requires a.id (sym f.find.ensures ∙ c.before.enum_told.given.1) a.site)
+returns-in_default : tie.Need-returns-in_default
+returns-in_default c =
+    let a = c.args in
+    not_sent a.self a.words.now c.requires _
+    (report_gone a.self a.words.now c.requires a.id (sym c.find.ensures ∙ c.in_default.is) a.site)
     c.refused.result c.refused.ensures
 
-record-at-requires : tie.Need-record-at-requires
-record-at-requires c κs =
-    let k = c.before.before in
-    let f = k.before.before in
-    let s = f.before.before.before in
-    let a = s.args in
-    found-fits a.self a.words.now s.requires a.id k.i.given.0.0 (sym f.find.ensures ∙ k.i.given.1)
+record_at-r-requires : tie.Need-record_at-r-requires
+record_at-r-requires c κs =
+    let a = c.args in
+    found-fits a.self a.words.now c.requires a.id c.in-At.i (sym c.find.ensures ∙ c.in-At.is)
 
-has-site-requires : tie.Need-has-site-requires
-has-site-requires c κs = search rules
+has_site-requires : tie.Need-has_site-requires
+has_site-requires c κs = search rules
 
 bit-requires : tie.Need-bit-requires
-bit-requires c κs = site_low _ _ (sym c.before.has-site.ensures ∙ c.if1.true)
+bit-requires c κs = site_low _ _ (sym c.has_site.ensures ∙ c.if-has_site.true)
 
-put-record-requires : tie.Need-put-record-requires
-put-record-requires c κs =
-    let k = c.before.before.before.before.before.before.before.before in
-    let f = k.before.before in
-    let s = f.before.before.before in
-    let a = s.args in
-    found-fits a.self a.words.now s.requires a.id k.i.given.0.0 (sym f.find.ensures ∙ k.i.given.1)
+put_record-requires : tie.Need-put_record-requires
+put_record-requires c κs =
+    let a = c.args in
+    found-fits a.self a.words.now c.requires a.id c.in-At.i (sym c.find.ensures ∙ c.in-At.is)
 
-answer-of-requires : tie.Need-answer-of-requires
-answer-of-requires c κs = search rules
+answer_of-requires : tie.Need-answer_of-requires
+answer_of-requires c κs = search rules
 
-same-length-2 : tie.Need-same-length-2
-same-length-2 c = search rules
+shape_of-words-then-has_site : tie.Need-shape_of-words-then-has_site
+shape_of-words-then-has_site c = search rules
 
-returns-2 : tie.Need-returns-2
-returns-2 c =
-    let put = c.before.before.before in
-    let set-bit = put.before.before.before in
-    let tested = set-bit.before in
-    let asked = tested.before in
-    let read = asked.before in
-    let k = read.before.before.before in
-    let f = k.before.before in
-    let s = f.before.before.before in
-    let a = s.args in
-    reports_as a.self a.words.now s.requires a.id k.i.given.0.0 (sym f.find.ensures ∙ k.i.given.1) a.site
-    set-bit.bit.result read.record-at.result read.record-at.ensures
-    (sym asked.has-site.ensures ∙ tested.if1.true) set-bit.bit.ensures
-    c.answer-of.result c.answer-of.ensures put.put_record.new.0 put.put_record.ensures
+returns-then-has_site : tie.Need-returns-then-has_site
+returns-then-has_site c =
+    let a = c.args in
+    reports_as a.self a.words.now c.requires a.id c.in-At.i (sym c.find.ensures ∙ c.in-At.is) a.site
+    c.bit.result c.record_at-r.result c.record_at-r.ensures
+    (sym c.has_site.ensures ∙ c.if-has_site.true) c.bit.ensures
+    c.answer_of.result c.answer_of.ensures c.put_record.new.words c.put_record.ensures
 
 refused-requires-2 : tie.Need-refused-requires-2
 refused-requires-2 c κs = search rules
 
-same-length-3 : tie.Need-same-length-3
-same-length-3 c = search rules
+shape_of-words : tie.Need-shape_of-words
+shape_of-words c = search rules
 
-returns-3 : tie.Need-returns-3
-returns-3 c =
-    let asked = c.before.before in
-    let read = asked.before in
-    let k = read.before.before.before in
-    let f = k.before.before in
-    let s = f.before.before.before in
-    let a = s.args in
-    not_sent a.self a.words.now s.requires _
-    (report_outside a.self a.words.now s.requires a.id k.i.given.0.0 (sym f.find.ensures ∙ k.i.given.1) a.site
-    read.record-at.result read.record-at.ensures (sym asked.has-site.ensures ∙ c.before.if1.false))
-    c.refused2.result c.refused2.ensures
+returns : tie.Need-returns
+returns c =
+    let a = c.args in
+    not_sent a.self a.words.now c.requires _
+    (report_outside a.self a.words.now c.requires a.id c.in-At.i (sym c.find.ensures ∙ c.in-At.is) a.site
+    c.record_at-r.result c.record_at-r.ensures (sym c.has_site.ensures ∙ c.if-has_site.false))
+    c.refused-2.result c.refused-2.ensures
 
-pub report-spec : {M : Type 1} → statement M
-report-spec =
+pub report_spec : {M : Type 1} → statement M
+report_spec =
     tie.close
     (tie.spec
     find-requires
-    enum-known-i
-    enum_told
+    enum_known-i
+    enum_told-1
     refused-requires
-    same_length
-    returns
-    record-at-requires
-    has-site-requires
+    shape_of-words-in_default
+    returns-in_default
+    record_at-r-requires
+    has_site-requires
     bit-requires
-    put-record-requires
-    answer-of-requires
-    same-length-2
-    returns-2
+    put_record-requires
+    answer_of-requires
+    shape_of-words-then-has_site
+    returns-then-has_site
     refused-requires-2
-    same-length-3
-    returns-3)
+    shape_of-words
+    returns)

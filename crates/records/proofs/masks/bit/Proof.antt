@@ -5,14 +5,19 @@ use borrow.Author.Rules.{rules}
 use Rattle.records.proofs.masks.bit.Statement.{statement}
 use Rattle.records.proofs.masks.bit.Tie as tie
 
-cast-result : tie.Need-overflow-cast-result
-cast-result c = search rules
+overflow_cast-result : tie.Need-overflow_cast-result
+overflow_cast-result c = search rules
 
-shl-result : tie.Need-overflow-shl-result
-shl-result c = search rules
+overflow_shl-result : tie.Need-overflow_shl-result
+overflow_shl-result c = search rules
 
 returns : tie.Need-returns
 returns c = let h = bit_small c.args.site c.requires in omega (arith, h)
 
-pub bit-spec : {M : Type 1} → statement M
-bit-spec = tie.close (tie.spec cast-result shl-result returns)
+pub bit_spec : {M : Type 1} → statement M
+bit_spec =
+    tie.close
+    (tie.spec
+    overflow_cast-result
+    overflow_shl-result
+    returns)

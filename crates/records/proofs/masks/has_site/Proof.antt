@@ -10,21 +10,27 @@ use borrow.Author.Rules.{rules}
 use Rattle.records.proofs.masks.has_site.Statement.{statement}
 use Rattle.records.proofs.masks.has_site.Tie as tie
 
-cast-result : tie.Need-overflow-cast-result
-cast-result c = search rules
+overflow_cast-result : tie.Need-overflow_cast-result
+overflow_cast-result c = search rules
 
-shr-result : tie.Need-overflow-shr-result
-shr-result c = search rules
+overflow_shr-result : tie.Need-overflow_shr-result
+overflow_shr-result c = search rules
 
-returns : tie.Need-returns
-returns c =
-    let a = c.before.args in
-    ap (λ (n : ℕ). eqb n 1) (and_mask (a.mask / (2 ^ a.site)) 1) ∙ sym (mask_site a.mask a.site c.if1.true)
+returns-then-site-lt8 : tie.Need-returns-then-site-lt8
+returns-then-site-lt8 c =
+    let a = c.args in
+    ap (λ (n : ℕ). eqb n 1) (and_mask (a.mask / (2 ^ a.site)) 1) ∙ sym (mask_site a.mask a.site c.if-site-lt8.true)
 
-returns-2 : tie.Need-returns-2
-returns-2 c =
-    let a = c.before.args in
-    sym (T_false _ (λ t. let low = site_low a.mask a.site (T_true _ t) in omega (arith, low, c.if1.false)))
+returns-else-site-lt8 : tie.Need-returns-else-site-lt8
+returns-else-site-lt8 c =
+    let a = c.args in
+    sym (T_false _ (λ t. let low = site_low a.mask a.site (T_true _ t) in omega (arith, low, c.if-site-lt8.false)))
 
-pub has-site-spec : {M : Type 1} → statement M
-has-site-spec = tie.close (tie.spec cast-result shr-result returns returns-2)
+pub has_site_spec : {M : Type 1} → statement M
+has_site_spec =
+    tie.close
+    (tie.spec
+    overflow_cast-result
+    overflow_shr-result
+    returns-then-site-lt8
+    returns-else-site-lt8)

@@ -11,5 +11,8 @@ returns c =
     let small : c.args.full < 256 = search rules in
     sym (mask_outside c.args.sent c.args.full small)
 
-pub is-outside-spec : {M : Type 1} → statement M
-is-outside-spec = tie.close (tie.spec returns)
+pub is_outside_spec : {M : Type 1} → statement M
+is_outside_spec =
+    tie.close
+    (tie.spec
+    returns)

@@ -7,8 +7,8 @@ use mathlib.Core.Path.{refl}
 use Rattle.records.proofs.masks.ones.Statement.{statement}
 use Rattle.records.proofs.masks.ones.Tie as tie
 
-cast-result : tie.Need-overflow-cast-result
-cast-result c =
+overflow_cast-result : tie.Need-overflow_cast-result
+overflow_cast-result c =
     let small : c.args.mask < 256 = search rules in
     let few = ones-le 8 c.args.mask small in
     omega (arith, few)
@@ -16,5 +16,9 @@ cast-result c =
 returns : tie.Need-returns
 returns c = refl
 
-pub ones-spec : {M : Type 1} → statement M
-ones-spec = tie.close (tie.spec cast-result returns)
+pub ones_spec : {M : Type 1} → statement M
+ones_spec =
+    tie.close
+    (tie.spec
+    overflow_cast-result
+    returns)

@@ -9,69 +9,69 @@ use Rattle.records.specs.NumberLaws.{Moved, moved_none, moved-next, moved_all}
 use Rattle.records.proofs.words.close_gap.Statement.{statement}
 use Rattle.records.proofs.words.close_gap.Tie as tie
 
-abbrev invariant-loop : tie.invariant-loop
-invariant-loop words₀ at end i₀ words i = (at ≤ i) × (i ≤ end) × Moved at i words₀ words
+abbrev invariant-loop-i : tie.invariant-loop-i
+invariant-loop-i words₀ at end i₀ words i = (at ≤ i) × (i ≤ end) × Moved at i words₀ words
 
-abbrev decreases-loop : tie.decreases-loop
-decreases-loop words₀ at end i₀ words i = end - i
+abbrev decreases-loop-i : tie.decreases-loop-i
+decreases-loop-i words₀ at end i₀ words i = end - i
 
-loop-holds : tie.Need-loop-init invariant-loop decreases-loop
-loop-holds c = (omega arith, c.requires.0, moved_none _ _)
+loop-i-init : tie.Need-loop-i-init invariant-loop-i decreases-loop-i
+loop-i-init c = (omega arith, c.requires.0, moved_none _ _)
 
-add_words : tie.Need-overflow-add-words invariant-loop decreases-loop
-add_words c = omega (arith, c.before.before.requires.1, c.before.loop.invariant.2.long)
+overflow_add-words : tie.Need-overflow_add-words invariant-loop-i decreases-loop-i
+overflow_add-words c = omega (arith, c.requires.1, c.loop-i.invariant.2.long)
 
-mul_words : tie.Need-overflow-mul-words invariant-loop decreases-loop
-mul_words c =
-    let l = c.before.loop in
-    let h : l.i + 5 < length l.words = omega (arith, c.before.before.requires.1, l.invariant.2.long) in
+offset_bounds-words-i : tie.Need-offset_bounds-words-i invariant-loop-i decreases-loop-i
+offset_bounds-words-i c =
+    let l = c.loop-i in
+    let h : l.i + 5 < length l.words = omega (arith, c.requires.1, l.invariant.2.long) in
     search rules
 
-slice-read-words : tie.Need-slice-read-words invariant-loop decreases-loop
-slice-read-words c = omega (arith, c.before.before.before.requires.1, c.before.before.loop.invariant.2.long)
+bounds-words-i : tie.Need-bounds-words-i invariant-loop-i decreases-loop-i
+bounds-words-i c = omega (arith, c.requires.1, c.loop-i.invariant.2.long)
 
-mul-words-2 : tie.Need-overflow-mul-words-2 invariant-loop decreases-loop
-mul-words-2 c =
-    let l = c.before.before.loop in
-    let h : l.i < length l.words = omega (arith, c.before.before.before.requires.1, l.invariant.2.long) in
+offset_bounds-words-i-in-loop-i : tie.Need-offset_bounds-words-i-in-loop-i invariant-loop-i decreases-loop-i
+offset_bounds-words-i-in-loop-i c =
+    let l = c.loop-i in
+    let h : l.i < length l.words = omega (arith, c.requires.1, l.invariant.2.long) in
     search rules
 
-slice-write-words : tie.Need-slice-write-words invariant-loop decreases-loop
-slice-write-words c = omega (arith, c.before.before.before.requires.1, c.before.before.loop.invariant.2.long)
+bounds-words-i-in-loop-i : tie.Need-bounds-words-i-in-loop-i invariant-loop-i decreases-loop-i
+bounds-words-i-in-loop-i c = omega (arith, c.requires.1, c.loop-i.invariant.2.long)
 
-add-i : tie.Need-overflow-add-i invariant-loop decreases-loop
-add-i c = omega (arith, c.before.before.before.requires.1, c.before.before.loop.invariant.2.long)
+overflow_add-i : tie.Need-overflow_add-i invariant-loop-i decreases-loop-i
+overflow_add-i c = omega (arith, c.requires.1, c.loop-i.invariant.2.long)
 
-loop-less : tie.Need-loop-smaller invariant-loop decreases-loop
-loop-less c = omega arith
+loop-i-smaller : tie.Need-loop-i-smaller invariant-loop-i decreases-loop-i
+loop-i-smaller c = omega arith
 
-loop-again : tie.Need-loop-preserved invariant-loop decreases-loop
-loop-again c =
-    let l = c.before.before.loop in
-    (omega arith, omega arith, moved-next _ l.i _ _ l.invariant.0 (omega (arith, c.before.before.before.requires.1)) l.invariant.2)
+loop-i-preserved : tie.Need-loop-i-preserved invariant-loop-i decreases-loop-i
+loop-i-preserved c =
+    let l = c.loop-i in
+    (omega arith, omega arith, moved-next _ l.i _ _ l.invariant.0 (omega (arith, c.requires.1)) l.invariant.2)
 
-same_length : tie.Need-same-length invariant-loop decreases-loop
-same_length c = c.before.loop.invariant.2.long
+shape_of-words : tie.Need-shape_of-words invariant-loop-i decreases-loop-i
+shape_of-words c = c.loop-i.invariant.2.long
 
-returns : tie.Need-returns invariant-loop decreases-loop
+returns : tie.Need-returns invariant-loop-i decreases-loop-i
 returns c =
-    let l = c.before.loop in
-    moved_all _ l.i c.before.before.args.end _ _ (omega arith) l.invariant.2
+    let l = c.loop-i in
+    moved_all _ l.i c.args.end _ _ (omega arith) l.invariant.2
 
-pub close-gap-spec : {M : Type 1} → statement M
-close-gap-spec =
+pub close_gap_spec : {M : Type 1} → statement M
+close_gap_spec =
     tie.close
     (tie.spec
-    invariant-loop
-    decreases-loop
-    loop-holds
-    add_words
-    mul_words
-    slice-read-words
-    mul-words-2
-    slice-write-words
-    add-i
-    loop-less
-    loop-again
-    same_length
+    invariant-loop-i
+    decreases-loop-i
+    loop-i-init
+    overflow_add-words
+    offset_bounds-words-i
+    bounds-words-i
+    offset_bounds-words-i-in-loop-i
+    bounds-words-i-in-loop-i
+    overflow_add-i
+    loop-i-smaller
+    loop-i-preserved
+    shape_of-words
     returns)

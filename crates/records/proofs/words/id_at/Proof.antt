@@ -5,18 +5,24 @@ use borrow.Author.Rules.{rules}
 use Rattle.records.proofs.words.id_at.Statement.{statement}
 use Rattle.records.proofs.words.id_at.Tie as tie
 
-mul-result : tie.Need-overflow-mul-result
-mul-result c = search rules
+overflow_mul-result : tie.Need-overflow_mul-result
+overflow_mul-result c = search rules
 
-mul-result-2 : tie.Need-overflow-mul-result-2
-mul-result-2 c = search rules
+offset_bounds-words-i : tie.Need-offset_bounds-words-i
+offset_bounds-words-i c = search rules
 
-shared-slice-read-result : tie.Need-shared-slice-read-result
-shared-slice-read-result c = search rules
+bounds-words-i : tie.Need-bounds-words-i
+bounds-words-i c = search rules
 
 returns : tie.Need-returns
 unfolding record_from
 returns c = refl
 
-pub id-at-spec : {M : Type 1} → statement M
-id-at-spec = tie.close (tie.spec mul-result mul-result-2 shared-slice-read-result returns)
+pub id_at_spec : {M : Type 1} → statement M
+id_at_spec =
+    tie.close
+    (tie.spec
+    overflow_mul-result
+    offset_bounds-words-i
+    bounds-words-i
+    returns)

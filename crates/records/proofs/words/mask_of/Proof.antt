@@ -5,16 +5,21 @@ use borrow.Author.Rules.{rules}
 use Rattle.records.proofs.words.mask_of.Statement.{statement}
 use Rattle.records.proofs.words.mask_of.Tie as tie
 
-cast-result : tie.Need-overflow-cast-result
-cast-result c = search rules
+overflow_cast-result : tie.Need-overflow_cast-result
+overflow_cast-result c = search rules
 
-returns : tie.Need-returns
+returns-then-n-lt256 : tie.Need-returns-then-n-lt256
 unfolding within
-returns c = rw (lt-ltb _ _ c.if1.true)
+returns-then-n-lt256 c = rw (lt-ltb _ _ c.if-n-lt256.true)
 
-returns-2 : tie.Need-returns-2
+returns-else-n-lt256 : tie.Need-returns-else-n-lt256
 unfolding within
-returns-2 c = rw (le-ltb _ _ c.if1.false)
+returns-else-n-lt256 c = rw (le-ltb _ _ c.if-n-lt256.false)
 
-pub mask-of-spec : {M : Type 1} → statement M
-mask-of-spec = tie.close (tie.spec cast-result returns returns-2)
+pub mask_of_spec : {M : Type 1} → statement M
+mask_of_spec =
+    tie.close
+    (tie.spec
+    overflow_cast-result
+    returns-then-n-lt256
+    returns-else-n-lt256)

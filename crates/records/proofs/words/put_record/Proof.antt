@@ -7,87 +7,87 @@ use borrow.Author.Rules.{rules}
 use Rattle.records.proofs.words.put_record.Statement.{statement}
 use Rattle.records.proofs.words.put_record.Tie as tie
 
-mul_at : tie.Need-overflow-mul-at
-mul_at c = search rules
+overflow_mul-at : tie.Need-overflow_mul-at
+overflow_mul-at c = search rules
 
-mul_words : tie.Need-overflow-mul-words
-mul_words c = search rules
+offset_bounds-words-at : tie.Need-offset_bounds-words-at
+offset_bounds-words-at c = search rules
 
-slice-write-words : tie.Need-slice-write-words
-slice-write-words c = search rules
+bounds-words-at : tie.Need-bounds-words-at
+bounds-words-at c = search rules
 
-cast-words : tie.Need-overflow-cast-words
-cast-words c = search rules
+overflow_cast-words : tie.Need-overflow_cast-words
+overflow_cast-words c = search rules
 
-add_words : tie.Need-overflow-add-words
-add_words c = search rules
+overflow_add-words : tie.Need-overflow_add-words
+overflow_add-words c = search rules
 
-mul-words-2 : tie.Need-overflow-mul-words-2
-mul-words-2 c = search rules
+offset_bounds-words-at-2 : tie.Need-offset_bounds-words-at-2
+offset_bounds-words-at-2 c = search rules
 
-slice-write-words-2 : tie.Need-slice-write-words-2
-slice-write-words-2 c = simp length-set (omega (arith, c.before.requires))
+bounds-words-at-2 : tie.Need-bounds-words-at-2
+bounds-words-at-2 c = simp length-set (omega (arith, c.requires))
 
-cast-words-2 : tie.Need-overflow-cast-words-2
-cast-words-2 c = search rules
+overflow_cast-words-2 : tie.Need-overflow_cast-words-2
+overflow_cast-words-2 c = search rules
 
-add-words-2 : tie.Need-overflow-add-words-2
-add-words-2 c = search rules
+overflow_add-words-2 : tie.Need-overflow_add-words-2
+overflow_add-words-2 c = search rules
 
-mul-words-3 : tie.Need-overflow-mul-words-3
-mul-words-3 c = search rules
+offset_bounds-words-at-3 : tie.Need-offset_bounds-words-at-3
+offset_bounds-words-at-3 c = search rules
 
-slice-write-words-3 : tie.Need-slice-write-words-3
-slice-write-words-3 c = simp length-set (omega (arith, c.before.before.requires))
+bounds-words-at-3 : tie.Need-bounds-words-at-3
+bounds-words-at-3 c = simp length-set (omega (arith, c.requires))
 
-cast-words-3 : tie.Need-overflow-cast-words-3
-cast-words-3 c = search rules
+overflow_cast-words-3 : tie.Need-overflow_cast-words-3
+overflow_cast-words-3 c = search rules
 
-add-words-3 : tie.Need-overflow-add-words-3
-add-words-3 c = search rules
+overflow_add-words-3 : tie.Need-overflow_add-words-3
+overflow_add-words-3 c = search rules
 
-mul-words-4 : tie.Need-overflow-mul-words-4
-mul-words-4 c = search rules
+offset_bounds-words-at-4 : tie.Need-offset_bounds-words-at-4
+offset_bounds-words-at-4 c = search rules
 
-slice-write-words-4 : tie.Need-slice-write-words-4
-slice-write-words-4 c = simp length-set (omega (arith, c.before.before.before.requires))
+bounds-words-at-4 : tie.Need-bounds-words-at-4
+bounds-words-at-4 c = simp length-set (omega (arith, c.requires))
 
-add-words-4 : tie.Need-overflow-add-words-4
-add-words-4 c = search rules
+overflow_add-words-4 : tie.Need-overflow_add-words-4
+overflow_add-words-4 c = search rules
 
-mul-words-5 : tie.Need-overflow-mul-words-5
-mul-words-5 c = search rules
+offset_bounds-words-at-5 : tie.Need-offset_bounds-words-at-5
+offset_bounds-words-at-5 c = search rules
 
-slice-write-words-5 : tie.Need-slice-write-words-5
-slice-write-words-5 c = simp length-set (omega (arith, c.before.before.before.requires))
+bounds-words-at-5 : tie.Need-bounds-words-at-5
+bounds-words-at-5 c = simp length-set (omega (arith, c.requires))
 
-same_length : tie.Need-same-length
-same_length c = search rules
+shape_of-words : tie.Need-shape_of-words
+shape_of-words c = search rules
 
 returns : tie.Need-returns
-returns c = let a = c.before.before.before.args in five-stored a.words.now (5 * a.i) a.r c.before.before.before.requires
+returns c = let a = c.args in five-stored a.words.now (5 * a.i) a.r c.requires
 
-pub put-record-spec : {M : Type 1} → statement M
-put-record-spec =
+pub put_record_spec : {M : Type 1} → statement M
+put_record_spec =
     tie.close
     (tie.spec
-    mul_at
-    mul_words
-    slice-write-words
-    cast-words
-    add_words
-    mul-words-2
-    slice-write-words-2
-    cast-words-2
-    add-words-2
-    mul-words-3
-    slice-write-words-3
-    cast-words-3
-    add-words-3
-    mul-words-4
-    slice-write-words-4
-    add-words-4
-    mul-words-5
-    slice-write-words-5
-    same_length
+    overflow_mul-at
+    offset_bounds-words-at
+    bounds-words-at
+    overflow_cast-words
+    overflow_add-words
+    offset_bounds-words-at-2
+    bounds-words-at-2
+    overflow_cast-words-2
+    overflow_add-words-2
+    offset_bounds-words-at-3
+    bounds-words-at-3
+    overflow_cast-words-3
+    overflow_add-words-3
+    offset_bounds-words-at-4
+    bounds-words-at-4
+    overflow_add-words-4
+    offset_bounds-words-at-5
+    bounds-words-at-5
+    shape_of-words
     returns)

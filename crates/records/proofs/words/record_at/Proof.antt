@@ -4,88 +4,85 @@ use borrow.Author.Rules.{rules}
 use Rattle.records.proofs.words.record_at.Statement.{statement}
 use Rattle.records.proofs.words.record_at.Tie as tie
 
-mul_at : tie.Need-overflow-mul-at
-mul_at c = search rules
+overflow_mul-at : tie.Need-overflow_mul-at
+overflow_mul-at c = search rules
 
-add-mask-of : tie.Need-overflow-add-mask-of
-add-mask-of c = search rules
+overflow_add-at : tie.Need-overflow_add-at
+overflow_add-at c = search rules
 
-mul-mask-of : tie.Need-overflow-mul-mask-of
-mul-mask-of c = search rules
+offset_bounds-words-at : tie.Need-offset_bounds-words-at
+offset_bounds-words-at c = search rules
 
-shared-slice-read-mask-of : tie.Need-shared-slice-read-mask-of
-shared-slice-read-mask-of c = search rules
+bounds-words-at : tie.Need-bounds-words-at
+bounds-words-at c = search rules
 
-mask-of-requires : tie.Need-mask-of-requires
-mask-of-requires c κs = search rules
+mask_of-sent-requires : tie.Need-mask_of-sent-requires
+mask_of-sent-requires c κs = search rules
 
-add-mask-of-2 : tie.Need-overflow-add-mask-of-2
-add-mask-of-2 c = search rules
+overflow_add-at-2 : tie.Need-overflow_add-at-2
+overflow_add-at-2 c = search rules
 
-mul-mask-of-2 : tie.Need-overflow-mul-mask-of-2
-mul-mask-of-2 c = search rules
+offset_bounds-words-at-2 : tie.Need-offset_bounds-words-at-2
+offset_bounds-words-at-2 c = search rules
 
-shared-slice-read-mask-of-2 : tie.Need-shared-slice-read-mask-of-2
-shared-slice-read-mask-of-2 c = search rules
+bounds-words-at-2 : tie.Need-bounds-words-at-2
+bounds-words-at-2 c = search rules
 
-mask-of-requires-2 : tie.Need-mask-of-requires-2
-mask-of-requires-2 c κs = search rules
+mask_of-full-requires : tie.Need-mask_of-full-requires
+mask_of-full-requires c κs = search rules
 
-add-mask-of-3 : tie.Need-overflow-add-mask-of-3
-add-mask-of-3 c = search rules
+overflow_add-at-3 : tie.Need-overflow_add-at-3
+overflow_add-at-3 c = search rules
 
-mul-mask-of-3 : tie.Need-overflow-mul-mask-of-3
-mul-mask-of-3 c = search rules
+offset_bounds-words-at-3 : tie.Need-offset_bounds-words-at-3
+offset_bounds-words-at-3 c = search rules
 
-shared-slice-read-mask-of-3 : tie.Need-shared-slice-read-mask-of-3
-shared-slice-read-mask-of-3 c = search rules
+bounds-words-at-3 : tie.Need-bounds-words-at-3
+bounds-words-at-3 c = search rules
 
-mask-of-requires-3 : tie.Need-mask-of-requires-3
-mask-of-requires-3 c κs = search rules
+mask_of-reported-requires : tie.Need-mask_of-reported-requires
+mask_of-reported-requires c κs = search rules
 
-mul-t7 : tie.Need-overflow-mul-t7
-mul-t7 c = search rules
+offset_bounds-words-at-4 : tie.Need-offset_bounds-words-at-4
+offset_bounds-words-at-4 c = search rules
 
-shared-slice-read-t10 : tie.Need-shared-slice-read-t10
-shared-slice-read-t10 c = search rules
+bounds-words-at-4 : tie.Need-bounds-words-at-4
+bounds-words-at-4 c = search rules
 
-add-t8 : tie.Need-overflow-add-t8
-add-t8 c = search rules
+overflow_add-result : tie.Need-overflow_add-result
+overflow_add-result c = search rules
 
-mul-t14 : tie.Need-overflow-mul-t14
-mul-t14 c = search rules
+offset_bounds-words-at-5 : tie.Need-offset_bounds-words-at-5
+offset_bounds-words-at-5 c = search rules
 
-shared-slice-read-t16 : tie.Need-shared-slice-read-t16
-shared-slice-read-t16 c = search rules
+bounds-words-at-5 : tie.Need-bounds-words-at-5
+bounds-words-at-5 c = search rules
 
 returns : tie.Need-returns
 unfolding record_from
 returns c =
-    let third = c.before.before in
-    let second = third.before.before in
-    let first = second.before.before in
-    rw (first.mask-of.ensures, second.mask-of2.ensures, third.mask-of3.ensures)
+    rw (c.mask_of-sent.ensures, c.mask_of-full.ensures, c.mask_of-reported.ensures)
 
-pub record-at-spec : {M : Type 1} → statement M
-record-at-spec =
+pub record_at_spec : {M : Type 1} → statement M
+record_at_spec =
     tie.close
     (tie.spec
-    mul_at
-    add-mask-of
-    mul-mask-of
-    shared-slice-read-mask-of
-    mask-of-requires
-    add-mask-of-2
-    mul-mask-of-2
-    shared-slice-read-mask-of-2
-    mask-of-requires-2
-    add-mask-of-3
-    mul-mask-of-3
-    shared-slice-read-mask-of-3
-    mask-of-requires-3
-    mul-t7
-    shared-slice-read-t10
-    add-t8
-    mul-t14
-    shared-slice-read-t16
+    overflow_mul-at
+    overflow_add-at
+    offset_bounds-words-at
+    bounds-words-at
+    mask_of-sent-requires
+    overflow_add-at-2
+    offset_bounds-words-at-2
+    bounds-words-at-2
+    mask_of-full-requires
+    overflow_add-at-3
+    offset_bounds-words-at-3
+    bounds-words-at-3
+    mask_of-reported-requires
+    offset_bounds-words-at-4
+    bounds-words-at-4
+    overflow_add-result
+    offset_bounds-words-at-5
+    bounds-words-at-5
     returns)
