@@ -7,7 +7,6 @@ use Rattle.rules.specs.Log.{lines_of}
 use Rattle.rules.specs.State.{State}
 use Rattle.rules.specs.Session.{after_lines}
 use Rattle.rules.specs.Poll.{poll}
-use Rattle.table.specs.Ends.{Ends, was}
 use Rattle.site.specs.Model.{lent}
 use Rattle.site.specs.Polls.{ValidWith}
 use Rattle.session.specs.declared.Session.{Session}
@@ -26,10 +25,10 @@ OpenWith s book = s.opened ≡ true → ValidWith s.site book
 
 -- What holds of the specification's session, whatever is lent to the code's session beside the numbers of the histories: only they
 -- are read.
-abbrev pub WithBook : Session → Ends → (Option State → Type 0) → Type 0
+abbrev pub WithBook : Session → List ℕ → (Option State → Type 0) → Type 0
 WithBook s book P =
-    (log rows order lists : List ℕ) → ValidSession s (lent log rows order (was book) lists) →
-    P (session_view s (lent log rows order (was book) lists))
+    (log rows order lists : List ℕ) → ValidSession s (lent log rows order book lists) →
+    P (session_view s (lent log rows order book lists))
 
 -- The session of an input has run over the log buffer that was `old` and is `new`, and its replies stand in the buffer that was `out`
 -- and is `page`. Each number of `histories` is then, in `polls`, what the poll of that history gives; if not all replies are written,

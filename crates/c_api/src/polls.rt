@@ -1,6 +1,5 @@
 // A whole session over lent buffers, and polls of its site's histories at its end.
 ghost use Rattle.std.specs.Prelude.{◌≡◌, map};
-ghost use Rattle.table.specs.Ends.{left};
 ghost use Rattle.c_api.specs.Polls.{session_poll, OpenWith, WithBook, PlaysPolls};
 
 use call_words::OUT_OF_TURN;
@@ -14,7 +13,7 @@ use table::rows::ROW;
 // The poll of a history of the session's site: 14 "before site".
 fn session_poll(session: Session, book: &BookWords, h: u64) -> u64
     requires { OpenWith session book.now }
-    ensures { WithBook session book (λ st. result ≡ session_poll st h) }
+    ensures { WithBook session book.now (λ st. result ≡ session_poll st h) }
 {
     let site = session.site;
     if session.opened {
@@ -26,7 +25,7 @@ fn session_poll(session: Session, book: &BookWords, h: u64) -> u64
 // Each number becomes what the poll of the history with this number gives.
 fn poll_each(session: Session, book: &BookWords, histories: &mut [u64])
     requires { OpenWith session book.now }
-    ensures { WithBook session book (λ st. left histories ≡ map (session_poll st) histories.old) }
+    ensures { WithBook session book.now (λ st. histories.new ≡ map (session_poll st) histories.old) }
 {
     let mut i: usize = 0;
     while i < histories.len() {

@@ -1,7 +1,7 @@
 // Calls of a site without text, one round after the other: for measuring what a call costs.
 ghost use Rattle.std.specs.Prelude.{◌≡◌, [], ◌∷◌, ◌<◌, length};
 ghost use Rattle.rules.specs.Calls.{open_site};
-ghost use Rattle.site.specs.Model.{received, old, new, Valid};
+ghost use Rattle.site.specs.Model.{received, Valid, lent};
 ghost use Rattle.site.specs.Trim.{updates_held};
 ghost use Rattle.c_api.specs.Rounds.{Reaches, inc_of, work_calls, mark_calls, round_calls, Rounds};
 
@@ -37,9 +37,9 @@ fn one_operation(
     lists: &mut ReplyNumbers,
     id: u64,
 ) -> Site
-    requires { Valid site (received log rows order book) }
-    ensures { Reaches site (old log rows order book lists) (work_calls id) result
-        (new log rows order book lists) }
+    requires { Valid site (received log.old rows.old order.old book.old) }
+    ensures { Reaches site (lent log.old rows.old order.old book.old lists.old) (work_calls id) result
+        (lent log.new rows.new order.new book.new lists.new) }
 {
     let asked = asked_inc(id % 4, id / 4 + 1);
     let a = site.add(log, rows, order, book, lists, id, asked);
@@ -58,9 +58,9 @@ fn mark(
     lists: &mut ReplyNumbers,
     n: u64,
 ) -> Site
-    requires { Valid site (received log rows order book) }
-    ensures { Reaches site (old log rows order book lists) (mark_calls n) result
-        (new log rows order book lists) }
+    requires { Valid site (received log.old rows.now order.old book.old) }
+    ensures { Reaches site (lent log.old rows.now order.old book.old lists.old) (mark_calls n) result
+        (lent log.new rows.now order.new book.new lists.new) }
 {
     let p = site.persistent(log, rows, order, book, lists, LogNumber(n));
     let kept = p.site;
@@ -78,10 +78,10 @@ fn round(
     lists: &mut ReplyNumbers,
     id: u64,
 ) -> Site
-    requires valid { Valid site (received log rows order book) }
+    requires valid { Valid site (received log.old rows.old order.old book.old) }
     requires id_bound { id < 18446744073709551615 }
-    ensures { Reaches site (old log rows order book lists) (round_calls id) result
-        (new log rows order book lists) }
+    ensures { Reaches site (lent log.old rows.old order.old book.old lists.old) (round_calls id) result
+        (lent log.new rows.new order.new book.new lists.new) }
 {
     let worked = one_operation(site, log, rows, order, book, lists, id);
     if id % 32 == 31 {

@@ -1,7 +1,7 @@
 // Calls of a slot of a module without text, one round after the other: for measuring what they cost beside those of a site (rounds.rt).
 ghost use Rattle.std.specs.Prelude.{[], ◌<◌, length};
 ghost use Rattle.compact.specs.Module.{Move, reply_of, made};
-ghost use Rattle.site.specs.Model.{lent, received, old, new};
+ghost use Rattle.site.specs.Model.{lent, received};
 ghost use Rattle.c_api.specs.Rounds.{work_calls, mark_calls, round_calls, Rounds};
 ghost use Rattle.c_api.specs.SlotRounds.{LoneIn, ReachesIn, Serves};
 
@@ -23,8 +23,8 @@ fn slot_operation(
     lists: &mut ReplyNumbers,
     id: u64,
 ) -> Module
-    requires { LoneIn slot m (received log rows numbers book) }
-    ensures { ReachesIn slot m (old log rows numbers book lists) (work_calls id) result (new log rows numbers book lists) }
+    requires { LoneIn slot m (received log.old rows.old numbers.old book.old) }
+    ensures { ReachesIn slot m (lent log.old rows.old numbers.old book.old lists.old) (work_calls id) result (lent log.new rows.new numbers.new book.new lists.new) }
 {
     let asked = asked_inc(id % 4, id / 4 + 1);
     let mut w = m;
@@ -45,8 +45,8 @@ fn slot_mark(
     lists: &mut ReplyNumbers,
     n: u64,
 ) -> Module
-    requires { LoneIn slot m (received log rows numbers book) }
-    ensures { ReachesIn slot m (old log rows numbers book lists) (mark_calls n) result (new log rows numbers book lists) }
+    requires { LoneIn slot m (received log.old rows.now numbers.old book.old) }
+    ensures { ReachesIn slot m (lent log.old rows.now numbers.old book.old lists.old) (mark_calls n) result (lent log.new rows.now numbers.new book.new lists.new) }
 {
     let p = m.persistent(slot, log, rows, numbers, book, lists, LogNumber(n));
     let kept = p.after;
@@ -65,9 +65,9 @@ fn slot_round(
     lists: &mut ReplyNumbers,
     id: u64,
 ) -> Module
-    requires lone_in { LoneIn slot m (received log rows numbers book) }
+    requires lone_in { LoneIn slot m (received log.old rows.old numbers.old book.old) }
     requires id_bound { id < 18446744073709551615 }
-    ensures { ReachesIn slot m (old log rows numbers book lists) (round_calls id) result (new log rows numbers book lists) }
+    ensures { ReachesIn slot m (lent log.old rows.old numbers.old book.old lists.old) (round_calls id) result (lent log.new rows.new numbers.new book.new lists.new) }
 {
     let worked = slot_operation(m, slot, log, rows, numbers, book, lists, id);
     if id % 32 == 31 {
@@ -86,7 +86,7 @@ fn slot_serve(
     book: &mut BookWords,
     n: u64,
 ) -> usize
-    requires { LoneIn slot first (received log rows numbers book) }
+    requires { LoneIn slot first (received log.old rows.old numbers.old book.old) }
     ensures { Serves slot first (lent log.old rows.old numbers.old book.old []) n result log.new }
 {
     let mut m = first;

@@ -1,7 +1,6 @@
 // The changeover of a log that was written before there were stable lines.
 ghost use Rattle.std.specs.Prelude.{◌≡◌, ℕ, ◌+◌, ◌≤◌};
 ghost use Rattle.rules.specs.OldLog.{upgrade};
-ghost use Rattle.table.specs.Ends.{was};
 ghost use Rattle.older_log.specs.declared.Changeover.TheVariants.{Used};
 ghost use Rattle.c_api.specs.Changeovers.{changeover_number, ChangesOver};
 

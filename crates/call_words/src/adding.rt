@@ -1,6 +1,5 @@
 // The updates of an add in numbers: four for each.
 ghost use Rattle.std.specs.Prelude.{◌≡◌};
-ghost use Rattle.table.specs.Ends.{was};
 ghost use Rattle.table.specs.Rows.{rule_named};
 ghost use Rattle.call_words.specs.Adding.{asked_of, held_in, rules_known};
 

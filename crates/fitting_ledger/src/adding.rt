@@ -1,5 +1,5 @@
 // An operation is added on numbers.
-ghost use Rattle.site.specs.Model.{received, old, new};
+ghost use Rattle.site.specs.Model.{received, lent};
 ghost use Rattle.fitting_ledger.specs.Model.{ValidState};
 ghost use Rattle.fitting_ledger.specs.Adding.{PerformsAdd};
 
@@ -27,9 +27,9 @@ pub extern "C" fn fl_add_parts(
     updates: &Updates,
     count: usize,
 ) -> u64
-    requires { ValidState counters.old (received log rows order book) }
-    ensures { PerformsAdd counters.old (old log rows order book numbers) id count updates.old result counters.new
-        (new log rows order book numbers) answer.old answer.new }
+    requires { ValidState counters.old (received log.now rows.old order.now book.old) }
+    ensures { PerformsAdd counters.old (lent log.now rows.old order.now book.old numbers.old) id count updates.old result counters.new
+        (lent log.now rows.new order.now book.new numbers.new) answer.old answer.new }
 {
     if rules_known(updates) {
         let asked = held_in(updates, count);

@@ -1,5 +1,4 @@
 // What an open site hands back, put away.
-ghost use Rattle.table.specs.Ends.{was};
 ghost use Rattle.fitting_ledger.specs.Calls.{PutsCall};
 
 use super::counters::{Counters, put_session};

@@ -1,7 +1,7 @@
 // Calls of an open site on numbers, whose replies have lists: 0, or the number of the refusal. The lists stand in `numbers`, the second
 // behind the first; `answer` has the rest of the reply. A refusal changes neither.
 ghost use Rattle.rules.specs.Calls.{Call};
-ghost use Rattle.site.specs.Model.{received, old, new};
+ghost use Rattle.site.specs.Model.{received, lent};
 ghost use Rattle.fitting_ledger.specs.Model.{ValidState};
 ghost use Rattle.fitting_ledger.specs.Calls.{PerformsCall};
 
@@ -26,9 +26,9 @@ pub extern "C" fn fl_finish_parts(
     answer: &mut Answer,
     id: u64,
 ) -> u64
-    requires { ValidState counters.old (received log rows order book) }
-    ensures { PerformsCall counters.old (old log rows order book numbers) (Call.Finish id) result counters.new
-        (new log rows order book numbers) answer.old answer.new }
+    requires { ValidState counters.old (received log.old rows.old order.old book.old) }
+    ensures { PerformsCall counters.old (lent log.old rows.old order.old book.old numbers.old) (Call.Finish id) result counters.new
+        (lent log.new rows.new order.new book.new numbers.new) answer.old answer.new }
 {
     let s = session_at(counters);
     if s.opened {
@@ -51,9 +51,9 @@ pub extern "C" fn fl_withdraw_parts(
     answer: &mut Answer,
     id: u64,
 ) -> u64
-    requires { ValidState counters.old (received log rows order book) }
-    ensures { PerformsCall counters.old (old log rows order book numbers) (Call.Withdraw id) result counters.new
-        (new log rows order book numbers) answer.old answer.new }
+    requires { ValidState counters.old (received log.now rows.now order.old book.old) }
+    ensures { PerformsCall counters.old (lent log.now rows.now order.old book.old numbers.old) (Call.Withdraw id) result counters.new
+        (lent log.now rows.now order.new book.new numbers.new) answer.old answer.new }
 {
     let s = session_at(counters);
     if s.opened {
@@ -76,9 +76,9 @@ pub extern "C" fn fl_persistent_parts(
     answer: &mut Answer,
     n: u64,
 ) -> u64
-    requires { ValidState counters.old (received log rows order book) }
-    ensures { PerformsCall counters.old (old log rows order book numbers) (Call.Persistent n) result counters.new
-        (new log rows order book numbers) answer.old answer.new }
+    requires { ValidState counters.old (received log.now rows.now order.old book.old) }
+    ensures { PerformsCall counters.old (lent log.now rows.now order.old book.old numbers.old) (Call.Persistent n) result counters.new
+        (lent log.now rows.now order.new book.new numbers.new) answer.old answer.new }
 {
     let s = session_at(counters);
     if s.opened {
@@ -101,9 +101,9 @@ pub extern "C" fn fl_stable_parts(
     answer: &mut Answer,
     n: u64,
 ) -> u64
-    requires { ValidState counters.old (received log rows order book) }
-    ensures { PerformsCall counters.old (old log rows order book numbers) (Call.Stable n) result counters.new
-        (new log rows order book numbers) answer.old answer.new }
+    requires { ValidState counters.old (received log.old rows.now order.now book.old) }
+    ensures { PerformsCall counters.old (lent log.old rows.now order.now book.old numbers.old) (Call.Stable n) result counters.new
+        (lent log.new rows.now order.now book.new numbers.new) answer.old answer.new }
 {
     let s = session_at(counters);
     if s.opened {
@@ -125,9 +125,9 @@ pub extern "C" fn fl_end_parts(
     numbers: &mut ReplyNumbers,
     answer: &mut Answer,
 ) -> u64
-    requires { ValidState counters.old (received log rows order book) }
-    ensures { PerformsCall counters.old (old log rows order book numbers) Call.End result counters.new
-        (new log rows order book numbers) answer.old answer.new }
+    requires { ValidState counters.old (received log.now rows.now order.now book.now) }
+    ensures { PerformsCall counters.old (lent log.now rows.now order.now book.now numbers.old) Call.End result counters.new
+        (lent log.now rows.now order.now book.now numbers.new) answer.old answer.new }
 {
     let s = session_at(counters);
     if s.opened {

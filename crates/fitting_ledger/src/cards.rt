@@ -1,6 +1,6 @@
 // The card of the last W lines of the site's log (02 (j)), counted afresh whenever it is asked for.
 ghost use Rattle.std.specs.Prelude.{◌≡◌, []};
-ghost use Rattle.site.specs.Model.{received, old_with};
+ghost use Rattle.site.specs.Model.{received, lent};
 ghost use Rattle.fitting_ledger.specs.Model.{ValidState, state_at};
 ghost use Rattle.fitting_ledger.specs.Cards.{made_number, made_lines, CardsState};
 
@@ -43,8 +43,8 @@ pub extern "C" fn fl_card_parts(
     counts: &mut Counts,
     lines: &mut usize,
 ) -> u64
-    requires { ValidState counters.now (received log rows order book) }
-    ensures { CardsState w (state_at counters.old (old_with [] log rows order book)) counts.old lines.old result
+    requires { ValidState counters.now (received log.now rows.now order.now book.now) }
+    ensures { CardsState w (state_at counters.old (lent log.now rows.now order.now book.now [])) counts.old lines.old result
         counts.new lines.new }
 {
     let s = session_at(counters);

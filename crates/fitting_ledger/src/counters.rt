@@ -1,6 +1,5 @@
 // A session's counters in words: from call to call they stand in an array that is lent.
 ghost use Rattle.std.specs.Prelude.{◌≡◌};
-ghost use Rattle.table.specs.Ends.{was, left};
 ghost use Rattle.fitting_ledger.specs.Counters.{session_at, words_of};
 
 use call_words::bit;
@@ -73,7 +72,7 @@ fn words_of(s: Session) -> Counters
 
 // The counters become those of a session.
 pub(crate) fn put_session(words: &mut Counters, s: Session)
-    ensures { left words ≡ words_of s }
+    ensures { words.new ≡ words_of s }
 {
     *words = words_of(s);
 }

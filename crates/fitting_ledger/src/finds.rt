@@ -1,6 +1,6 @@
 // The cut of the site's log that leaves given places.
 ghost use Rattle.std.specs.Prelude.{◌≡◌, []};
-ghost use Rattle.site.specs.Model.{received, old_with};
+ghost use Rattle.site.specs.Model.{received, lent};
 ghost use Rattle.fitting_ledger.specs.Model.{ValidState};
 ghost use Rattle.fitting_ledger.specs.Finds.{found_number, found_kept, FindsState};
 
@@ -37,8 +37,8 @@ pub extern "C" fn fl_find_cut_parts(
     places: &[u64],
     kept: &mut usize,
 ) -> u64
-    requires { ValidState counters.now (received log rows order book) }
-    ensures { FindsState counters.old (old_with [] log rows order book) places.old result kept.old kept.new }
+    requires { ValidState counters.now (received log.now rows.now order.now book.now) }
+    ensures { FindsState counters.old (lent log.now rows.now order.now book.now []) places.old result kept.old kept.new }
 {
     let s = session_at(counters);
     if s.opened {

@@ -1,7 +1,7 @@
 // A line in, a reply out, and how much of the log is in use.
 ghost use Rattle.std.specs.Prelude.{◌≡◌, [], length};
 ghost use Rattle.rules.specs.Session.{turn};
-ghost use Rattle.site.specs.Model.{received, old_with, new_with};
+ghost use Rattle.site.specs.Model.{received, lent};
 ghost use Rattle.call_words.specs.Used.{used_by};
 ghost use Rattle.fitting_ledger.specs.Model.{ValidState, state_at, AnswersIfRoom};
 
@@ -24,10 +24,10 @@ pub extern "C" fn fl_line_parts(
     line: &[u8],
     out: &mut [u8],
 ) -> usize
-    requires { ValidState counters.old (received log rows order book) }
-    ensures { AnswersIfRoom counters.old (old_with [] log rows order book)
-        (turn (length log.old) line.old (state_at counters.old (old_with [] log rows order book)))
-        result counters.new (new_with [] log rows order book) out.old out.new }
+    requires { ValidState counters.old (received log.old rows.old order.old book.old) }
+    ensures { AnswersIfRoom counters.old (lent log.old rows.old order.old book.old [])
+        (turn (length log.old) line.old (state_at counters.old (lent log.old rows.old order.old book.old [])))
+        result counters.new (lent log.new rows.new order.new book.new []) out.old out.new }
 {
     if out.len() < REPLY_BYTES {
         return REPLY_BYTES;
@@ -50,8 +50,8 @@ pub extern "C" fn fl_log_used_parts(
     order: &Order,
     book: &BookWords,
 ) -> usize
-    requires { ValidState counters.now (received log rows order book) }
-    ensures { result ≡ used_by (state_at counters.old (old_with [] log rows order book)) }
+    requires { ValidState counters.now (received log.now rows.now order.now book.now) }
+    ensures { result ≡ used_by (state_at counters.old (lent log.now rows.now order.now book.now [])) }
 {
     let s = session_at(counters);
     let site = s.site;

@@ -1,7 +1,7 @@
 // Calls of an open site on numbers, whose replies have no lists: 0, or the number of the refusal.
 ghost use Rattle.std.specs.Prelude.{[], length};
 ghost use Rattle.rules.specs.Calls.{Call};
-ghost use Rattle.site.specs.Model.{received, old_with, new_with};
+ghost use Rattle.site.specs.Model.{received, lent};
 ghost use Rattle.fitting_ledger.specs.Model.{ValidState};
 ghost use Rattle.fitting_ledger.specs.Calls.{PerformsCall};
 
@@ -24,9 +24,9 @@ pub extern "C" fn fl_show_parts(
     answer: &mut Answer,
     history: u64,
 ) -> u64
-    requires { ValidState counters.old (received log rows order book) }
-    ensures { PerformsCall counters.old (old_with [] log rows order book) (Call.Show history) result counters.new
-        (new_with [] log rows order book) answer.old answer.new }
+    requires { ValidState counters.old (received log.now rows.now order.now book.now) }
+    ensures { PerformsCall counters.old (lent log.now rows.now order.now book.now []) (Call.Show history) result counters.new
+        (lent log.now rows.now order.now book.now []) answer.old answer.new }
 {
     let s = session_at(counters);
     if s.opened {
@@ -48,9 +48,9 @@ pub extern "C" fn fl_cut_parts(
     answer: &mut Answer,
     k: u64,
 ) -> u64
-    requires { ValidState counters.old (received log rows order book) }
-    ensures { PerformsCall counters.old (old_with [] log rows order book) (Call.Cut k (length log.old)) result counters.new
-        (new_with [] log rows order book) answer.old answer.new }
+    requires { ValidState counters.old (received log.now rows.old order.now book.old) }
+    ensures { PerformsCall counters.old (lent log.now rows.old order.now book.old []) (Call.Cut k (length log.old)) result counters.new
+        (lent log.now rows.new order.now book.new []) answer.old answer.new }
 {
     let s = session_at(counters);
     if s.opened {
@@ -72,9 +72,9 @@ pub extern "C" fn fl_redo_parts(
     answer: &mut Answer,
     line: &[u8],
 ) -> u64
-    requires { ValidState counters.old (received log rows order book) }
-    ensures { PerformsCall counters.old (old_with [] log rows order book) (Call.Redo line.old) result counters.new
-        (new_with [] log rows order book) answer.old answer.new }
+    requires { ValidState counters.old (received log.old rows.old order.old book.old) }
+    ensures { PerformsCall counters.old (lent log.old rows.old order.old book.old []) (Call.Redo line.old) result counters.new
+        (lent log.new rows.new order.new book.new []) answer.old answer.new }
 {
     let s = session_at(counters);
     if s.opened {

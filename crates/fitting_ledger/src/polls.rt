@@ -1,6 +1,6 @@
 // The poll of a history of the site.
 ghost use Rattle.std.specs.Prelude.{◌≡◌, []};
-ghost use Rattle.site.specs.Model.{received, old_with};
+ghost use Rattle.site.specs.Model.{received, lent};
 ghost use Rattle.fitting_ledger.specs.Model.{ValidState, state_at};
 ghost use Rattle.fitting_ledger.specs.Polls.{poll_of};
 
@@ -21,8 +21,8 @@ pub extern "C" fn fl_poll_parts(
     book: &BookWords,
     history: u64,
 ) -> u64
-    requires { ValidState counters.now (received log rows order book) }
-    ensures { result ≡ poll_of (state_at counters.old (old_with [] log rows order book)) history }
+    requires { ValidState counters.now (received log.now rows.now order.now book.now) }
+    ensures { result ≡ poll_of (state_at counters.old (lent log.now rows.now order.now book.now [])) history }
 {
     let s = session_at(counters);
     if s.opened {

@@ -1,8 +1,7 @@
 // A site begins: opened, or taken up again from the bytes of its log.
 ghost use Rattle.std.specs.Prelude.{◌≡◌, [], length};
 ghost use Rattle.rules.specs.Calls.{open_site, restart};
-ghost use Rattle.table.specs.Ends.{was, left};
-ghost use Rattle.site.specs.Model.{old_with, new_with};
+ghost use Rattle.site.specs.Model.{lent};
 ghost use Rattle.call_words.specs.Answers.{form_number};
 ghost use Rattle.fitting_ledger.specs.Counters.{words_of};
 ghost use Rattle.fitting_ledger.specs.Model.{begun_as, Begins};
@@ -17,7 +16,7 @@ use table::rows::Rows;
 
 // The counters of the site that was opened; "before site" where it was refused.
 fn begin(words: &mut Counters, c: CallResult) -> u64
-    ensures { (result ≡ form_number c.reply.form) × (left words ≡ words_of (begun_as (form_number c.reply.form) c.site)) }
+    ensures { (result ≡ form_number c.reply.form) × (words.new ≡ words_of (begun_as (form_number c.reply.form) c.site)) }
 {
     let site = c.site;
     let reply = c.reply;
@@ -43,8 +42,8 @@ pub extern "C" fn fl_start_parts(
     book: &mut BookWords,
     histories: u64,
 ) -> u64
-    ensures { Begins (old_with [] log rows order book) (open_site histories (length log.old)) result counters.new
-        (new_with [] log rows order book) }
+    ensures { Begins (lent log.old rows.now order.old book.old []) (open_site histories (length log.old)) result counters.new
+        (lent log.new rows.now order.new book.new []) }
 {
     let c = Site::open(log, rows, order, book, histories);
     begin(counters, c)
@@ -60,8 +59,8 @@ pub extern "C" fn fl_restart_parts(
     book: &mut BookWords,
     kept: usize,
 ) -> u64
-    ensures { Begins (old_with [] log rows order book) (restart log.old kept) result counters.new
-        (new_with [] log rows order book) }
+    ensures { Begins (lent log.now rows.old order.old book.old []) (restart log.old kept) result counters.new
+        (lent log.now rows.new order.new book.new []) }
 {
     let c = Site::restart(log, rows, order, book, kept);
     begin(counters, c)

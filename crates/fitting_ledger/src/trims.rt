@@ -1,6 +1,6 @@
 // A copy of the site's log with a base line in place of its first operations.
 ghost use Rattle.std.specs.Prelude.{[]};
-ghost use Rattle.site.specs.Model.{received, old_with};
+ghost use Rattle.site.specs.Model.{received, lent};
 ghost use Rattle.fitting_ledger.specs.Model.{ValidState};
 ghost use Rattle.fitting_ledger.specs.Trims.{TrimsState};
 
@@ -26,8 +26,8 @@ pub extern "C" fn fl_trim_parts(
     fresh: &mut [u8],
     used: &mut usize,
 ) -> u64
-    requires { ValidState counters.now (received log rows order book) }
-    ensures { TrimsState counters.old (old_with [] log rows order book) n fresh.old result fresh.new
+    requires { ValidState counters.now (received log.now rows.now order.now book.now) }
+    ensures { TrimsState counters.old (lent log.now rows.now order.now book.now []) n fresh.old result fresh.new
         used.old used.new }
 {
     let s = session_at(counters);

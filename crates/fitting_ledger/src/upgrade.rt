@@ -1,6 +1,5 @@
 // The changeover of a log that was written before there were stable lines.
 ghost use Rattle.rules.specs.OldLog.{upgrade};
-ghost use Rattle.table.specs.Ends.{was};
 ghost use Rattle.fitting_ledger.specs.Changeovers.{ChangesOver};
 
 use forms::writer::refusal_number;

@@ -1,10 +1,8 @@
 -- The state that a module's owner lends, as the specification has it: its invariant, and what a call makes of it.
 use Rattle.std.specs.Prelude.{ℕ, ◌+◌, ◌*◌, ◌≤◌, ◌<◌, ◌≡◌, List, drop, get_or}
-use Rattle.std.specs.Borrow.{MutBor}
 use Rattle.rules.specs.State.{Reply, refused, ok}
 use Rattle.compact.specs.Module.{Module as ModuleState}
 use Rattle.history.specs.Words.{width}
-use Rattle.table.specs.Ends.{Ends, was, left}
 use Rattle.table.specs.Tables.{Frame}
 use Rattle.site.specs.Model.{Lent}
 use Rattle.module.specs.declared.Module.{Module}
@@ -13,16 +11,6 @@ use Rattle.module.specs.Model.{slot_in, live_in, held_in, Memory, ValidModule, v
 use Rattle.fitting_module.specs.Words.{Words, words, module_at, words_in}
 
 -- ### The state
-
--- The four slots' counters: in a `requires`, as they came, and as they are left.
-abbrev pub counters : MutBor (List ℕ) → MutBor (List ℕ) → MutBor (List ℕ) → MutBor (List ℕ) → Words
-counters a b c d = words a.now b.now c.now d.now
-
-abbrev pub old_counters : Ends → Ends → Ends → Ends → Words
-old_counters a b c d = words (was a) (was b) (was c) (was d)
-
-abbrev pub new_counters : Ends → Ends → Ends → Ends → Words
-new_counters a b c d = words (left a) (left b) (left c) (left d)
 
 -- The specification's module that the counters and all that is lent beside them are.
 abbrev pub state_at : Words → Memory → ModuleState

@@ -1,6 +1,7 @@
 // An operation is added to a slot on numbers.
-ghost use Rattle.site.specs.Model.{received, old, new};
-ghost use Rattle.fitting_module.specs.Model.{counters, old_counters, new_counters, ValidState};
+ghost use Rattle.site.specs.Model.{received, lent};
+ghost use Rattle.fitting_module.specs.Model.{ValidState};
+ghost use Rattle.fitting_module.specs.Words.{words};
 ghost use Rattle.fitting_module.specs.Calls.{PerformsAdd};
 
 use super::answer::put_call;
@@ -30,9 +31,9 @@ pub extern "C" fn fm_add_parts(
     updates: &Updates,
     count: usize,
 ) -> u64
-    requires { ValidState (counters first second third fourth) slot (received log rows numbers book) }
-    ensures { PerformsAdd slot (old_counters first second third fourth) (old log rows numbers book lists) id count updates.old result
-        (new_counters first second third fourth) (new log rows numbers book lists) answer.old answer.new }
+    requires { ValidState (words first.old second.old third.old fourth.old) slot (received log.now rows.old numbers.old book.old) }
+    ensures { PerformsAdd slot (words first.old second.old third.old fourth.old) (lent log.now rows.old numbers.old book.old lists.old) id count updates.old result
+        (words first.new second.new third.new fourth.new) (lent log.now rows.new numbers.new book.new lists.new) answer.old answer.new }
 {
     if rules_known(updates) {
         let asked = held_in(updates, count);

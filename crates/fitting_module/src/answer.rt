@@ -1,7 +1,6 @@
 // What a call of the module hands back, put away.
 ghost use Rattle.std.specs.Prelude.{◌≡◌, length};
-ghost use Rattle.table.specs.Ends.{was};
-ghost use Rattle.fitting_module.specs.Model.{new_counters};
+ghost use Rattle.fitting_module.specs.Words.{words};
 ghost use Rattle.fitting_module.specs.Calls.{PutsCall};
 
 use super::words::{SlotWords, put_module};
@@ -18,7 +17,7 @@ pub(crate) fn put_call(
     r: ModuleResult,
 ) -> u64
     requires { length r.after.slots ≡ 4 }
-    ensures { PutsCall r result (new_counters first second third fourth) answer.old answer.new }
+    ensures { PutsCall r result (words first.new second.new third.new fourth.new) answer.old answer.new }
 {
     let after = r.after;
     let reply = r.reply;

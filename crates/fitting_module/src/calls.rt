@@ -1,8 +1,9 @@
 // Calls of a slot on numbers, whose replies have lists: 0, or the number of the refusal. The lists stand in `lists`, the second behind the
 // first; `answer` has the rest of the reply. A refusal changes neither.
 ghost use Rattle.rules.specs.Calls.{Call};
-ghost use Rattle.site.specs.Model.{received, old, new};
-ghost use Rattle.fitting_module.specs.Model.{counters, old_counters, new_counters, ValidState};
+ghost use Rattle.site.specs.Model.{received, lent};
+ghost use Rattle.fitting_module.specs.Model.{ValidState};
+ghost use Rattle.fitting_module.specs.Words.{words};
 ghost use Rattle.fitting_module.specs.Calls.{PerformsCall};
 
 use super::answer::put_call;
@@ -28,9 +29,9 @@ pub extern "C" fn fm_finish_parts(
     slot: usize,
     id: u64,
 ) -> u64
-    requires { ValidState (counters first second third fourth) slot (received log rows numbers book) }
-    ensures { PerformsCall slot (old_counters first second third fourth) (old log rows numbers book lists) (Call.Finish id) result
-        (new_counters first second third fourth) (new log rows numbers book lists) answer.old answer.new }
+    requires { ValidState (words first.old second.old third.old fourth.old) slot (received log.old rows.old numbers.old book.old) }
+    ensures { PerformsCall slot (words first.old second.old third.old fourth.old) (lent log.old rows.old numbers.old book.old lists.old) (Call.Finish id) result
+        (words first.new second.new third.new fourth.new) (lent log.new rows.new numbers.new book.new lists.new) answer.old answer.new }
 {
     let m = module_at(first, second, third, fourth);
     let r = m.finish(slot, log, rows, numbers, book, lists, id);
@@ -53,9 +54,9 @@ pub extern "C" fn fm_withdraw_parts(
     slot: usize,
     id: u64,
 ) -> u64
-    requires { ValidState (counters first second third fourth) slot (received log rows numbers book) }
-    ensures { PerformsCall slot (old_counters first second third fourth) (old log rows numbers book lists) (Call.Withdraw id) result
-        (new_counters first second third fourth) (new log rows numbers book lists) answer.old answer.new }
+    requires { ValidState (words first.old second.old third.old fourth.old) slot (received log.now rows.now numbers.old book.old) }
+    ensures { PerformsCall slot (words first.old second.old third.old fourth.old) (lent log.now rows.now numbers.old book.old lists.old) (Call.Withdraw id) result
+        (words first.new second.new third.new fourth.new) (lent log.now rows.now numbers.new book.new lists.new) answer.old answer.new }
 {
     let m = module_at(first, second, third, fourth);
     let r = m.withdraw(slot, log, rows, numbers, book, lists, id);
@@ -78,9 +79,9 @@ pub extern "C" fn fm_persistent_parts(
     slot: usize,
     n: u64,
 ) -> u64
-    requires { ValidState (counters first second third fourth) slot (received log rows numbers book) }
-    ensures { PerformsCall slot (old_counters first second third fourth) (old log rows numbers book lists) (Call.Persistent n) result
-        (new_counters first second third fourth) (new log rows numbers book lists) answer.old answer.new }
+    requires { ValidState (words first.old second.old third.old fourth.old) slot (received log.now rows.now numbers.old book.old) }
+    ensures { PerformsCall slot (words first.old second.old third.old fourth.old) (lent log.now rows.now numbers.old book.old lists.old) (Call.Persistent n) result
+        (words first.new second.new third.new fourth.new) (lent log.now rows.now numbers.new book.new lists.new) answer.old answer.new }
 {
     let m = module_at(first, second, third, fourth);
     let r = m.persistent(slot, log, rows, numbers, book, lists, LogNumber(n));
@@ -103,9 +104,9 @@ pub extern "C" fn fm_stable_parts(
     slot: usize,
     n: u64,
 ) -> u64
-    requires { ValidState (counters first second third fourth) slot (received log rows numbers book) }
-    ensures { PerformsCall slot (old_counters first second third fourth) (old log rows numbers book lists) (Call.Stable n) result
-        (new_counters first second third fourth) (new log rows numbers book lists) answer.old answer.new }
+    requires { ValidState (words first.old second.old third.old fourth.old) slot (received log.old rows.now numbers.now book.old) }
+    ensures { PerformsCall slot (words first.old second.old third.old fourth.old) (lent log.old rows.now numbers.now book.old lists.old) (Call.Stable n) result
+        (words first.new second.new third.new fourth.new) (lent log.new rows.now numbers.now book.new lists.new) answer.old answer.new }
 {
     let m = module_at(first, second, third, fourth);
     let r = m.stable(slot, log, rows, numbers, book, lists, LogNumber(n));
@@ -127,9 +128,9 @@ pub extern "C" fn fm_end_parts(
     answer: &mut Answer,
     slot: usize,
 ) -> u64
-    requires { ValidState (counters first second third fourth) slot (received log rows numbers book) }
-    ensures { PerformsCall slot (old_counters first second third fourth) (old log rows numbers book lists) Call.End result
-        (new_counters first second third fourth) (new log rows numbers book lists) answer.old answer.new }
+    requires { ValidState (words first.old second.old third.old fourth.old) slot (received log.now rows.now numbers.now book.now) }
+    ensures { PerformsCall slot (words first.old second.old third.old fourth.old) (lent log.now rows.now numbers.now book.now lists.old) Call.End result
+        (words first.new second.new third.new fourth.new) (lent log.now rows.now numbers.now book.now lists.new) answer.old answer.new }
 {
     let m = module_at(first, second, third, fourth);
     let r = m.end(slot, log, rows, numbers, book, lists);

@@ -3,9 +3,10 @@ ghost use Rattle.std.specs.Prelude.{ℕ, ◌≤◌, ◌≡◌, List, [], length}
 ghost use Rattle.forms.specs.declared.reader.CommandForm.{CommandForm};
 ghost use Rattle.rules.specs.Calls.{Call};
 ghost use Rattle.compact.specs.Module.{Move};
-ghost use Rattle.site.specs.Model.{Lent, received, old, new, old_with, new_with};
+ghost use Rattle.site.specs.Model.{Lent, received, lent};
 ghost use Rattle.module.specs.Model.{ValidWith, Moves, RefusedIn};
-ghost use Rattle.fitting_module.specs.Model.{counters, old_counters, new_counters, ValidState};
+ghost use Rattle.fitting_module.specs.Model.{ValidState};
+ghost use Rattle.fitting_module.specs.Words.{words};
 ghost use Rattle.fitting_module.specs.Lines.{line_move, did_in, Obeys, ObeysForm, AnswersLine};
 ghost use Rattle.fitting_module.specs.Used.{UsedIn};
 
@@ -45,10 +46,10 @@ fn redo(
     book: &mut BookWords,
     line: &[u8],
 ) -> ModuleResult
-    requires valid_with { ValidWith m slot (received log rows numbers book) }
+    requires valid_with { ValidWith m slot (received log.old rows.old numbers.old book.old) }
     requires in_bounds { 7 ≤ length line.now }
-    ensures { (ns : List ℕ) → Moves m (Move.At slot (Call.Redo (did_in line.now))) (old_with ns log rows numbers book) result
-        (new_with ns log rows numbers book) }
+    ensures { (ns : List ℕ) → Moves m (Move.At slot (Call.Redo (did_in line.now))) (lent log.old rows.old numbers.old book.old ns) result
+        (lent log.new rows.new numbers.new book.new ns) }
 {
     let e = line.len() - 1;
     m.redo(slot, log, rows, numbers, book, &line[6..e])
@@ -66,9 +67,9 @@ fn call(
     line: &[u8],
     c: CommandRead,
 ) -> ModuleResult
-    requires valid_with { ValidWith m slot (received log rows numbers book) }
+    requires valid_with { ValidWith m slot (received log.old rows.old numbers.old book.old) }
     requires in_bounds { c.form ≡ CommandForm.Redo → 7 ≤ length line.now }
-    ensures { ObeysForm slot m (old log rows numbers book lists) line.now c result (new log rows numbers book lists) }
+    ensures { ObeysForm slot m (lent log.old rows.old numbers.old book.old lists.old) line.now c result (lent log.new rows.new numbers.new book.new lists.new) }
 {
     let form = c.form;
     let asked = c.asked;
@@ -106,9 +107,9 @@ fn obey(
     lists: &mut ReplyNumbers,
     line: &[u8],
 ) -> ModuleResult
-    requires { ValidWith m slot (received log rows numbers book) }
-    ensures { Obeys slot m (line_move slot (length log.old) line.now) (old log rows numbers book lists) result
-        (new log rows numbers book lists) }
+    requires { ValidWith m slot (received log.old rows.old numbers.old book.old) }
+    ensures { Obeys slot m (line_move slot (length log.old) line.now) (lent log.old rows.old numbers.old book.old lists.old) result
+        (lent log.new rows.new numbers.new book.new lists.new) }
 {
     let c = read_command(line);
     call(m, slot, log, rows, numbers, book, lists, line, c)
@@ -130,9 +131,9 @@ pub extern "C" fn fm_line_parts(
     line: &[u8],
     out: &mut [u8],
 ) -> usize
-    requires { ValidState (counters first second third fourth) slot (received log rows numbers book) }
-    ensures { AnswersLine slot (old_counters first second third fourth) (old_with [] log rows numbers book) line.old result
-        (new_counters first second third fourth) (new_with [] log rows numbers book) out.old out.new }
+    requires { ValidState (words first.old second.old third.old fourth.old) slot (received log.old rows.old numbers.old book.old) }
+    ensures { AnswersLine slot (words first.old second.old third.old fourth.old) (lent log.old rows.old numbers.old book.old []) line.old result
+        (words first.new second.new third.new fourth.new) (lent log.new rows.new numbers.new book.new []) out.old out.new }
 {
     if out.len() < REPLY_BYTES {
         return REPLY_BYTES;
@@ -159,8 +160,8 @@ pub extern "C" fn fm_log_used_parts(
     book: &BookWords,
     slot: usize,
 ) -> usize
-    requires { ValidState (counters first second third fourth) slot (received log rows numbers book) }
-    ensures { UsedIn (old_counters first second third fourth) slot (old_with [] log rows numbers book) result }
+    requires { ValidState (words first.now second.now third.now fourth.now) slot (received log.now rows.now numbers.now book.now) }
+    ensures { UsedIn (words first.now second.now third.now fourth.now) slot (lent log.now rows.now numbers.now book.now []) result }
 {
     let m = module_at(first, second, third, fourth);
     if slot < Module::SLOTS {

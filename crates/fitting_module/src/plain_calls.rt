@@ -1,8 +1,9 @@
 // Calls of a slot on numbers, whose replies have no lists: 0, or the number of the refusal.
 ghost use Rattle.std.specs.Prelude.{[], length};
 ghost use Rattle.rules.specs.Calls.{Call};
-ghost use Rattle.site.specs.Model.{received, old_with, new_with};
-ghost use Rattle.fitting_module.specs.Model.{counters, old_counters, new_counters, ValidState};
+ghost use Rattle.site.specs.Model.{received, lent};
+ghost use Rattle.fitting_module.specs.Model.{ValidState};
+ghost use Rattle.fitting_module.specs.Words.{words};
 ghost use Rattle.fitting_module.specs.Calls.{PerformsCall};
 
 use super::answer::put_call;
@@ -26,9 +27,9 @@ pub extern "C" fn fm_show_parts(
     slot: usize,
     history: u64,
 ) -> u64
-    requires { ValidState (counters first second third fourth) slot (received log rows numbers book) }
-    ensures { PerformsCall slot (old_counters first second third fourth) (old_with [] log rows numbers book) (Call.Show history) result
-        (new_counters first second third fourth) (new_with [] log rows numbers book) answer.old answer.new }
+    requires { ValidState (words first.old second.old third.old fourth.old) slot (received log.now rows.now numbers.now book.now) }
+    ensures { PerformsCall slot (words first.old second.old third.old fourth.old) (lent log.now rows.now numbers.now book.now []) (Call.Show history) result
+        (words first.new second.new third.new fourth.new) (lent log.now rows.now numbers.now book.now []) answer.old answer.new }
 {
     let m = module_at(first, second, third, fourth);
     let r = m.show(slot, log, rows, numbers, book, history);
@@ -50,10 +51,10 @@ pub extern "C" fn fm_cut_parts(
     slot: usize,
     k: u64,
 ) -> u64
-    requires { ValidState (counters first second third fourth) slot (received log rows numbers book) }
-    ensures { PerformsCall slot (old_counters first second third fourth) (old_with [] log rows numbers book)
+    requires { ValidState (words first.old second.old third.old fourth.old) slot (received log.now rows.old numbers.old book.old) }
+    ensures { PerformsCall slot (words first.old second.old third.old fourth.old) (lent log.now rows.old numbers.old book.old [])
         (Call.Cut k (length log.old)) result
-        (new_counters first second third fourth) (new_with [] log rows numbers book) answer.old answer.new }
+        (words first.new second.new third.new fourth.new) (lent log.now rows.new numbers.new book.new []) answer.old answer.new }
 {
     let m = module_at(first, second, third, fourth);
     let r = m.cut(slot, log, rows, numbers, book, k);
@@ -75,9 +76,9 @@ pub extern "C" fn fm_redo_parts(
     slot: usize,
     line: &[u8],
 ) -> u64
-    requires { ValidState (counters first second third fourth) slot (received log rows numbers book) }
-    ensures { PerformsCall slot (old_counters first second third fourth) (old_with [] log rows numbers book) (Call.Redo line.old) result
-        (new_counters first second third fourth) (new_with [] log rows numbers book) answer.old answer.new }
+    requires { ValidState (words first.old second.old third.old fourth.old) slot (received log.old rows.old numbers.old book.old) }
+    ensures { PerformsCall slot (words first.old second.old third.old fourth.old) (lent log.old rows.old numbers.old book.old []) (Call.Redo line.old) result
+        (words first.new second.new third.new fourth.new) (lent log.new rows.new numbers.new book.new []) answer.old answer.new }
 {
     let m = module_at(first, second, third, fourth);
     let r = m.redo(slot, log, rows, numbers, book, line);

@@ -1,9 +1,10 @@
 // The poll of a history of a slot's site.
 ghost use Rattle.std.specs.Prelude.{◌≡◌, []};
-ghost use Rattle.site.specs.Model.{received, old_with};
+ghost use Rattle.site.specs.Model.{received, lent};
 ghost use Rattle.session.specs.Polls.{polled_number};
 ghost use Rattle.module.specs.Polls.{slot_polled};
-ghost use Rattle.fitting_module.specs.Model.{counters, old_counters, ValidState};
+ghost use Rattle.fitting_module.specs.Model.{ValidState};
+ghost use Rattle.fitting_module.specs.Words.{words};
 ghost use Rattle.fitting_module.specs.Polls.{PollsSlot};
 
 use super::lines::{EntryNumbers, TableRows};
@@ -37,8 +38,8 @@ pub extern "C" fn fm_poll_parts(
     slot: usize,
     history: u64,
 ) -> u64
-    requires { ValidState (counters first second third fourth) slot (received log rows numbers book) }
-    ensures { PollsSlot (old_counters first second third fourth) slot (old_with [] log rows numbers book) history result }
+    requires { ValidState (words first.now second.now third.now fourth.now) slot (received log.now rows.now numbers.now book.now) }
+    ensures { PollsSlot (words first.now second.now third.now fourth.now) slot (lent log.now rows.now numbers.now book.now []) history result }
 {
     let m = module_at(first, second, third, fourth);
     let p = m.poll(slot, book, history);

@@ -1,7 +1,7 @@
 // A module begins, and a slot of it is taken up again from the bytes of its log.
 ghost use Rattle.std.specs.Prelude.{[]};
-ghost use Rattle.site.specs.Model.{received, old_with, new_with};
-ghost use Rattle.fitting_module.specs.Model.{counters, old_counters, new_counters};
+ghost use Rattle.site.specs.Model.{received, lent};
+ghost use Rattle.fitting_module.specs.Words.{words};
 ghost use Rattle.fitting_module.specs.Starts.{Starts};
 ghost use Rattle.fitting_module.specs.Restarts.{ValidBefore, RestartsSlot};
 
@@ -24,7 +24,7 @@ pub extern "C" fn fm_start_parts(
     rows: &TableRows,
     numbers: &mut EntryNumbers,
 )
-    ensures { Starts (new_counters first second third fourth) rows.new numbers.new }
+    ensures { Starts (words first.new second.new third.new fourth.new) rows.new numbers.new }
 {
     known_length(rows);
     let m = Module::new(numbers);
@@ -46,9 +46,9 @@ pub extern "C" fn fm_restart_parts(
     slot: usize,
     kept: usize,
 ) -> u64
-    requires { ValidBefore (counters first second third fourth) slot (received log rows numbers book) }
-    ensures { RestartsSlot slot (old_counters first second third fourth) (old_with [] log rows numbers book) kept result
-        (new_counters first second third fourth) (new_with [] log rows numbers book) }
+    requires { ValidBefore (words first.old second.old third.old fourth.old) slot (received log.now rows.old numbers.old book.old) }
+    ensures { RestartsSlot slot (words first.old second.old third.old fourth.old) (lent log.now rows.old numbers.old book.old []) kept result
+        (words first.new second.new third.new fourth.new) (lent log.now rows.new numbers.new book.new []) }
 {
     let m = module_at(first, second, third, fourth);
     let r = m.restart(slot, log, rows, numbers, book, kept);

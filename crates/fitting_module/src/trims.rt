@@ -1,7 +1,8 @@
 // A copy of a slot's log with a base line in place of its first operations.
 ghost use Rattle.std.specs.Prelude.{[]};
-ghost use Rattle.site.specs.Model.{received, old_with};
-ghost use Rattle.fitting_module.specs.Model.{counters, old_counters, ValidState};
+ghost use Rattle.site.specs.Model.{received, lent};
+ghost use Rattle.fitting_module.specs.Model.{ValidState};
+ghost use Rattle.fitting_module.specs.Words.{words};
 ghost use Rattle.fitting_module.specs.Trims.{TrimsSlot};
 
 use super::lines::{EntryNumbers, TableRows};
@@ -30,8 +31,8 @@ pub extern "C" fn fm_trim_parts(
     fresh: &mut [u8],
     used: &mut usize,
 ) -> u64
-    requires { ValidState (counters first second third fourth) slot (received log rows numbers book) }
-    ensures { TrimsSlot (old_counters first second third fourth) slot (old_with [] log rows numbers book) n fresh.old result fresh.new
+    requires { ValidState (words first.now second.now third.now fourth.now) slot (received log.now rows.now numbers.now book.now) }
+    ensures { TrimsSlot (words first.now second.now third.now fourth.now) slot (lent log.now rows.now numbers.now book.now []) n fresh.old result fresh.new
         used.old used.new }
 {
     let m = module_at(first, second, third, fourth);

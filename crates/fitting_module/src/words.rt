@@ -1,8 +1,7 @@
 // A module's counters in words: from call to call they stand in arrays that are lent, one for each slot.
 ghost use Rattle.std.specs.Prelude.{◌≡◌, length};
-ghost use Rattle.table.specs.Ends.{was};
 ghost use Rattle.fitting_module.specs.Words.{slot_at, words_of, module_at, words_in};
-ghost use Rattle.fitting_module.specs.Model.{old_counters, new_counters};
+ghost use Rattle.fitting_module.specs.Words.{words};
 
 use call_words::bit;
 use forms::LogNumber;
@@ -84,7 +83,7 @@ pub(crate) fn module_at(
     third: &SlotWords,
     fourth: &SlotWords,
 ) -> Module
-    ensures { result ≡ module_at (old_counters first second third fourth) }
+    ensures { result ≡ module_at (words first.now second.now third.now fourth.now) }
 {
     let a = slot_at(first);
     let b = slot_at(second);

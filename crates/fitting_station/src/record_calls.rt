@@ -3,7 +3,6 @@
 ghost use Rattle.std.specs.Prelude.{◌≡◌};
 ghost use Rattle.rules.specs.Records.{record_new, report, question, forget_record};
 ghost use Rattle.records.specs.Model.{ValidRecords};
-ghost use Rattle.fitting_station.specs.Ends.{before, after};
 ghost use Rattle.fitting_station.specs.RecordCalls.{records_at, records_in, answer_code, records_code};
 ghost use Rattle.fitting_station.specs.RecordCalls.{StartsRecords, ResumesRecords, PerformsRecords};
 
@@ -37,7 +36,7 @@ fn answer_number(a: Answer) -> u64
 // Begins without records, in numbers of any contents.
 #[unsafe(no_mangle)]
 pub extern "C" fn fl_records_start_parts(count: &mut usize, words: &RecordWords)
-    ensures { StartsRecords (after count) words.old }
+    ensures { StartsRecords count.new words.old }
 {
     known_length(words);
     let s = Records::empty();
@@ -51,7 +50,7 @@ pub extern "C" fn fl_records_resume_parts(
     words: &RecordWords,
     kept: usize,
 ) -> u64
-    ensures { ResumesRecords kept words.old result (after count) }
+    ensures { ResumesRecords kept words.old result count.new }
 {
     known_length(words);
     if Records::LIMIT < kept {
@@ -73,8 +72,8 @@ pub extern "C" fn fl_records_record_parts(
     threshold: u64,
 ) -> u64
     requires { ValidRecords (records_at count.old) words.old }
-    ensures { PerformsRecords (before count) words.old (record_new id sent full threshold (records_in (before count) words.old)) result
-        (after count) words.new }
+    ensures { PerformsRecords count.old words.old (record_new id sent full threshold (records_in count.old words.old)) result
+        count.new words.new }
 {
     let s = Records { count: *count };
     let r = s.record(words, id, sent, full, threshold);
@@ -93,8 +92,8 @@ pub extern "C" fn fl_records_report_parts(
     site: u64,
 ) -> u64
     requires { ValidRecords (records_at count.old) words.old }
-    ensures { PerformsRecords (before count) words.old (report id site (records_in (before count) words.old)) result
-        (after count) words.new }
+    ensures { PerformsRecords count.old words.old (report id site (records_in count.old words.old)) result
+        count.new words.new }
 {
     let s = Records { count: *count };
     let r = s.report(words, id, site);
@@ -108,7 +107,7 @@ pub extern "C" fn fl_records_report_parts(
 #[unsafe(no_mangle)]
 pub extern "C" fn fl_records_question_parts(count: &usize, words: &RecordWords, id: u64) -> u64
     requires { ValidRecords (records_at count.now) words.now }
-    ensures { result ≡ records_code (question id (records_in (before count) words.old)) }
+    ensures { result ≡ records_code (question id (records_in count.old words.old)) }
 {
     let s = Records { count: *count };
     let a = s.question(words, id);
@@ -123,8 +122,8 @@ pub extern "C" fn fl_records_forget_parts(
     id: u64,
 ) -> u64
     requires { ValidRecords (records_at count.old) words.old }
-    ensures { PerformsRecords (before count) words.old (forget_record id (records_in (before count) words.old)) result
-        (after count) words.new }
+    ensures { PerformsRecords count.old words.old (forget_record id (records_in count.old words.old)) result
+        count.new words.new }
 {
     let s = Records { count: *count };
     let r = s.forget(words, id);

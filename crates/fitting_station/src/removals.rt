@@ -1,7 +1,6 @@
 // Which fittings must be taken back (02 (a)): the lines of a log that fall with lines lost for good. Nothing is required of what is lent.
 ghost use Rattle.std.specs.Prelude.{◌≡◌, length};
 ghost use Rattle.recovery.specs.Removal.{pairs_of, report};
-ghost use Rattle.fitting_station.specs.Ends.{before, after};
 ghost use Rattle.fitting_station.specs.Removals.{removals_number, removals_named, RepliesRemovals};
 
 use forms::writer::refusal_number;
@@ -12,7 +11,7 @@ const NOT_AMONG: u64 = 16;
 
 // 0 for a report, and `named` is how many log numbers it names; or the number of the refusal.
 fn put_named(named: &mut usize, r: Removals) -> u64
-    ensures { (result ≡ removals_number r) × (after named ≡ removals_named r (before named)) }
+    ensures { (result ≡ removals_number r) × (named.new ≡ removals_named r named.old) }
 {
     match r {
         Removals::Named(k) => {
@@ -34,8 +33,8 @@ pub extern "C" fn fl_removals(
     out: &mut [u64],
     count: &mut usize,
 ) -> u64
-    ensures { RepliesRemovals (report log.old (pairs_of pairs.old) lost.old (length out.old)) out.old (before count) result
-        (after count) out.new }
+    ensures { RepliesRemovals (report log.old (pairs_of pairs.old) lost.old (length out.old)) out.old count.old result
+        count.new out.new }
 {
     let r = report(log, pairs, lost, out);
     put_named(count, r)

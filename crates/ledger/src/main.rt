@@ -4,7 +4,7 @@
 ghost use Rattle.std.specs.Prelude.{[], ◌≤◌, length};
 ghost use Rattle.forms.specs.Limits.{reply_limit};
 ghost use Rattle.session.specs.Feeding.{UsablePartial};
-ghost use Rattle.site.specs.Model.{received, new_with};
+ghost use Rattle.site.specs.Model.{received, lent};
 ghost use Rattle.stream.specs.Model.{ValidStream};
 
 use forms::ReplyNumbers;
@@ -34,9 +34,9 @@ fn answer(
     chunk: &[u8],
     out: &mut [u8],
 ) -> Serving
-    requires valid_stream { ValidStream start (received log rows order book) }
+    requires valid_stream { ValidStream start (received log.old rows.old order.old book.old) }
     requires reply_limit_in_bounds { reply_limit ≤ length out.old }
-    ensures { ValidStream result.stream (new_with [] log rows order book) }
+    ensures { ValidStream result.stream (lent log.new rows.new order.new book.new []) }
 {
     let mut stream = start;
     let mut at: usize = 0;
@@ -72,9 +72,9 @@ fn step(
     chunk: &mut [u8],
     out: &mut [u8],
 ) -> Serving
-    requires valid_stream { ValidStream stream (received log rows order book) }
+    requires valid_stream { ValidStream stream (received log.old rows.old order.old book.old) }
     requires reply_limit_in_bounds { reply_limit ≤ length out.old }
-    ensures { ValidStream result.stream (new_with [] log rows order book) }
+    ensures { ValidStream result.stream (lent log.new rows.new order.new book.new []) }
 {
     let got = libc::read(STDIN_FILENO, chunk);
     if got < 0 {

@@ -2,7 +2,7 @@
 ghost use Rattle.std.specs.Prelude.{ℕ, List};
 ghost use Rattle.rules.specs.Calls.{Call};
 ghost use Rattle.compact.specs.Module.{Move};
-ghost use Rattle.site.specs.Model.{received, old, new, old_with, new_with};
+ghost use Rattle.site.specs.Model.{received, lent};
 ghost use Rattle.module.specs.Model.{ValidWith, Moves};
 
 use super::numbers::PART;
@@ -22,9 +22,9 @@ impl Module {
         lists: &mut ReplyNumbers,
         id: u64,
     ) -> ModuleResult
-        requires { ValidWith self slot (received log rows numbers book) }
-        ensures { Moves self (Move.At slot (Call.Finish id)) (old log rows numbers book lists) result
-            (new log rows numbers book lists) }
+        requires { ValidWith self slot (received log.old rows.old numbers.old book.old) }
+        ensures { Moves self (Move.At slot (Call.Finish id)) (lent log.old rows.old numbers.old book.old lists.old) result
+            (lent log.new rows.new numbers.new book.new lists.new) }
     {
         if slot < Module::SLOTS {
             let mut after = self;
@@ -54,9 +54,9 @@ impl Module {
         lists: &mut ReplyNumbers,
         id: u64,
     ) -> ModuleResult
-        requires { ValidWith self slot (received log rows numbers book) }
-        ensures { Moves self (Move.At slot (Call.Withdraw id)) (old log rows numbers book lists) result
-            (new log rows numbers book lists) }
+        requires { ValidWith self slot (received log.now rows.now numbers.old book.old) }
+        ensures { Moves self (Move.At slot (Call.Withdraw id)) (lent log.now rows.now numbers.old book.old lists.old) result
+            (lent log.now rows.now numbers.new book.new lists.new) }
     {
         if self.is_open(slot) {
             let slots = self.slots;
@@ -81,9 +81,9 @@ impl Module {
         lists: &mut ReplyNumbers,
         n: LogNumber,
     ) -> ModuleResult
-        requires { ValidWith self slot (received log rows numbers book) }
-        ensures { Moves self (Move.At slot (Call.Persistent n.0)) (old log rows numbers book lists) result
-            (new log rows numbers book lists) }
+        requires { ValidWith self slot (received log.now rows.now numbers.old book.old) }
+        ensures { Moves self (Move.At slot (Call.Persistent n.0)) (lent log.now rows.now numbers.old book.old lists.old) result
+            (lent log.now rows.now numbers.new book.new lists.new) }
     {
         if self.is_open(slot) {
             let slots = self.slots;
@@ -108,9 +108,9 @@ impl Module {
         lists: &mut ReplyNumbers,
         n: LogNumber,
     ) -> ModuleResult
-        requires { ValidWith self slot (received log rows numbers book) }
-        ensures { Moves self (Move.At slot (Call.Stable n.0)) (old log rows numbers book lists) result
-            (new log rows numbers book lists) }
+        requires { ValidWith self slot (received log.old rows.now numbers.now book.old) }
+        ensures { Moves self (Move.At slot (Call.Stable n.0)) (lent log.old rows.now numbers.now book.old lists.old) result
+            (lent log.new rows.now numbers.now book.new lists.new) }
     {
         if self.is_open(slot) {
             let slots = self.slots;
@@ -134,9 +134,9 @@ impl Module {
         book: &BookWords,
         h: u64,
     ) -> ModuleResult
-        requires { ValidWith self slot (received log rows numbers book) }
+        requires { ValidWith self slot (received log.now rows.now numbers.now book.now) }
         ensures { (ns : List ℕ) →
-            Moves self (Move.At slot (Call.Show h)) (old_with ns log rows numbers book) result (new_with ns log rows numbers book) }
+            Moves self (Move.At slot (Call.Show h)) (lent log.now rows.now numbers.now book.now ns) result (lent log.now rows.now numbers.now book.now ns) }
     {
         if self.is_open(slot) {
             let slots = self.slots;
@@ -160,8 +160,8 @@ impl Module {
         book: &BookWords,
         lists: &mut ReplyNumbers,
     ) -> ModuleResult
-        requires { ValidWith self slot (received log rows numbers book) }
-        ensures { Moves self (Move.At slot Call.End) (old log rows numbers book lists) result (new log rows numbers book lists) }
+        requires { ValidWith self slot (received log.now rows.now numbers.now book.now) }
+        ensures { Moves self (Move.At slot Call.End) (lent log.now rows.now numbers.now book.now lists.old) result (lent log.now rows.now numbers.now book.now lists.new) }
     {
         if self.is_open(slot) {
             let slots = self.slots;

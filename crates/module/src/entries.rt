@@ -3,7 +3,7 @@
 ghost use Rattle.std.specs.Prelude.{ℕ, min, ◌≡◌, List, length};
 ghost use Rattle.rules.specs.Calls.{Call};
 ghost use Rattle.compact.specs.Module.{Move};
-ghost use Rattle.site.specs.Model.{lent, received, old, new, old_with, new_with};
+ghost use Rattle.site.specs.Model.{lent, received};
 ghost use Rattle.site.specs.Trim.{updates_held};
 ghost use Rattle.module.specs.Model.{ValidWith, ValidAnew, ValidSome, Moves, MovesAnew};
 
@@ -49,9 +49,9 @@ impl Module {
         book: &mut BookWords,
         k: usize,
     ) -> ModuleResult
-        requires { ValidAnew self slot (received log rows numbers book) }
+        requires { ValidAnew self slot (received log.now rows.old numbers.old book.old) }
         ensures { (ns : List ℕ) →
-            MovesAnew self (Move.Restart slot log.now k) (old_with ns log rows numbers book) result (new_with ns log rows numbers book) }
+            MovesAnew self (Move.Restart slot log.now k) (lent log.now rows.old numbers.old book.old ns) result (lent log.now rows.new numbers.new book.new ns) }
     {
         if slot < Module::SLOTS {
             let slots = self.slots;
@@ -76,9 +76,9 @@ impl Module {
         book: &mut BookWords,
         k: u64,
     ) -> ModuleResult
-        requires { ValidWith self slot (received log rows numbers book) }
+        requires { ValidWith self slot (received log.now rows.old numbers.old book.old) }
         ensures { (ns : List ℕ) → Moves self (Move.At slot (Call.Cut k (length log.now)))
-            (old_with ns log rows numbers book) result (new_with ns log rows numbers book) }
+            (lent log.now rows.old numbers.old book.old ns) result (lent log.now rows.new numbers.new book.new ns) }
     {
         if self.is_open(slot) {
             let slots = self.slots;
@@ -106,9 +106,9 @@ impl Module {
         id: u64,
         asked: AskedHeld,
     ) -> ModuleResult
-        requires { ValidWith self slot (received log rows numbers book) }
-        ensures { Moves self (Move.At slot (Call.Add id (updates_held asked))) (old log rows numbers book lists) result
-            (new log rows numbers book lists) }
+        requires { ValidWith self slot (received log.now rows.old numbers.old book.old) }
+        ensures { Moves self (Move.At slot (Call.Add id (updates_held asked))) (lent log.now rows.old numbers.old book.old lists.old) result
+            (lent log.now rows.new numbers.new book.new lists.new) }
     {
         if slot < Module::SLOTS {
             let mut after = self;
@@ -145,9 +145,9 @@ impl Module {
         book: &mut BookWords,
         line: &[u8],
     ) -> ModuleResult
-        requires { ValidWith self slot (received log rows numbers book) }
+        requires { ValidWith self slot (received log.old rows.old numbers.old book.old) }
         ensures { (ns : List ℕ) →
-            Moves self (Move.At slot (Call.Redo line.now)) (old_with ns log rows numbers book) result (new_with ns log rows numbers book) }
+            Moves self (Move.At slot (Call.Redo line.now)) (lent log.old rows.old numbers.old book.old ns) result (lent log.new rows.new numbers.new book.new ns) }
     {
         if self.is_open(slot) {
             let slots = self.slots;

@@ -4,7 +4,6 @@
 #![tactic(auto)]
 
 ghost use Rattle.std.specs.Prelude.{◌≡◌, cond, eqb, ◌≤◌, ◌<◌, max, length};
-ghost use Rattle.table.specs.Ends.{was};
 ghost use Rattle.table.specs.Tables.{live_count};
 ghost use Rattle.module.specs.Parts.{part_room};
 ghost use Rattle.module.specs.Model.{slot_in};

@@ -1,7 +1,6 @@
 // The numbers of the table's entries: slot j's part of them begins at place 64 · j. A slot that needs free numbers is given those of its
 // neighbours.
 ghost use Rattle.std.specs.Prelude.{◌≡◌, ◌+◌, ◌*◌, ◌<◌, ◌++◌, length, take, drop};
-ghost use Rattle.table.specs.Ends.{left};
 ghost use Rattle.module.specs.Parts.{part_of};
 ghost use Rattle.module.specs.Gather.{MaySpare, spare_at, IsSpare, MayGive, Gives, MayGather, Gathered};
 
@@ -28,7 +27,7 @@ pub fn part_of(numbers: &[u8], slot: usize) -> [u8; PART]
 // A slot's part of the numbers becomes this.
 pub fn put_part(numbers: &mut [u8], slot: usize, part: [u8; PART])
     requires { (slot < 4) × (length numbers.old ≡ 256) }
-    ensures { left numbers ≡ take (64 * slot) numbers.old ++ (part ++ drop (64 * slot + 64) numbers.old) }
+    ensures { numbers.new ≡ take (64 * slot) numbers.old ++ (part ++ drop (64 * slot + 64) numbers.old) }
 {
     let at = PART * slot;
     let mut i: usize = 0;

@@ -1,5 +1,4 @@
 // Poll: whether a history of a slot's site is dry.
-ghost use Rattle.table.specs.Ends.{was};
 ghost use Rattle.module.specs.Polls.{ValidBook, PollsIn};
 
 use super::Module;

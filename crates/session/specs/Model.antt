@@ -18,10 +18,9 @@ use Rattle.forms.specs.declared.reader.CommandRead.{CommandRead}
 use Rattle.site.specs.declared.Site.{Site}
 use Rattle.site.specs.declared.CallResult.{CallResult}
 use Rattle.table.specs.declared.Table.{Table}
-use Rattle.table.specs.Ends.{Ends, was}
 use Rattle.table.specs.Tables.{live_numbers, Frame}
 use Rattle.site.specs.Representation.{Representation}
-use Rattle.site.specs.Model.{Lent, old_with, new_with, represented, view, ValidSite, Says, Does}
+use Rattle.site.specs.Model.{Lent, represented, view, ValidSite, Says, Does}
 use Rattle.site.specs.Trim.{updates_held, did_held, redo_of}
 use Rattle.forms.specs.declared.writer.Written.{Written}
 use Rattle.forms.specs.Write.{Writes, with_end}
@@ -176,7 +175,5 @@ abbrev pub DoesForm : Site → Lent → CommandRead → CallResult → Lent → 
 DoesForm s old c r new = Does s old (site_reply (length old.log) c.form c.asked c.did (view s old)) r new
 
 -- The session, which is not open, takes the turn of opening a site of n histories.
-abbrev pub OpensLine : Session → ℕ → Ends → Ends → Ends → Ends → LineResult → Type 0
-OpensLine s n log rows order book r =
-    (ns : List ℕ) → Turns s (old_with ns log rows order book) (turn_of (open_site n (length (was log))) none) r
-    (new_with ns log rows order book)
+abbrev pub OpensLine : Session → ℕ → (List ℕ → Lent) → (List ℕ → Lent) → LineResult → Type 0
+OpensLine s n old new r = (ns : List ℕ) → Turns s (old ns) (turn_of (open_site n (length (old []).log)) none) r (new ns)

@@ -4,8 +4,7 @@
 ghost use Rattle.std.specs.Prelude.{◌≡◌, ◌+◌, false, ◌&&◌, [], leb};
 ghost use Rattle.forms.specs.Held.{replied};
 ghost use Rattle.forms.specs.Limits.{live_limit};
-ghost use Rattle.table.specs.Ends.{was};
-ghost use Rattle.site.specs.Model.{Lent, received, old, new, Valid, RefusedAs};
+ghost use Rattle.site.specs.Model.{Lent, received, Valid, RefusedAs, lent};
 ghost use Rattle.session.specs.Model.{ValidSession, Refuses, Starts, TurnsLine, AnswersLine, lists_fit, WritesReply};
 ghost use Rattle.session.specs.Model.{turned_of, OpensLine, DoesForm, TurnsForm};
 ghost use Rattle.session.specs.Feeding.{Begins};
@@ -91,8 +90,8 @@ fn call(
     lists: &mut ReplyNumbers,
     c: CommandRead,
 ) -> CallResult
-    requires { Valid site (received log rows order book) }
-    ensures { DoesForm site (old log rows order book lists) c result (new log rows order book lists) }
+    requires { Valid site (received log.old rows.old order.old book.old) }
+    ensures { DoesForm site (lent log.old rows.old order.old book.old lists.old) c result (lent log.new rows.new order.new book.new lists.new) }
 {
     let form = c.form;
     let asked = c.asked;
@@ -161,7 +160,7 @@ impl Session {
         n: u64,
     ) -> LineResult
         requires { self.opened ≡ false }
-        ensures { OpensLine self n log rows order book result }
+        ensures { OpensLine self n (lent log.old rows.now order.old book.old) (lent log.new rows.now order.new book.new) result }
     {
         let c = Site::open(log, rows, order, book, n);
         let site = c.site;
@@ -186,8 +185,8 @@ impl Session {
         lists: &mut ReplyNumbers,
         c: CommandRead,
     ) -> LineResult
-        requires { ValidSession self (received log rows order book) }
-        ensures { TurnsForm self (old log rows order book lists) c result (new log rows order book lists) }
+        requires { ValidSession self (received log.old rows.old order.old book.old) }
+        ensures { TurnsForm self (lent log.old rows.old order.old book.old lists.old) c result (lent log.new rows.new order.new book.new lists.new) }
     {
         let form = c.form;
         if self.opened {
@@ -211,9 +210,9 @@ impl Session {
         lists: &mut ReplyNumbers,
         line: &[u8],
     ) -> LineResult
-        requires { ValidSession self (received log rows order book) }
-        ensures { TurnsLine self (old log rows order book lists) line.now result
-            (new log rows order book lists) }
+        requires { ValidSession self (received log.old rows.old order.old book.old) }
+        ensures { TurnsLine self (lent log.old rows.old order.old book.old lists.old) line.now result
+            (lent log.new rows.new order.new book.new lists.new) }
     {
         let c = read_command(line);
         self.obey(log, rows, order, book, lists, c)
@@ -240,9 +239,9 @@ impl Session {
         line: &[u8],
         out: &mut [u8],
     ) -> Answered
-        requires { ValidSession self (received log rows order book) }
-        ensures { AnswersLine self (old log rows order book lists) line.now result
-            (new log rows order book lists) out.old out.new }
+        requires { ValidSession self (received log.old rows.old order.old book.old) }
+        ensures { AnswersLine self (lent log.old rows.old order.old book.old lists.old) line.now result
+            (lent log.new rows.new order.new book.new lists.new) out.old out.new }
     {
         let t = self.turn(log, rows, order, book, lists, line);
         let session = t.session;

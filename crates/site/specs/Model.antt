@@ -1,6 +1,5 @@
 -- The site and what is lent to it as a state of the specification, the invariant of the two, and what a call promises.
 use Rattle.std.specs.Prelude.{ℕ, ◌+◌, ◌*◌, ◌≤◌, ◌≡◌, List, [], length, drop}
-use Rattle.std.specs.Borrow.{MutBor}
 use Rattle.forms.specs.Lists.{below}
 use Rattle.forms.specs.Forms.{Outcome, Refused, Accepted, Answer}
 use Rattle.forms.specs.Held.{Numbers, Replied, replied, outcome_of}
@@ -11,7 +10,6 @@ use Rattle.rules.specs.Calls.{Call, step}
 use Rattle.rules.specs.Within.{step_within}
 use Rattle.history.specs.Words.{width, histories_in, persisted_in, stabilised_in, busy_in}
 use Rattle.table.specs.declared.Table.{Table}
-use Rattle.table.specs.Ends.{Ends, was, left}
 use Rattle.table.specs.Order.{tally}
 use Rattle.table.specs.Tables.{live_numbers, finished_rows, marks_in, queue_rows, Owns, Frame}
 use Rattle.site.specs.declared.Site.{Site}
@@ -33,22 +31,8 @@ abbrev pub lent : List ℕ → List ℕ → List ℕ → List ℕ → List ℕ �
 lent log rows order book lists = record { log = log; rows = rows; order = order; book = book; lists = lists }
 
 -- What was lent, in a `requires`: the lists of a reply do not matter there.
-abbrev pub received : MutBor (List ℕ) → MutBor (List ℕ) → MutBor (List ℕ) → MutBor (List ℕ) → Lent
-received log rows order book = lent log.now rows.now order.now book.now []
-
--- What was lent, in an `ensures`: as it came, and as it is left.
-abbrev pub old : Ends → Ends → Ends → Ends → Ends → Lent
-old log rows order book lists = lent (was log) (was rows) (was order) (was book) (was lists)
-
-abbrev pub new : Ends → Ends → Ends → Ends → Ends → Lent
-new log rows order book lists = lent (left log) (left rows) (left order) (left book) (left lists)
-
--- .. of a call that is lent no lists, whatever they are
-abbrev pub old_with : List ℕ → Ends → Ends → Ends → Ends → Lent
-old_with ns log rows order book = lent (was log) (was rows) (was order) (was book) ns
-
-abbrev pub new_with : List ℕ → Ends → Ends → Ends → Ends → Lent
-new_with ns log rows order book = lent (left log) (left rows) (left order) (left book) ns
+abbrev pub received : List ℕ → List ℕ → List ℕ → List ℕ → Lent
+received log rows order book = lent log rows order book []
 
 -- The site with the histories and the rows that stand in what is lent.
 abbrev pub represented : Site → Lent → Representation

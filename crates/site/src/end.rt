@@ -1,6 +1,6 @@
 // End: restoring is over.
 ghost use Rattle.rules.specs.Calls.{Call};
-ghost use Rattle.site.specs.Model.{received, old, new, Valid, Steps};
+ghost use Rattle.site.specs.Model.{received, Valid, Steps, lent};
 
 use super::{CallResult, Site, refusal};
 use forms::{Refusal, ReplyForm, ReplyLine, ReplyNumbers};
@@ -18,8 +18,8 @@ impl Site {
         book: &BookWords,
         lists: &mut ReplyNumbers,
     ) -> CallResult
-        requires { Valid self (received log rows order book) }
-        ensures { Steps self (old log rows order book lists) Call.End result (new log rows order book lists) }
+        requires { Valid self (received log.now rows.now order.now book.now) }
+        ensures { Steps self (lent log.now rows.now order.now book.now lists.old) Call.End result (lent log.now rows.now order.now book.now lists.new) }
     {
         let restoring = self.restoring;
         if restoring {

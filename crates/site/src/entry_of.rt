@@ -1,6 +1,5 @@
 // Entry of: where a live operation stands in the table.
 ghost use Rattle.std.specs.Prelude.{◌≡◌};
-ghost use Rattle.table.specs.Ends.{was};
 ghost use Rattle.table.specs.Tables.{Owns, entry_of, live_numbers};
 
 use super::Site;

@@ -1,5 +1,4 @@
 // Poll: whether a history is dry, by the number that is kept for it.
-ghost use Rattle.table.specs.Ends.{was};
 ghost use Rattle.site.specs.Polls.{ValidWith, Polls};
 
 use super::Site;

@@ -1,7 +1,7 @@
 // Show: what a history is now.
 ghost use Rattle.std.specs.Prelude.{ℕ, List};
 ghost use Rattle.rules.specs.Calls.{Call};
-ghost use Rattle.site.specs.Model.{received, old_with, new_with, Valid, Steps};
+ghost use Rattle.site.specs.Model.{received, Valid, Steps, lent};
 
 use super::{CallResult, Site, refusal};
 use forms::{Refusal, ReplyForm, ReplyLine, Shown, Version};
@@ -17,9 +17,9 @@ impl Site {
         book: &BookWords,
         h: u64,
     ) -> CallResult
-        requires { Valid self (received log rows order book) }
+        requires { Valid self (received log.now rows.now order.now book.now) }
         ensures { (ns : List ℕ) →
-            Steps self (old_with ns log rows order book) (Call.Show h) result (new_with ns log rows order book) }
+            Steps self (lent log.now rows.now order.now book.now ns) (Call.Show h) result (lent log.now rows.now order.now book.now ns) }
     {
         let n = self.count;
         if n as u64 <= h {

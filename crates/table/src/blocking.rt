@@ -3,7 +3,6 @@ ghost use Rattle.std.specs.Prelude.{◌≡◌, ◌≤◌, ◌<◌, length};
 ghost use Rattle.forms.specs.Lists.{any};
 ghost use Rattle.forms.specs.Limits.{history_limit};
 ghost use Rattle.history.specs.Entries.{UsableEntry, item_update};
-ghost use Rattle.table.specs.Ends.{was};
 ghost use Rattle.table.specs.Rows.{HasRow, row_at};
 ghost use Rattle.table.specs.Tables.{rows_in, Usable};
 ghost use Rattle.table.specs.Tries.{entry_updates, held_of, gather, MarksOf, More, free_by};

@@ -4,7 +4,6 @@
 
 ghost use Rattle.std.specs.Prelude.{◌≡◌, ◌+◌, ◌-◌, ◌≤◌, ◌<◌, length, get_or};
 ghost use Rattle.forms.specs.Limits.{live_limit};
-ghost use Rattle.table.specs.Ends.{was, left};
 ghost use Rattle.table.specs.Order.{moved, turned};
 ghost use Rattle.table.specs.Rows.{HasRow, row_at, PutRow, PutMark, PutNoted};
 ghost use Rattle.table.specs.Tables.{live_count};
@@ -111,7 +110,7 @@ impl Table {
     pub fn remove(self, order: &mut [u8], i: usize) -> Table
         requires { (i < self.queue) × (live_count self ≤ length order.old) }
         ensures { (result ≡ record { finished = self.finished; queue = self.queue - 1 }) ×
-            (left order ≡ moved (self.finished + i) (live_count self - 1) order.old) }
+            (order.new ≡ moved (self.finished + i) (live_count self - 1) order.old) }
     {
         let last = self.finished + self.queue - 1;
         move_back(order, self.finished + i, last);
@@ -127,7 +126,7 @@ impl Table {
         requires { (i < self.queue) × (live_count self ≤ length order.old)
             × HasRow rows.old (get_or order.old (self.finished + i) 0) }
         ensures { (result ≡ record { finished = self.finished + 1; queue = self.queue - 1 }) ×
-            (left order ≡ moved (self.finished + i) self.finished order.old) ×
+            (order.new ≡ moved (self.finished + i) self.finished order.old) ×
             PutMark (get_or order.old (self.finished + i) 0) m.0 rows.old rows.new }
     {
         let number = order[self.finished + i];
@@ -160,7 +159,7 @@ impl Table {
     pub fn drop_first(self, order: &mut [u8], k: usize) -> Table
         requires { (k ≤ self.finished) × (live_count self ≤ length order.old) × (length order.old ≤ live_limit) }
         ensures { (result ≡ record { finished = self.finished - k; queue = self.queue }) ×
-            (left order ≡ turned k (live_count self) order.old) }
+            (order.new ≡ turned k (live_count self) order.old) }
     {
         turn(order, k, self.finished + self.queue);
         Table {

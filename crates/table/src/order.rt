@@ -2,7 +2,6 @@
 ghost use Rattle.std.specs.Prelude.{◌≡◌, ◌≤◌, ◌<◌, length};
 ghost use Rattle.forms.specs.Lists.{below};
 ghost use Rattle.forms.specs.Limits.{live_limit};
-ghost use Rattle.table.specs.Ends.{left};
 ghost use Rattle.table.specs.Order.{moved, turned};
 
 use forms::limits::LIVE;
@@ -18,7 +17,7 @@ fn known_length(_order: &[u8]) {}
 
 // All entries free, in rising order.
 pub fn number_all(order: &mut Order)
-    ensures { left order ≡ below live_limit }
+    ensures { order.new ≡ below live_limit }
 {
     known_length(order);
     let mut i: usize = 0;
@@ -31,7 +30,7 @@ pub fn number_all(order: &mut Order)
 // The number at `from` goes to the earlier place `to`; those between move on by one.
 pub fn move_forward(order: &mut [u8], from: usize, to: usize)
     requires { (to ≤ from) × (from < length order.old) }
-    ensures { left order ≡ moved from to order.old }
+    ensures { order.new ≡ moved from to order.old }
 {
     let x = order[from];
     let mut i = from;
@@ -45,7 +44,7 @@ pub fn move_forward(order: &mut [u8], from: usize, to: usize)
 // The number at `from` goes to the later place `to`; those between move up by one.
 pub fn move_back(order: &mut [u8], from: usize, to: usize)
     requires { (from ≤ to) × (to < length order.old) }
-    ensures { left order ≡ moved from to order.old }
+    ensures { order.new ≡ moved from to order.old }
 {
     let x = order[from];
     let mut i = from;
@@ -59,7 +58,7 @@ pub fn move_back(order: &mut [u8], from: usize, to: usize)
 // Of the first n numbers, the first k go behind the others.
 pub fn turn(order: &mut [u8], k: usize, n: usize)
     requires { (k ≤ n) × (n ≤ length order.old) × (length order.old ≤ live_limit) }
-    ensures { left order ≡ turned k n order.old }
+    ensures { order.new ≡ turned k n order.old }
 {
     let mut first = [0u8; LIVE];
     write_word(&mut first, 0, &order[..k]);

@@ -4,7 +4,6 @@ ghost use Rattle.forms.specs.Lists.{any, keep};
 ghost use Rattle.history.specs.Cells.{never_in};
 ghost use Rattle.history.specs.Entries.{UsableEntry, cells_of};
 ghost use Rattle.history.specs.Words.{histories_in};
-ghost use Rattle.table.specs.Ends.{was};
 ghost use Rattle.table.specs.Overtaken.{overtaken_entry, row_in, Covers, Leaves, Examines, Drops};
 ghost use Rattle.table.specs.Rows.{HasRow, row_at};
 ghost use Rattle.table.specs.Tables.{queue_rows, Owns};

@@ -3,7 +3,6 @@ ghost use Rattle.std.specs.Prelude.{◌≡◌, ◌+◌, ◌*◌, ◌≤◌, ◌<
 ghost use Rattle.forms.specs.Limits.{update_limit};
 ghost use Rattle.history.specs.Entries.{no_item};
 ghost use Rattle.history.specs.Words.{within};
-ghost use Rattle.table.specs.Ends.{was};
 ghost use Rattle.table.specs.Rows.{rule_number, rule_named, item_at, PutItem, begun, row_at, mark_at, HasRow, PutRow, PutMark};
 
 use forms::limits::LIVE;

@@ -8,4 +8,7 @@ returns : tie.Need-returns
 returns c ns = says_lists _ [] [] (means_none ns) (means_none ns) (alone_none _ ns ns)
 
 pub bare_spec : {M : Type 1} → statement M
-bare_spec = tie.close (tie.spec returns)
+bare_spec =
+    tie.close
+    (tie.spec
+    returns)

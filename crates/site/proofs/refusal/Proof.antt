@@ -11,5 +11,9 @@ returns : tie.Need-returns
 unfolding outcome_with
 returns c = c.bare.ensures
 
-pub refusal-spec : {M : Type 1} → statement M
-refusal-spec = tie.close (tie.spec bare-requires returns)
+pub refusal_spec : {M : Type 1} → statement M
+refusal_spec =
+    tie.close
+    (tie.spec
+    bare-requires
+    returns)

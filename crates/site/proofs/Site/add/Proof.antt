@@ -39,8 +39,8 @@ use borrow.Author.Rules.{rules}
 use Rattle.site.proofs.Site.add.Statement.{statement}
 use Rattle.site.proofs.Site.add.Tie as tie
 
-bound-asked-requires : tie.Need-bound-asked-requires
-bound-asked-requires c κs = search rules
+bound_asked-requires : tie.Need-bound_asked-requires
+bound_asked-requires c κs = search rules
 
 abbrev came : tie.Start → Lent
 came e = lent e.args.log.now e.args.rows.now e.args.order.now e.args.book.now e.args.lists.now
@@ -60,148 +60,139 @@ abbrev ruled : tie.Start → Option Refusal
 ruled e = add_refusal_when (uses_all (entries e) (at e)) e.args.id (updates_held e.args.asked) (at e)
 
 -- what the checks said is what the specification says
-said : (r : tie.After-admit) →
-    Admits r.before.before.before.before.before.before.before.before.before.before.before.before.args.id (updates_held r.before.before.before.before.before.before.before.before.before.before.before.before.args.asked) (ruled r.before.before.before.before.before.before.before.before.before.before.before.before) r.admit.result
+said : (r : tie.After-admit-admitted) →
+    Admits r.args.id (updates_held r.args.asked) (ruled r.before.before.before.before.before.before.before.before.before) r.admit-admitted.result
 said r =
-    let e = r.before.before.before.before.before.before.before.before.before.before.before.before in
-    let a = e.args in
-    r.admit.ensures
-    _ _ (site_sees (site e) a.log.now e.requires.sound (entries e) e.requires.owns.usable.long a.id _ _ _ r.before.before.before.before.has-id.ensures r.before.before.has-id2.ensures
-    (ap (leb (entries e)) (sym (live-length _ _ _ e.requires.owns))))
+    let a = r.args in
+    r.admit-admitted.ensures
+    _ _ (site_sees (site r.before.before.before.before.before.before.before.before.before) a.log.now r.requires.sound (entries r.before.before.before.before.before.before.before.before.before) r.requires.owns.usable.long a.id _ _ _ r.has_id.ensures r.has_id-2.ensures
+    (ap (leb (entries r.before.before.before.before.before.before.before.before.before)) (sym (live-length _ _ _ r.requires.owns))))
 
 -- .. and nothing where they passed
-free : (t : tie.After-enum-told) → ruled t.before.before.before.before.before.before.before.before.before.before.before.before.before.before.before ≡ none
-free t = passes_is _ (sym t.enum_told.given.1 ∙ (said t.before.before.before).verdict)
+free : (t : tie.In-Passes) → ruled t.before.before.before.before.before.before.before.before.before.before.before ≡ none
+free t = passes_is _ (sym t.in-Passes.is ∙ (said t.before.before).verdict)
 
 -- .. so an entry is free, and the checks of a site alone passed
-own : (t : tie.After-enum-told) → uses_all (entries t.before.before.before.before.before.before.before.before.before.before.before.before.before.before.before) (at t.before.before.before.before.before.before.before.before.before.before.before.before.before.before.before) ≡ false
-own t = let e = t.before.before.before.before.before.before.before.before.before.before.before.before.before.before.before in (free_own (uses_all (entries e) (at e)) e.args.id (updates_held e.args.asked) (at e) (free t)).0
+own : (t : tie.In-Passes) → uses_all (entries t.before.before.before.before.before.before.before.before.before.before.before) (at t.before.before.before.before.before.before.before.before.before.before.before) ≡ false
+own t = (free_own (uses_all (entries t.before.before.before.before.before.before.before.before.before.before.before) (at t.before.before.before.before.before.before.before.before.before.before.before)) t.args.id (updates_held t.args.asked) (at t.before.before.before.before.before.before.before.before.before.before.before) (free t)).0
 
-passed : (t : tie.After-enum-told) → add_refusal t.before.before.before.before.before.before.before.before.before.before.before.before.before.before.before.args.id (updates_held t.before.before.before.before.before.before.before.before.before.before.before.before.before.before.before.args.asked) (at t.before.before.before.before.before.before.before.before.before.before.before.before.before.before.before) ≡ none
-passed t = let e = t.before.before.before.before.before.before.before.before.before.before.before.before.before.before.before in (free_own (uses_all (entries e) (at e)) e.args.id (updates_held e.args.asked) (at e) (free t)).1
+passed : (t : tie.In-Passes) → add_refusal t.args.id (updates_held t.args.asked) (at t.before.before.before.before.before.before.before.before.before.before.before) ≡ none
+passed t = (free_own (uses_all (entries t.before.before.before.before.before.before.before.before.before.before.before) (at t.before.before.before.before.before.before.before.before.before.before.before)) t.args.id (updates_held t.args.asked) (at t.before.before.before.before.before.before.before.before.before.before.before) (free t)).1
 
-room : (t : tie.After-enum-told) → live_count t.before.before.before.before.before.before.before.before.before.before.before.before.before.before.before.args.self.table < entries t.before.before.before.before.before.before.before.before.before.before.before.before.before.before.before
+room : (t : tie.In-Passes) → live_count t.args.self.table < entries t.before.before.before.before.before.before.before.before.before.before.before
 room t =
-    let e = t.before.before.before.before.before.before.before.before.before.before.before.before.before.before.before in
-    omega (arith, room_left (site e) e.args.log.now e.requires.sound (entries e) (own t), live-length _ _ _ e.requires.owns)
+    omega (arith, room_left (site t.before.before.before.before.before.before.before.before.before.before.before) t.args.log.now t.requires.sound (entries t.before.before.before.before.before.before.before.before.before.before.before) (own t), live-length _ _ _ t.requires.owns)
 
 -- the entry is that of the operation
-enters : (t : tie.After-enum-told) →
-    Enters (added_operation t.before.before.before.before.before.before.before.before.before.before.before.before.before.before.before.args.id (updates_held t.before.before.before.before.before.before.before.before.before.before.before.before.before.before.before.args.asked)) t.before.before.before.admit.result.entry
-enters t = (said t.before.before.before).enters t.enum_told.given.1
+enters : (t : tie.In-Passes) →
+    Enters (added_operation t.args.id (updates_held t.args.asked)) t.admit-admitted.result.entry
+enters t = (said t.before.before).enters t.in-Passes.is
 
 -- the operations that are live
-add-live : tie.Need-overflow-add-live
-add-live c = omega (arith, c.before.before.before.before.before.before.requires.owns.usable.few, c.before.before.before.before.before.before.requires.owns.usable.long)
+overflow_add-live : tie.Need-overflow_add-live
+overflow_add-live c = omega (arith, c.requires.owns.usable.few, c.requires.owns.usable.long)
 
-has-id-requires : tie.Need-has-id-requires
-has-id-requires c κs = (c.before.before.before.before.before.before.before.requires.owns.usable, omega arith)
+has_id-requires : tie.Need-has_id-requires
+has_id-requires c κs = (c.requires.owns.usable, omega arith)
 
-has-id-requires-2 : tie.Need-has-id-requires-2
-has-id-requires-2 c κs =
-    (usable_fewer _ _ _ c.before.before.before.before.before.before.before.before.before.args.self.table.finished c.before.before.before.before.before.before.before.before.before.requires.owns.usable (omega arith), omega arith)
+has_id-requires-2 : tie.Need-has_id-requires-2
+has_id-requires-2 c κs =
+    (usable_fewer _ _ _ c.args.self.table.finished c.requires.owns.usable (omega arith), omega arith)
 
-admit-requires : tie.Need-admit-requires
-admit-requires c κs = count_most _ _ c.before.before.before.before.before.before.before.before.before.before.before.requires.sound
+admit-admitted-requires : tie.Need-admit-admitted-requires
+admit-admitted-requires c κs = count_most _ _ c.requires.sound
 
-enum-known-verdict : tie.Need-enum-known-verdict
-enum-known-verdict c = search rules
+enum_known-verdict : tie.Need-enum_known-verdict
+enum_known-verdict c = search rules
 
 refusal-requires : tie.Need-refusal-requires
 refusal-requires c κs = search rules
 
-enum_told : tie.Need-enum-told
-enum_told c = search rules
+enum_told-1 : tie.Need-enum_told-1
+enum_told-1 c = search rules
 
-push-requires : tie.Need-push-requires
-push-requires c κs = let t = c.before in (room t, c.before.before.before.before.before.before.before.before.before.before.before.before.before.before.before.before.requires.owns.within _ (room t))
+push-next-requires : tie.Need-push-next-requires
+push-next-requires c κs = (room c.before, c.requires.owns.within _ (room c.before))
 
 -- the table with it
-pushing : (p : tie.After-push) →
-    Becomes p.before.before.before.before.before.before.before.before.before.before.before.before.before.before.before.before.before.args.order.now p.before.before.before.before.before.before.before.before.before.before.before.before.before.before.before.before.before.args.rows.now p.push.result p.before.before.before.before.before.before.before.before.before.before.before.before.before.before.before.before.before.args.order.now p.push.new.1.1.0
-    (site p.before.before.before.before.before.before.before.before.before.before.before.before.before.before.before.before.before).finished ((site p.before.before.before.before.before.before.before.before.before.before.before.before.before.before.before.before.before).queue ++ (p.before.before.before.before.before.admit.result.entry ∷ []))
+pushing : (p : tie.After-push-next) →
+    Becomes p.args.order.now p.args.rows.now p.push-next.result p.args.order.now p.push-next.new.rows
+    (site p.before.before.before.before.before.before.before.before.before.before.before.before.before).finished ((site p.before.before.before.before.before.before.before.before.before.before.before.before.before).queue ++ (p.admit-admitted.result.entry ∷ []))
 pushing p =
-    let t = p.before.before in
-    becomes_as p.push.ensures.0
-    (pushed _ _ _ p.before.before.before.before.before.before.before.before.before.before.before.before.before.before.before.before.before.requires.owns p.before.before.before.before.before.admit.result.entry _ (enters t).usable (room t) p.push.ensures.1)
+    becomes_as p.push-next.ensures.0
+    (pushed _ _ _ p.requires.owns p.admit-admitted.result.entry _ (enters p.before.before).usable (room p.before.before) p.push-next.ensures.1)
 
 raise-requires : tie.Need-raise-requires
 raise-requires c κs =
-    let t = c.before.before.before.before.before in
-    let e = c.before.before.before.before.before.before.before.before.before.before.before.before.before.before.before.before.before.before.before.before in
-    ((enters t).usable, passed-counts (site e) e.args.log.now e.requires.sound e.args.id _ (passed t) _ (enters t))
+    ((enters c.before.before.before.before.before).usable, passed-counts (site c.before.before.before.before.before.before.before.before.before.before.before.before.before.before.before.before) c.args.log.now c.requires.sound c.args.id _ (passed c.before.before.before.before.before) _ (enters c.before.before.before.before.before))
 
-try-all-requires : tie.Need-try-all-requires
-try-all-requires c κs = let p = c.before.before.before.before.before.before.before in ((pushing p).owns, omega (arith, (pushing p).owns.usable.few, (pushing p).owns.usable.long))
+try_all-ready-requires : tie.Need-try_all-ready-requires
+try_all-ready-requires c κs = ((pushing c.before.before.before.before.before.before).owns, omega (arith, (pushing c.before.before.before.before.before.before).owns.usable.few, (pushing c.before.before.before.before.before.before).owns.usable.long))
 
-same_length : tie.Need-same-length
-same_length c = search rules
+shape_of-rows-in-Refused : tie.Need-shape_of-rows-in-Refused
+shape_of-rows-in-Refused c = search rules
 
-returns : tie.Need-returns
-returns c =
-    let r = c.before.before.before.before.before in
-    let e = c.before.before.before.before.before.before.before.before.before.before.before.before.before.before.before.before.before in
-    let a = e.args in
-    let t = c.before.before.before.before.before.before.before.before.before.before.before.before.before.bound-asked.ensures in
-    let le : a.id ≤ top = omega (arith, e.ranges.id) in
-    refuses a.self (came e) _ _ _
-    (add_refused_lem (entries e) a.id _ (view a.self (came e)) le (updates_writable _ t) _
-    (refused_is _ _ (sym c.before.before.verdict.given.1 ∙ (said r).verdict))) (c.refusal.ensures a.lists.now) refl
+returns-in-Refused : tie.Need-returns-in-Refused
+returns-in-Refused c =
+    let a = c.args in
+    let t = c.bound_asked.ensures in
+    let le : a.id ≤ top = omega (arith, c.ranges.id) in
+    refuses a.self (came c.before.before.before.before.before.before.before.before.before.before.before.before) _ _ _
+    (add_refused_lem (entries c.before.before.before.before.before.before.before.before.before.before.before.before) a.id _ (view a.self (came c.before.before.before.before.before.before.before.before.before.before.before.before)) le (updates_writable _ t) _
+    (refused_is _ _ (sym c.in-Refused.is ∙ (said c.before.before.before).verdict))) (c.refusal.ensures a.lists.now) refl
 
-same-length-2 : tie.Need-same-length-2
-same-length-2 c = c.before.before.try-all.ensures.frame.long ∙ c.before.before.before.before.before.before.before.before.before.before.push.ensures.1.long
+shape_of-rows-in-Passes : tie.Need-shape_of-rows-in-Passes
+shape_of-rows-in-Passes c = c.try_all-ready.ensures.frame.long ∙ c.push-next.ensures.1.long
 
-returns-2 : tie.Need-returns-2
-returns-2 c =
-    let e = c.before.before.before.before.before.before.before.before.before.before.before.before.before.before.before.before.before.before.before.before.before.before.before.before.before.before.before in
-    let a = e.args in
-    let m = came e in
-    let t = c.before.before.before.before.before.before.before.before.before.before.before.before.before.before.before.before.before.before.before.before.before.before.before.bound-asked.ensures in
-    let le : a.id ≤ top = omega (arith, e.ranges.id) in
-    let f = passed c.before.before.before.before.before.before.before.before.before.before.before.before in
-    let y = enters c.before.before.before.before.before.before.before.before.before.before.before.before in
-    let p = c.before.before.before.before.before.before.before.before.before.before in
-    let b = pushing p in
-    let counts = c.before.before.before.before.before.before.raise.ensures in
-    let book = c.before.before.before.before.before.before.raise.new.0 in
-    let try = c.before.before.try-all in
-    let rows = try.new.1.1.0 in
-    let q = queue_rows p.push.result m.order p.push.new.1.1.0 in
-    let new = lent m.log rows m.order book try.new.1.1.1.1.0 in
+returns-in-Passes : tie.Need-returns-in-Passes
+returns-in-Passes c =
+    let a = c.args in
+    let m = came c.before.before.before.before.before.before.before.before.before.before.before.before.before.before.before.before.before.before.before.before.before.before in
+    let t = c.bound_asked.ensures in
+    let le : a.id ≤ top = omega (arith, c.ranges.id) in
+    let f = passed c.before.before.before.before.before.before.before.before.before.before.before in
+    let y = enters c.before.before.before.before.before.before.before.before.before.before.before in
+    let b = pushing c.before.before.before.before.before.before.before.before.before in
+    let counts = c.raise.ensures in
+    let book = c.raise.new.book in
+    let try = c.try_all-ready in
+    let rows = try.new.rows in
+    let q = queue_rows c.push-next.result m.order c.push-next.new.rows in
+    let new = lent m.log rows m.order book try.new.lists in
     does a.self m _ _ new
-    (accepts_as (sym (within_plain (entries e) (Call.Add a.id (updates_held a.asked)) (at e) (own c.before.before.before.before.before.before.before.before.before.before.before.before)))
+    (accepts_as (sym (within_plain (entries c.before.before.before.before.before.before.before.before.before.before.before.before.before.before.before.before.before.before.before.before.before.before) (Call.Add a.id (updates_held a.asked)) (at c.before.before.before.before.before.before.before.before.before.before.before.before.before.before.before.before.before.before.before.before.before.before) (own c.before.before.before.before.before.before.before.before.before.before.before)))
     (accepts_book m.log _ _ _ m.log counts.histories (counts.others 3 (omega arith) (λ (k : 3 ≡ 5). omega (arith, k)))
     (counts.others 4 (omega arith) (λ (k : 4 ≡ 5). omega (arith, k))) refl
     (accepts-rows m.log _ _ _ m.log (try.ensures.finished ∙ b.finished_is)
     (try.ensures.noted
-    ∙ (ap (λ (z : Table). marks_in z m.order p.push.new.1.1.0) p.push.ensures.0
-    ∙ marks_pushed a.self.table m.order m.rows e.requires.owns _ _ (a.self.table.queue + 1) p.push.ensures.1)) refl
-    (add_does (site e) m.log e.requires.sound a.id _ le (updates_writable _ t) f _ y
-    q b.queue_is (queue_rows p.push.result m.order rows)
+    ∙ (ap (λ (z : Table). marks_in z m.order c.push-next.new.rows) c.push-next.ensures.0
+    ∙ marks_pushed a.self.table m.order m.rows c.requires.owns _ _ (a.self.table.queue + 1) c.push-next.ensures.1)) refl
+    (add_does (site c.before.before.before.before.before.before.before.before.before.before.before.before.before.before.before.before.before.before.before.before.before.before) m.log c.requires.sound a.id _ le (updates_writable _ t) f _ y
+    q b.queue_is (queue_rows c.push-next.result m.order rows)
     (try.ensures.queue ∙ ap (λ (hs : List History). try_all_in (cells_of hs) (operations_of q)) counts.histories) _
     (means_is (means_one try.ensures.ready)
     (ap (λ (hs : List History). made_ready (operations_of q) (try_all_in (cells_of hs) (operations_of q))) counts.histories))
     (busy_in book) counts.numbers _))))
     (keeps_tried b try.ensures.owns try.ensures.frame)
-    (counts.past a.self.count (all_in_first a.self.count c.before.before.before.before.before.before.before.before.before.before.before.before.before.before.before.admit.result.entry (passed_first (site e) m.log e.requires.sound a.id _ f _ y)))
+    (counts.past a.self.count (all_in_first a.self.count c.admit-admitted.result.entry (passed_first (site c.before.before.before.before.before.before.before.before.before.before.before.before.before.before.before.before.before.before.before.before.before.before) m.log c.requires.sound a.id _ f _ y)))
     (past_one try.ensures.ready)
 
 pub add_spec : {M : Type 1} → statement M
 add_spec =
     tie.close
     (tie.spec
-    bound-asked-requires
-    add-live
-    has-id-requires
-    has-id-requires-2
-    admit-requires
-    enum-known-verdict
+    bound_asked-requires
+    overflow_add-live
+    has_id-requires
+    has_id-requires-2
+    admit-admitted-requires
+    enum_known-verdict
     refusal-requires
-    enum_told
-    push-requires
+    enum_told-1
+    push-next-requires
     raise-requires
-    try-all-requires
-    same_length
-    returns
-    same-length-2
-    returns-2)
+    try_all-ready-requires
+    shape_of-rows-in-Refused
+    returns-in-Refused
+    shape_of-rows-in-Passes
+    returns-in-Passes)

@@ -14,42 +14,40 @@ use borrow.Author.Rules.{rules}
 use Rattle.site.proofs.Site.end.Statement.{statement}
 use Rattle.site.proofs.Site.end.Tie as tie
 
-add-ids : tie.Need-overflow-add-ids
-add-ids c = omega (arith, c.before.before.before.before.before.before.requires.owns.usable.few, c.before.before.before.before.before.before.requires.owns.usable.long)
+overflow_add-finished : tie.Need-overflow_add-finished
+overflow_add-finished c = omega (arith, c.requires.owns.usable.few, c.requires.owns.usable.long)
 
-ids-requires : tie.Need-ids-requires
-ids-requires c κs = let e = c.before.before.before.before.before.before.before in (e.requires.owns.usable, omega arith, omega arith)
+ids-named-requires : tie.Need-ids-named-requires
+ids-named-requires c κs = (c.requires.owns.usable, omega arith, omega arith)
 
 refusal-requires : tie.Need-refusal-requires
 refusal-requires c κs = search rules
 
-returns : tie.Need-returns
-returns c =
-    let e = c.before.before.before.before.before.before.before.before in
-    let a = e.args in
+returns-then-restoring : tie.Need-returns-then-restoring
+returns-then-restoring c =
+    let a = c.args in
     let m = lent a.log.now a.rows.now a.order.now a.book.now a.lists.now in
     let left : Table = record { finished = a.self.table.finished; queue = 0 } in
-    let named = c.ids in
-    let list = named.new.1.1.1.1.0 in
+    let named = c.ids-named in
+    let list = named.new.lists in
     does a.self m _ _ (lent m.log m.rows m.order m.book list)
-    (end_does (represented a.self m) a.log.now e.requires.sound c.before.before.before.before.if1.true
+    (end_does (represented a.self m) a.log.now c.requires.sound c.if-restoring.true
     (queue_rows left m.order m.rows) (no_rows m.order m.rows left.finished (left.finished + 0) (omega arith)) _ _ (means_one named.ensures))
-    (keeps_fewer a.self.table left m.order m.rows e.requires.owns (omega arith)) refl (past_one named.ensures)
+    (keeps_fewer a.self.table left m.order m.rows c.requires.owns (omega arith)) refl (past_one named.ensures)
 
-returns-2 : tie.Need-returns-2
-returns-2 c =
-    let e = c.before.before.before.before.before in
-    let a = e.args in
+returns-else-restoring : tie.Need-returns-else-restoring
+returns-else-restoring c =
+    let a = c.args in
     let m = lent a.log.now a.rows.now a.order.now a.book.now a.lists.now in
-    refuses a.self m _ OutOfTurn _ (end_refused (represented a.self m) a.log.now c.before.if1.false)
+    refuses a.self m _ OutOfTurn _ (end_refused (represented a.self m) a.log.now c.if-restoring.false)
     (c.refusal.ensures a.lists.now) refl
 
-pub end-spec : {M : Type 1} → statement M
-end-spec =
+pub end_spec : {M : Type 1} → statement M
+end_spec =
     tie.close
     (tie.spec
-    add-ids
-    ids-requires
+    overflow_add-finished
+    ids-named-requires
     refusal-requires
-    returns
-    returns-2)
+    returns-then-restoring
+    returns-else-restoring)

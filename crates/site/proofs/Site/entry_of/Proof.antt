@@ -3,19 +3,19 @@ use native.Mathlib.Omega.{arith}
 use Rattle.site.proofs.Site.entry_of.Statement.{statement}
 use Rattle.site.proofs.Site.entry_of.Tie as tie
 
-add-entry-of : tie.Need-overflow-add-entry-of
-add-entry-of c = omega (arith, c.before.before.before.before.requires.usable.few, c.before.before.before.before.requires.usable.long)
+overflow_add-table : tie.Need-overflow_add-table
+overflow_add-table c = omega (arith, c.requires.usable.few, c.requires.usable.long)
 
-entry-of-requires : tie.Need-entry-of-requires
-entry-of-requires c κs = c.before.before.before.before.requires.usable
+entry_of-requires : tie.Need-entry_of-requires
+entry_of-requires c κs = c.requires.usable
 
 returns : tie.Need-returns
 returns c = c.entry_of.ensures
 
-pub entry-of-spec : {M : Type 1} → statement M
-entry-of-spec =
+pub entry_of_spec : {M : Type 1} → statement M
+entry_of_spec =
     tie.close
     (tie.spec
-    add-entry-of
-    entry-of-requires
+    overflow_add-table
+    entry_of-requires
     returns)

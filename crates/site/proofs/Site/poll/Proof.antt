@@ -16,42 +16,47 @@ use Rattle.site.proofs.Site.poll.Tie as tie
 abbrev site : tie.Start → List ℕ → List ℕ → List ℕ → Representation
 site e log rows order = represented e.args.self (lent log rows order e.args.book.now [])
 
-returns : tie.Need-returns
-returns c = λ log rows order v. poll_absent (site c.before log rows order) log v.sound _ c.if1.true
+returns-then-n-h : tie.Need-returns-then-n-h
+returns-then-n-h c = λ log rows order v. poll_absent (site c.before log rows order) log v.sound _ c.if-n-h.true
 
 -- a history that there is, is one of sixteen
-few : (e : tie.Else1) → e.before.args.h < 16
-few e = omega (arith, e.if1.false, with_most _ _ e.before.requires)
+few : (e : tie.Else-n-h) → e.args.h < 16
+few e = omega (arith, e.if-n-h.false, with_most _ _ e.requires)
 
-mul-if2 : tie.Need-overflow-mul-if2
-mul-if2 c = omega (arith, few c)
+overflow_mul-i : tie.Need-overflow_mul-i
+overflow_mul-i c = omega (arith, few c)
 
-add-if2 : tie.Need-overflow-add-if2
-add-if2 c = omega (arith, few c)
+overflow_add-i : tie.Need-overflow_add-i
+overflow_add-i c = omega (arith, few c)
 
-mul-if2-2 : tie.Need-overflow-mul-if2-2
-mul-if2-2 c = omega (arith, few c)
+offset_bounds-book-i : tie.Need-offset_bounds-book-i
+offset_bounds-book-i c = omega (arith, few c)
 
-element-copy-out-if2 : tie.Need-element-copy-out-if2
-element-copy-out-if2 c = omega (arith, few c)
+bounds-book-i : tie.Need-bounds-book-i
+bounds-book-i c = omega (arith, few c.before)
 
-returns-2 : tie.Need-returns-2
+returns-then-book-i-eq0 : tie.Need-returns-then-book-i-eq0
 unfolding polled_of
-returns-2 c =
+returns-then-book-i-eq0 c =
     λ log rows order v.
-    let e = c.before.before.before in
-    let i = c.before.before in
-    poll-counted (site e log rows order) log v.sound e.args.h i.if1.false true
-    (eq-eqb _ _ (column_in 5 e.args.book.now e.args.h (few i) ∙ c.if2.true))
+    poll-counted (site c.before.before.before.before log rows order) log v.sound c.args.h c.if-n-h.false true
+    (eq-eqb _ _ (column_in 5 c.args.book.now c.args.h (few c.before.before.before) ∙ c.if-book-i-eq0.true))
 
-returns-3 : tie.Need-returns-3
+returns-else-book-i-eq0 : tie.Need-returns-else-book-i-eq0
 unfolding polled_of
-returns-3 c =
+returns-else-book-i-eq0 c =
     λ log rows order v.
-    let e = c.before.before.before in
-    let i = c.before.before in
-    poll-counted (site e log rows order) log v.sound e.args.h i.if1.false false
-    (ne_eqb _ _ (λ q. c.if2.false (sym (column_in 5 e.args.book.now e.args.h (few i)) ∙ q)))
+    poll-counted (site c.before.before.before.before log rows order) log v.sound c.args.h c.if-n-h.false false
+    (ne_eqb _ _ (λ q. c.if-book-i-eq0.false (sym (column_in 5 c.args.book.now c.args.h (few c.before.before.before)) ∙ q)))
 
 pub poll_spec : {M : Type 1} → statement M
-poll_spec = tie.close (tie.spec returns mul-if2 add-if2 mul-if2-2 element-copy-out-if2 returns-2 returns-3)
+poll_spec =
+    tie.close
+    (tie.spec
+    returns-then-n-h
+    overflow_mul-i
+    overflow_add-i
+    offset_bounds-book-i
+    bounds-book-i
+    returns-then-book-i-eq0
+    returns-else-book-i-eq0)

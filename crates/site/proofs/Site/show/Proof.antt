@@ -16,74 +16,71 @@ use Rattle.site.proofs.Site.show.Tie as tie
 refusal-requires : tie.Need-refusal-requires
 refusal-requires c κs = search rules
 
-returns : tie.Need-returns
-returns c =
+returns-then-n-h : tie.Need-returns-then-n-h
+returns-then-n-h c =
     λ ns.
-    let e = c.before.before.before.before.before in
-    let a = e.args in
+    let a = c.args in
     let m = lent a.log.now a.rows.now a.order.now a.book.now ns in
-    let le : a.h ≤ top = omega (arith, e.ranges.h) in
-    refuses a.self m _ NoSuchHistory _ (show_refused (represented a.self m) a.log.now a.h le c.before.if1.true)
+    let le : a.h ≤ top = omega (arith, c.ranges.h) in
+    refuses a.self m _ NoSuchHistory _ (show_refused (represented a.self m) a.log.now a.h le c.if-n-h.true)
     (c.refusal.ensures ns) refl
 
 -- A history that there is, is one of sixteen.
-few : (e : tie.Else1) → e.before.before.before.before.args.h < 16
-few e = omega (arith, e.if1.false, count_most _ _ e.before.before.before.before.requires.sound)
+few : (e : tie.Else-n-h) → e.args.h < 16
+few e = omega (arith, e.if-n-h.false, count_most _ _ e.requires.sound)
 
-history-at-requires : tie.Need-history-at-requires
-history-at-requires c κs = few c
+history_at-c-requires : tie.Need-history_at-c-requires
+history_at-c-requires c κs = few c
 
-mul-t17 : tie.Need-overflow-mul-t17
-mul-t17 c = omega (arith, few c.before.before.before)
+overflow_mul-shown : tie.Need-overflow_mul-shown
+overflow_mul-shown c = omega (arith, few c.before.before.before)
 
-add-t18 : tie.Need-overflow-add-t18
-add-t18 c = omega (arith, few c.before.before.before)
+overflow_add-shown : tie.Need-overflow_add-shown
+overflow_add-shown c = omega (arith, few c.before.before.before)
 
-mul-t19 : tie.Need-overflow-mul-t19
-mul-t19 c = omega (arith, few c.before.before.before)
+offset_bounds-book-i : tie.Need-offset_bounds-book-i
+offset_bounds-book-i c = omega (arith, few c.before.before.before)
 
-element-copy-out-t13 : tie.Need-element-copy-out-t13
-element-copy-out-t13 c = omega (arith, few c.before.before.before)
+bounds-book-i : tie.Need-bounds-book-i
+bounds-book-i c = omega (arith, few c.before.before.before.before)
 
-mul-t23 : tie.Need-overflow-mul-t23
-mul-t23 c = omega (arith, few c.before.before.before.before)
+overflow_mul-shown-2 : tie.Need-overflow_mul-shown-2
+overflow_mul-shown-2 c = omega (arith, few c.before.before.before.before.before)
 
-add-t24 : tie.Need-overflow-add-t24
-add-t24 c = omega (arith, few c.before.before.before.before)
+overflow_add-shown-2 : tie.Need-overflow_add-shown-2
+overflow_add-shown-2 c = omega (arith, few c.before.before.before.before.before)
 
-mul-t25 : tie.Need-overflow-mul-t25
-mul-t25 c = omega (arith, few c.before.before.before.before)
+offset_bounds-book-i-2 : tie.Need-offset_bounds-book-i-2
+offset_bounds-book-i-2 c = omega (arith, few c.before.before.before.before.before)
 
-element-copy-out-t28 : tie.Need-element-copy-out-t28
-element-copy-out-t28 c = omega (arith, few c.before.before.before.before)
+bounds-book-i-2 : tie.Need-bounds-book-i-2
+bounds-book-i-2 c = omega (arith, few c.before.before.before.before.before)
 
-returns-2 : tie.Need-returns-2
-returns-2 c =
+returns : tie.Need-returns
+returns c =
     λ ns.
-    let i = c.before.before.before.before.before in
-    let e = c.before.before.before.before.before.before.before.before.before in
-    let a = e.args in
+    let a = c.args in
     let book = a.book.now in
     let m = lent a.log.now a.rows.now a.order.now book ns in
-    let few-h = few i in
+    let few-h = few c.before.before.before.before.before.before in
     does a.self m _ _ m
-    (show_does (represented a.self m) a.log.now a.h e.requires.sound (omega (arith, e.ranges.h)) i.if1.false
-    _ c.before.before.before.before.history-at.ensures _ (sym (column_in 3 book a.h few-h))
-    _ (sym (column_in 4 book a.h few-h)) ns ns) (keeps_same a.self.table m.order m.rows e.requires.owns) refl refl
+    (show_does (represented a.self m) a.log.now a.h c.requires.sound (omega (arith, c.ranges.h)) c.if-n-h.false
+    _ c.history_at-c.ensures _ (sym (column_in 3 book a.h few-h))
+    _ (sym (column_in 4 book a.h few-h)) ns ns) (keeps_same a.self.table m.order m.rows c.requires.owns) refl refl
 
-pub show-spec : {M : Type 1} → statement M
-show-spec =
+pub show_spec : {M : Type 1} → statement M
+show_spec =
     tie.close
     (tie.spec
     refusal-requires
-    returns
-    history-at-requires
-    mul-t17
-    add-t18
-    mul-t19
-    element-copy-out-t13
-    mul-t23
-    add-t24
-    mul-t25
-    element-copy-out-t28
-    returns-2)
+    returns-then-n-h
+    history_at-c-requires
+    overflow_mul-shown
+    overflow_add-shown
+    offset_bounds-book-i
+    bounds-book-i
+    overflow_mul-shown-2
+    overflow_add-shown-2
+    offset_bounds-book-i-2
+    bounds-book-i-2
+    returns)

@@ -37,135 +37,126 @@ came e = lent e.args.log.now e.args.rows.now e.args.order.now e.args.book.now e.
 abbrev site : tie.Start → Representation
 site e = represented e.args.self (came e)
 
-returns : tie.Need-returns
-returns c =
-    let e = c.before.before.before.before.before in
-    refuses e.args.self (came e) _ OutOfTurn _
-    (withdraw_refused_turn (site e) e.args.log.now e.args.id (omega (arith, e.ranges.id)) c.before.if1.true)
-    (c.refusal.ensures e.args.lists.now) refl
+returns-then-restoring : tie.Need-returns-then-restoring
+returns-then-restoring c =
+    refuses c.args.self (came c.before.before.before.before.before) _ OutOfTurn _
+    (withdraw_refused_turn (site c.before.before.before.before.before) c.args.log.now c.args.id (omega (arith, c.ranges.id)) c.if-restoring.true)
+    (c.refusal.ensures c.args.lists.now) refl
 
-add-find : tie.Need-overflow-add-find
-add-find c = omega (arith, c.before.before.before.before.before.before.before.requires.owns.usable.few, c.before.before.before.before.before.before.before.requires.owns.usable.long)
+overflow_add-finished : tie.Need-overflow_add-finished
+overflow_add-finished c = omega (arith, c.requires.owns.usable.few, c.requires.owns.usable.long)
 
 find-requires : tie.Need-find-requires
-find-requires c κs = (c.before.before.before.before.before.before.before.requires.owns.usable, omega arith)
+find-requires c κs = (c.requires.owns.usable, omega arith)
 
-enum_told : tie.Need-enum-told
-enum_told c = search rules
+enum_told-1 : tie.Need-enum_told-1
+enum_told-1 c = search rules
 
-refusal-requires-2 : tie.Need-refusal-requires-2
-refusal-requires-2 c κs = search rules
+refusal-requires-in-Nothing : tie.Need-refusal-requires-in-Nothing
+refusal-requires-in-Nothing c κs = search rules
 
-enum-known-at : tie.Need-enum-known-at
-enum-known-at c = search rules
+enum_known-at : tie.Need-enum_known-at
+enum_known-at c = search rules
 
 -- the place of the operation that was found
-found : (f : tie.After-at) → first_at (is_entry f.before.before.before.before.before.before.before.before.before.before.args.id false) (site f.before.before.before.before.before.before.before.before.before.before).queue ≡ At f.at.given.0.0
-found f = sym f.before.before.find.ensures ∙ f.at.given.1
+found : (f : tie.In-At) → first_at (is_entry f.args.id false) (site f.before.before.before.before.before.before.before.before).queue ≡ At f.in-At.at
+found f = sym f.find.ensures ∙ f.in-At.is
 
-below : (f : tie.After-at) → f.at.given.0.0 < f.before.before.before.before.before.before.before.before.before.before.args.self.table.queue
+below : (f : tie.In-At) → f.in-At.at < f.args.self.table.queue
 below f =
-    let e = f.before.before.before.before.before.before.before.before.before.before in
-    omega (arith, found_below (site e).queue e.args.id false _ (found f), queue-length _ _ _ e.requires.owns)
+    omega (arith, found_below (site f.before.before.before.before.before.before.before.before).queue f.args.id false _ (found f), queue-length _ _ _ f.requires.owns)
 
-column-at-requires : tie.Need-column-at-requires
-column-at-requires c κs = omega arith
+column_at-before-requires : tie.Need-column_at-before-requires
+column_at-before-requires c κs = omega arith
 
-queued-at-requires : tie.Need-queued-at-requires
-queued-at-requires c κs =
-    let e = c.before.before.before.before.before.before.before.before.before.before.before.before.before.before.before in
-    let f = c.before.before.before.before.before in
-    let few : e.args.self.table.finished + f.at.given.0.0 < length e.args.order.now = omega (arith, below f, e.requires.owns.usable.few, e.requires.owns.usable.long) in
-    (few, e.requires.owns.within _ few)
+queued_at-requires : tie.Need-queued_at-requires
+queued_at-requires c κs =
+    let few : c.args.self.table.finished + c.in-At.at < length c.args.order.now = omega (arith, below c.before.before, c.requires.owns.usable.few, c.requires.owns.usable.long) in
+    (few, c.requires.owns.within _ few)
 
 -- the row, as it was read
-read : (x : tie.After-queued-at) → x.queued-at.result ≡ get_or (site x.before.before.before.before.before.before.before.before.before.before.before.before.before.before.before.before).queue x.before.before.before.before.before.before.at.given.0.0 past_entry
-read x = let e = x.before.before.before.before.before.before.before.before.before.before.before.before.before.before.before.before in x.queued-at.ensures ∙ sym (queue-at _ _ _ e.requires.owns _ past_entry (below x.before.before.before.before.before.before))
+read : (x : tie.After-queued_at) → x.queued_at.result ≡ get_or (site x.before.before.before.before.before.before.before.before.before.before.before).queue x.in-At.at past_entry
+read x = x.queued_at.ensures ∙ sym (queue-at _ _ _ x.requires.owns _ past_entry (below x.before.before.before))
 
-usable : (x : tie.After-queued-at) → UsableEntry x.queued-at.result
-usable x = let e = x.before.before.before.before.before.before.before.before.before.before.before.before.before.before.before.before in subst UsableEntry (sym x.queued-at.ensures) (queue_usable _ _ _ e.requires.owns _ (below x.before.before.before.before.before.before))
+usable : (x : tie.After-queued_at) → UsableEntry x.queued_at.result
+usable x = subst UsableEntry (sym x.queued_at.ensures) (queue_usable _ _ _ x.requires.owns _ (below x.before.before.before))
 
 lower-requires : tie.Need-lower-requires
 lower-requires c κs =
-    let e = c.before.before.before.before.before.before.before.before.before.before.before.before.before.before.before.before in
-    (usable c, withdraw-counts (site e) e.args.log.now e.args.id _ e.requires.sound c.before.before.before.before.before.before.before.before.before.before.before.before.if1.false (found c.before.before.before.before.before.before) _ (read c) (usable c))
+    (usable c, withdraw-counts (site c.before.before.before.before.before.before.before.before.before.before.before) c.args.log.now c.args.id _ c.requires.sound c.if-restoring.false (found c.before.before.before) _ (read c) (usable c))
 
-column-at-requires-2 : tie.Need-column-at-requires-2
-column-at-requires-2 c κs = omega arith
+column_at-after-requires : tie.Need-column_at-after-requires
+column_at-after-requires c κs = omega arith
 
-name-histories-requires : tie.Need-name-histories-requires
-name-histories-requires c κs = ((marks_ordered _ _ c.before.before.before.before.before.before.before.before.before.before.before.before.before.before.before.before.before.before.before.before.requires.sound).few, omega arith)
+name_histories-dry-requires : tie.Need-name_histories-dry-requires
+name_histories-dry-requires c κs = ((marks_ordered _ _ c.requires.sound).few, omega arith)
 
-remove-requires : tie.Need-remove-requires
-remove-requires c κs = (below c.before.before.before.before.before.before.before.before.before.before.before.before, omega (arith, c.before.before.before.before.before.before.before.before.before.before.before.before.before.before.before.before.before.before.before.before.before.before.requires.owns.usable.few, c.before.before.before.before.before.before.before.before.before.before.before.before.before.before.before.before.before.before.before.before.before.before.requires.owns.usable.long))
+remove-left-requires : tie.Need-remove-left-requires
+remove-left-requires c κs = (below c.before.before.before.before.before.before.before.before, omega (arith, c.requires.owns.usable.few, c.requires.owns.usable.long))
 
 -- the table without it
-without : (r : tie.After-remove) →
-    Becomes r.before.before.before.before.before.before.before.before.before.before.before.before.before.before.before.before.before.before.before.before.before.before.before.args.order.now r.before.before.before.before.before.before.before.before.before.before.before.before.before.before.before.before.before.before.before.before.before.before.before.args.rows.now r.remove.result r.remove.new.1.0 r.before.before.before.before.before.before.before.before.before.before.before.before.before.before.before.before.before.before.before.before.before.before.before.args.rows.now
-    (site r.before.before.before.before.before.before.before.before.before.before.before.before.before.before.before.before.before.before.before.before.before.before.before).finished (take r.before.before.before.before.before.before.before.before.before.before.before.before.before.at.given.0.0 (site r.before.before.before.before.before.before.before.before.before.before.before.before.before.before.before.before.before.before.before.before.before.before.before).queue ++ drop (r.before.before.before.before.before.before.before.before.before.before.before.before.before.at.given.0.0 + 1) (site r.before.before.before.before.before.before.before.before.before.before.before.before.before.before.before.before.before.before.before.before.before.before.before).queue)
+without : (r : tie.After-remove-left) →
+    Becomes r.args.order.now r.args.rows.now r.remove-left.result r.remove-left.new.order r.args.rows.now
+    (site r.before.before.before.before.before.before.before.before.before.before.before.before.before.before.before.before.before).finished (take r.in-At.at (site r.before.before.before.before.before.before.before.before.before.before.before.before.before.before.before.before.before).queue ++ drop (r.in-At.at + 1) (site r.before.before.before.before.before.before.before.before.before.before.before.before.before.before.before.before.before).queue)
 without r =
-    let e = r.before.before.before.before.before.before.before.before.before.before.before.before.before.before.before.before.before.before.before.before.before.before.before in
-    becomes_as r.remove.ensures.0 (removed _ _ _ e.requires.owns _ (below r.before.before.before.before.before.before.before.before.before.before.before.before.before) _ r.remove.ensures.1)
+    becomes_as r.remove-left.ensures.0 (removed _ _ _ r.requires.owns _ (below r.before.before.before.before.before.before.before.before.before) _ r.remove-left.ensures.1)
 
-same_length : tie.Need-same-length
-same_length c = search rules
+shape_of-order-in-Nothing : tie.Need-shape_of-order-in-Nothing
+shape_of-order-in-Nothing c = search rules
 
-returns-2 : tie.Need-returns-2
-returns-2 c =
-    let e = c.before.before.before.before.before.before.before.before.before.before.before in
-    refuses e.args.self (came e) _ WrongState _
-    (withdraw_refused_state (site e) e.args.log.now e.args.id (omega (arith, e.ranges.id))
-    c.before.before.before.before.before.before.before.if1.false (sym c.before.before.before.find.ensures ∙ c.before.enum_told.given.1))
-    (c.refusal2.ensures e.args.lists.now) refl
+returns-in-Nothing : tie.Need-returns-in-Nothing
+returns-in-Nothing c =
+    refuses c.args.self (came c.before.before.before.before.before.before.before.before.before) _ WrongState _
+    (withdraw_refused_state (site c.before.before.before.before.before.before.before.before.before) c.args.log.now c.args.id (omega (arith, c.ranges.id))
+    c.if-restoring.false (sym c.find.ensures ∙ c.in-Nothing.is))
+    (c.refusal-in-Nothing.ensures c.args.lists.now) refl
 
-same-length-2 : tie.Need-same-length-2
-same-length-2 c = c.before.before.remove.auto.1.0
+shape_of-order-in-At : tie.Need-shape_of-order-in-At
+shape_of-order-in-At c = c.remove-left.auto.order
 
-returns-3 : tie.Need-returns-3
-returns-3 c =
-    let e = c.before.before.before.before.before.before.before.before.before.before.before.before.before.before.before.before.before.before.before.before.before.before.before.before.before in
-    let a = e.args in
-    let m = came e in
-    let v = e.requires.sound in
+returns-in-At : tie.Need-returns-in-At
+returns-in-At c =
+    let a = c.args in
+    let m = came c.before.before.before.before.before.before.before.before.before.before.before.before.before.before.before.before.before.before.before in
+    let v = c.requires.sound in
     let b = without c.before.before in
-    let order = c.before.before.remove.new.1.0 in
-    let dry = c.before.before.before.before.name-histories in
-    let lower = c.before.before.before.before.before.before.before.before.lower.ensures in
-    let book = c.before.before.before.before.before.before.before.before.lower.new.0 in
-    let x = c.before.before.before.before.before.before.before.before.before in
-    let after = c.before.before.before.before.before.before.column-at2 in
-    let turn = c.before.before.before.before.before.before.before.before.before.before.before.before.before.before.before.before.before.before.before.before.before.if1.false in
-    let first = withdraw-first (site e) m.log a.id _ v turn (found c.before.before.before.before.before.before.before.before.before.before.before.before.before.before.before) _ (read x) (usable x) in
-    does a.self m _ _ (lent m.log m.rows order book dry.new.1.1.1.1.0)
+    let order = c.remove-left.new.order in
+    let dry = c.name_histories-dry in
+    let lower = c.lower.ensures in
+    let book = c.lower.new.book in
+    let after = c.column_at-after in
+    let turn = c.if-restoring.false in
+    let first = withdraw-first (site c.before.before.before.before.before.before.before.before.before.before.before.before.before.before.before.before.before.before.before) m.log a.id _ v turn (found c.before.before.before.before.before.before.before.before.before.before.before) _ (read c.before.before.before.before.before.before.before.before) (usable c.before.before.before.before.before.before.before.before) in
+    does a.self m _ _ (lent m.log m.rows order book dry.new.lists)
     (accepts_book m.log _ _ _ m.log (sym lower.histories) (sym (lower.others 3 (omega arith) (λ (q : 3 ≡ 5). omega (arith, q))))
     (sym (lower.others 4 (omega arith) (λ (q : 4 ≡ 5). omega (arith, q)))) (sym after.ensures)
     (accepts-rows m.log _ _ _ m.log b.finished_is
-    (ap (λ (z : Table). marks_in z order m.rows) c.before.before.remove.ensures.0
-    ∙ marks_removed a.self.table m.order m.rows e.requires.owns _ (below c.before.before.before.before.before.before.before.before.before.before.before.before.before.before.before) order (a.self.table.queue - 1) c.before.before.remove.ensures.1) refl
-    (withdraw_does (site e) m.log a.id _ v (omega (arith, e.ranges.id)) turn (found c.before.before.before.before.before.before.before.before.before.before.before.before.before.before.before) _ (read x)
-    (queue_rows c.before.before.remove.result order m.rows) _ _ _ _ b.queue_is c.before.before.before.before.before.before.before.before.before.before.before.before.column-at.ensures
-    (λ h lt. lower.numbers h lt ∙ ap (λ (r : List ℕ). get_or r h 0 + sum (entry_in h) (x.queued-at.result ∷ [])) (sym after.ensures))
+    (ap (λ (z : Table). marks_in z order m.rows) c.remove-left.ensures.0
+    ∙ marks_removed a.self.table m.order m.rows c.requires.owns _ (below c.before.before.before.before.before.before.before.before.before.before.before) order (a.self.table.queue - 1) c.remove-left.ensures.1) refl
+    (withdraw_does (site c.before.before.before.before.before.before.before.before.before.before.before.before.before.before.before.before.before.before.before) m.log a.id _ v (omega (arith, c.ranges.id)) turn (found c.before.before.before.before.before.before.before.before.before.before.before) _ (read c.before.before.before.before.before.before.before.before)
+    (queue_rows c.remove-left.result order m.rows) _ _ _ _ b.queue_is c.column_at-before.ensures
+    (λ h lt. lower.numbers h lt ∙ ap (λ (r : List ℕ). get_or r h 0 + sum (entry_in h) (c.queued_at.result ∷ [])) (sym after.ensures))
     (means_one dry.ensures))))
-    (keeps_of b) (sym (lower.past a.self.count (all_in_first a.self.count x.queued-at.result first))) (past_one dry.ensures)
+    (keeps_of b) (sym (lower.past a.self.count (all_in_first a.self.count c.queued_at.result first))) (past_one dry.ensures)
 
-pub withdraw-spec : {M : Type 1} → statement M
-withdraw-spec =
+pub withdraw_spec : {M : Type 1} → statement M
+withdraw_spec =
     tie.close
     (tie.spec
     refusal-requires
-    returns
-    add-find
+    returns-then-restoring
+    overflow_add-finished
     find-requires
-    enum_told
-    refusal-requires-2
-    enum-known-at
-    column-at-requires
-    queued-at-requires
+    enum_told-1
+    refusal-requires-in-Nothing
+    enum_known-at
+    column_at-before-requires
+    queued_at-requires
     lower-requires
-    column-at-requires-2
-    name-histories-requires
-    remove-requires
-    same_length
-    returns-2
-    same-length-2
-    returns-3)
+    column_at-after-requires
+    name_histories-dry-requires
+    remove-left-requires
+    shape_of-order-in-Nothing
+    returns-in-Nothing
+    shape_of-order-in-At
+    returns-in-At)

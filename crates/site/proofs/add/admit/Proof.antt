@@ -14,85 +14,82 @@ use borrow.Author.Rules.{rules}
 use Rattle.site.proofs.add.admit.Statement.{statement}
 use Rattle.site.proofs.add.admit.Tie as tie
 
-holds : (f : tie.After-four-places) → HoldsUpdates f.before.before.args.asked (updates_held f.before.before.args.asked)
-holds f = holds_these f.before.before.args.asked f.four-places.ensures
+holds : (f : tie.After-four_places) → HoldsUpdates f.args.asked (updates_held f.args.asked)
+holds f = holds_these f.args.asked f.four_places.ensures
 
 -- the updates passed the checks 2 to 5
-passed : (t : tie.After-enum-told) → Passes ≡ verdict_of (updates_refusal t.before.before.before.before.before.before.args.seen.count (updates_held t.before.before.before.before.before.before.args.asked))
-passed t = sym t.enum_told.given.1 ∙ t.before.before.asked-refusal.ensures _ (holds t.before.before.before.before)
+passed : (t : tie.In-Passes) → Passes ≡ verdict_of (updates_refusal t.args.seen.count (updates_held t.args.asked))
+passed t = sym t.in-Passes.is ∙ t.asked_refusal.ensures _ (holds t.before.before.before)
 
 -- .. so they can become an entry, which has just them
-usable : (t : tie.After-enum-told) → UsableHeld t.before.before.before.before.before.before.args.asked
+usable : (t : tie.In-Passes) → UsableHeld t.args.asked
 usable t =
-    let p = t.before.before.before.before.before.before in
-    usable_held p.args.seen.count p.args.asked _ p.requires (holds t.before.before.before.before) t.before.before.before.before.four-places.ensures (passes_is _ (passed t))
+    usable_held t.args.seen.count t.args.asked _ t.requires (holds t.before.before.before) t.four_places.ensures (passes_is _ (passed t))
 
-enters : (y : tie.After-entry-of-asked) →
-    Enters (added_operation y.before.before.before.before.before.before.before.args.id (updates_held y.before.before.before.before.before.before.before.args.asked)) y.entry-of-asked.result
+enters : (y : tie.After-entry_of_asked-entry) →
+    Enters (added_operation y.args.id (updates_held y.args.asked)) y.entry_of_asked-entry.result
 enters y =
-    let p = y.before.before.before.before.before.before.before in
-    asked_enters p.args.id p.args.seen.count p.args.asked _ (holds y.before.before.before.before.before) (passes_is _ (passed y.before)) _
-    y.entry-of-asked.ensures
+    asked_enters y.args.id y.args.seen.count y.args.asked _ (holds y.before.before.before.before) (passes_is _ (passed y.before)) _
+    y.entry_of_asked-entry.ensures
 
-four-places-requires : tie.Need-four-places-requires
-four-places-requires c κs = search rules
+four_places-requires : tie.Need-four_places-requires
+four_places-requires c κs = search rules
 
 refused-requires : tie.Need-refused-requires
 refused-requires c κs = search rules
 
-returns : tie.Need-returns
-returns c = λ full st s. record {
-  verdict = c.refused.ensures ∙ out_of_turn _ _ _ _ (add_refusal_is _ _ _ _ full st s) c.before.if1.true;
+returns-then-seen : tie.Need-returns-then-seen
+returns-then-seen c = λ full st s. record {
+  verdict = c.refused.ensures ∙ out_of_turn _ _ _ _ (add_refusal_is _ _ _ _ full st s) c.if-seen.true;
   enters = λ z. absurd (refuses-not _ _ c.refused.ensures z);
 }
 
-asked-refusal-requires : tie.Need-asked-refusal-requires
-asked-refusal-requires c κs = c.before.four-places.ensures
+asked_refusal-requires : tie.Need-asked_refusal-requires
+asked_refusal-requires c κs = c.four_places.ensures
 
-enum-known-q : tie.Need-enum-known-q
-enum-known-q c = search rules
+enum_known-q : tie.Need-enum_known-q
+enum_known-q c = search rules
 
-refused-requires-2 : tie.Need-refused-requires-2
-refused-requires-2 c κs = search rules
+refused-requires-in-Refused : tie.Need-refused-requires-in-Refused
+refused-requires-in-Refused c κs = search rules
 
-enum_told : tie.Need-enum-told
-enum_told c = search rules
+enum_told-1 : tie.Need-enum_told-1
+enum_told-1 c = search rules
 
-entry-of-asked-requires : tie.Need-entry-of-asked-requires
-entry-of-asked-requires c κs = usable c
+entry_of_asked-entry-requires : tie.Need-entry_of_asked-entry-requires
+entry_of_asked-entry-requires c κs = usable c
 
-entry-refusal-requires : tie.Need-entry-refusal-requires
-entry-refusal-requires c κs = c.entry-of-asked.ensures.usable
+entry_refusal-verdict-requires : tie.Need-entry_refusal-verdict-requires
+entry_refusal-verdict-requires c κs = c.entry_of_asked-entry.ensures.usable
 
-returns-2 : tie.Need-returns-2
-returns-2 c = λ full st s. record {
-  verdict = c.refused2.ensures
-      ∙ misformed _ _ _ _ (add_refusal_is _ _ _ _ full st s) c.before.before.before.before.before.if1.false _
-      (sym c.before.before.q.given.1 ∙ c.before.before.before.before.asked-refusal.ensures _ (holds c.before.before.before.before.before.before));
-  enters = λ z. absurd (refuses-not _ _ c.refused2.ensures z);
+returns-in-Refused : tie.Need-returns-in-Refused
+returns-in-Refused c = λ full st s. record {
+  verdict = c.refused-in-Refused.ensures
+      ∙ misformed _ _ _ _ (add_refusal_is _ _ _ _ full st s) c.if-seen.false _
+      (sym c.in-Refused.is ∙ c.asked_refusal.ensures _ (holds c.before.before.before.before));
+  enters = λ z. absurd (refuses-not _ _ c.refused-in-Refused.ensures z);
 }
 
-returns-3 : tie.Need-returns-3
-returns-3 c = λ full st s.
-    let t = c.before.before in
+returns-in-Passes : tie.Need-returns-in-Passes
+returns-in-Passes c = λ full st s.
     record {
-      verdict = formed_then _ _ _ _ (add_refusal_is _ _ _ _ full st s) c.before.before.before.before.before.if1.false (passed t) _
-          (entry_is _ _ _ _ full st s (passes_is _ (passed t)) _ (enters c.before) _ c.entry-refusal.ensures);
+      verdict = formed_then _ _ _ _ (add_refusal_is _ _ _ _ full st s) c.if-seen.false (passed c.before.before) _
+          (entry_is _ _ _ _ full st s (passes_is _ (passed c.before.before)) _ (enters c.before) _ c.entry_refusal-verdict.ensures);
       enters = λ z. enters c.before;
     }
 
-pub admit-spec : {M : Type 1} → statement M
-admit-spec =
+pub admit_spec : {M : Type 1} → statement M
+admit_spec =
     tie.close
     (tie.spec
-    four-places-requires
+    four_places-requires
     refused-requires
-    returns
-    asked-refusal-requires
-    enum-known-q
-    refused-requires-2
-    enum_told
-    entry-of-asked-requires
-    entry-refusal-requires
-    returns-2
-    returns-3)
+    returns-then-seen
+    asked_refusal-requires
+    enum_known-q
+    refused-requires-in-Refused
+    enum_told-1
+    entry_of_asked-entry-requires
+    entry_refusal-verdict-requires
+    returns-in-Refused
+    returns-in-Passes)

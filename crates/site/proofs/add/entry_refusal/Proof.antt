@@ -4,29 +4,36 @@ use Rattle.site.specs.AddLaws.{nothing_orders_is, conflict_is}
 use Rattle.site.proofs.add.entry_refusal.Statement.{statement}
 use Rattle.site.proofs.add.entry_refusal.Tie as tie
 
-findings-requires : tie.Need-findings-requires
-findings-requires c κs = search rules
+findings-f-requires : tie.Need-findings-f-requires
+findings-f-requires c κs = search rules
 
 either-requires : tie.Need-either-requires
 either-requires c κs = search rules
 
-either-requires-2 : tie.Need-either-requires-2
-either-requires-2 c κs = search rules
+either-done-requires : tie.Need-either-done-requires
+either-done-requires c κs = search rules
 
 conflict-requires : tie.Need-conflict-requires
 conflict-requires c κs = search rules
 
-returns : tie.Need-returns
-returns c =
-    let f = c.before.before.before.before.before.findings in
-    conflict_is c.before.before.before.before.before.before.args.seen _ _ f.result f.ensures c.before.before.before.either.result c.before.before.before.either.ensures c.before.before.if1.true
-    c.before.either2.result c.before.either2.ensures c.conflict.result c.conflict.ensures
+returns-then-either : tie.Need-returns-then-either
+returns-then-either c =
+    let f = c.findings-f in
+    conflict_is c.args.seen _ _ f.result f.ensures c.either.result c.either.ensures c.if-either.true
+    c.either-done.result c.either-done.ensures c.conflict.result c.conflict.ensures
 
-returns-2 : tie.Need-returns-2
-returns-2 c =
-    let f = c.before.before.before.findings in
-    nothing_orders_is c.before.before.before.before.args.seen _ _ f.result f.ensures c.before.either.result c.before.either.ensures c.if1.false
+returns-else-either : tie.Need-returns-else-either
+returns-else-either c =
+    let f = c.findings-f in
+    nothing_orders_is c.args.seen _ _ f.result f.ensures c.either.result c.either.ensures c.if-either.false
 
-pub entry-refusal-spec : {M : Type 1} → statement M
-entry-refusal-spec =
-    tie.close (tie.spec findings-requires either-requires either-requires-2 conflict-requires returns returns-2)
+pub entry_refusal_spec : {M : Type 1} → statement M
+entry_refusal_spec =
+    tie.close
+    (tie.spec
+    findings-f-requires
+    either-requires
+    either-done-requires
+    conflict-requires
+    returns-then-either
+    returns-else-either)

@@ -6,33 +6,42 @@ use Rattle.site.specs.CheckInputs.{conflict_refusal}
 use Rattle.site.proofs.seen.conflict.Statement.{statement}
 use Rattle.site.proofs.seen.conflict.Tie as tie
 
+returns-then-pending : tie.Need-returns-then-pending
+unfolding conflict_refusal check verdict_of
+returns-then-pending c = rw c.if-pending.true refl
+
+returns-then-done : tie.Need-returns-then-done
+unfolding conflict_refusal check verdict_of
+returns-then-done c = rw (c.if-pending.false, c.if-done.true) refl
+
+returns-then-overtaken : tie.Need-returns-then-overtaken
+unfolding conflict_refusal check verdict_of
+returns-then-overtaken c = rw (c.if-pending.false, c.if-done.false, c.if-overtaken.true) refl
+
+returns-then-highest : tie.Need-returns-then-highest
+unfolding conflict_refusal check verdict_of
+returns-then-highest c = rw (c.if-pending.false, c.if-done.false, c.if-overtaken.false, c.if-highest.true) refl
+
+returns-then-full : tie.Need-returns-then-full
+unfolding conflict_refusal check verdict_of
+returns-then-full c = rw (c.if-pending.false, c.if-done.false, c.if-overtaken.false, c.if-highest.false, c.if-full.true) refl
+
+returns-then-short : tie.Need-returns-then-short
+unfolding conflict_refusal check verdict_of
+returns-then-short c = rw (c.if-pending.false, c.if-done.false, c.if-overtaken.false, c.if-highest.false, c.if-full.false, c.if-short.true) refl
+
 returns : tie.Need-returns
 unfolding conflict_refusal check verdict_of
-returns c = rw c.if1.true refl
+returns c = rw (c.if-pending.false, c.if-done.false, c.if-overtaken.false, c.if-highest.false, c.if-full.false, c.if-short.false) refl
 
-returns-2 : tie.Need-returns-2
-unfolding conflict_refusal check verdict_of
-returns-2 c = rw (c.before.if1.false, c.if2.true) refl
-
-returns-3 : tie.Need-returns-3
-unfolding conflict_refusal check verdict_of
-returns-3 c = rw (c.before.before.if1.false, c.before.if2.false, c.if3.true) refl
-
-returns-4 : tie.Need-returns-4
-unfolding conflict_refusal check verdict_of
-returns-4 c = rw (c.before.before.before.if1.false, c.before.before.if2.false, c.before.if3.false, c.if4.true) refl
-
-returns-5 : tie.Need-returns-5
-unfolding conflict_refusal check verdict_of
-returns-5 c = rw (c.before.before.before.before.if1.false, c.before.before.before.if2.false, c.before.before.if3.false, c.before.if4.false, c.if5.true) refl
-
-returns-6 : tie.Need-returns-6
-unfolding conflict_refusal check verdict_of
-returns-6 c = rw (c.before.before.before.before.before.if1.false, c.before.before.before.before.if2.false, c.before.before.before.if3.false, c.before.before.if4.false, c.before.if5.false, c.if6.true) refl
-
-returns-7 : tie.Need-returns-7
-unfolding conflict_refusal check verdict_of
-returns-7 c = rw (c.before.before.before.before.before.if1.false, c.before.before.before.before.if2.false, c.before.before.before.if3.false, c.before.before.if4.false, c.before.if5.false, c.if6.false) refl
-
-pub conflict-spec : {M : Type 1} → statement M
-conflict-spec = tie.close (tie.spec returns returns-2 returns-3 returns-4 returns-5 returns-6 returns-7)
+pub conflict_spec : {M : Type 1} → statement M
+conflict_spec =
+    tie.close
+    (tie.spec
+    returns-then-pending
+    returns-then-done
+    returns-then-overtaken
+    returns-then-highest
+    returns-then-full
+    returns-then-short
+    returns)

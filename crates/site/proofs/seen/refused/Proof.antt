@@ -4,11 +4,15 @@ use borrow.Author.Rules.{rules}
 use Rattle.site.proofs.seen.refused.Statement.{statement}
 use Rattle.site.proofs.seen.refused.Tie as tie
 
-blank-item-requires : tie.Need-blank-item-requires
-blank-item-requires c κs = search rules
+blank_item-x-requires : tie.Need-blank_item-x-requires
+blank_item-x-requires c κs = search rules
 
 returns : tie.Need-returns
 returns c = refl
 
-pub refused-spec : {M : Type 1} → statement M
-refused-spec = tie.close (tie.spec blank-item-requires returns)
+pub refused_spec : {M : Type 1} → statement M
+refused_spec =
+    tie.close
+    (tie.spec
+    blank_item-x-requires
+    returns)
