@@ -11,8 +11,8 @@ use borrow.Author.Rules.{rules}
 use Rattle.module.proofs.is_refused.Statement.{statement}
 use Rattle.module.proofs.is_refused.Tie as tie
 
-enum_told : tie.Need-enum-told
-enum_told c = search rules
+enum_told-1 : tie.Need-enum_told-1
+enum_told-1 c = search rules
 
 -- the forms but `Refused`, by their tags
 accepted : (f : ReplyForm) → OneOf (1 ∷ 2 ∷ 3 ∷ 4 ∷ 5 ∷ 6 ∷ 7 ∷ 8 ∷ 9 ∷ 10 ∷ []) (tag_of the_type f) → refuses f ≡ false
@@ -29,12 +29,17 @@ accepted (ReplyForm.Restarted lines used) o = refl
 accepted (ReplyForm.Redone ran examined) o = refl
 accepted ReplyForm.Ended o = refl
 
-returns : tie.Need-returns
+returns-in-Refused : tie.Need-returns-in-Refused
 unfolding refuses
-returns c = sym (ap refuses c.enum_told.given.1)
+returns-in-Refused c = sym (ap refuses c.in-Refused.is)
 
-returns-2 : tie.Need-returns-2
-returns-2 c = sym (accepted c.before.args.form c.match.keys2)
+returns-in_default : tie.Need-returns-in_default
+returns-in_default c = sym (accepted c.args.form c.in_default.in_default-own.keys2)
 
-pub is-refused-spec : {M : Type 1} → statement M
-is-refused-spec = tie.close (tie.spec enum_told returns returns-2)
+pub is_refused_spec : {M : Type 1} → statement M
+is_refused_spec =
+    tie.close
+    (tie.spec
+    enum_told-1
+    returns-in-Refused
+    returns-in_default)

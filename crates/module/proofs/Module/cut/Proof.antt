@@ -20,101 +20,97 @@ abbrev came : tie.Start → Lent
 came s = lent s.args.log.now s.args.rows.now s.args.numbers.now s.args.book.now []
 
 -- the slot is opened
-opened : (t : tie.Then1) → (slot_in t.before.before.before.before.before.args.self.slots t.before.before.before.before.before.args.slot).opened ≡ true
-opened t = sym t.before.is_open.ensures ∙ t.if1.true
+opened : (t : tie.Then-is_open) → (slot_in t.args.self.slots t.args.slot).opened ≡ true
+opened t = sym t.is_open.ensures ∙ t.if-is_open.true
 
-below : (t : tie.Then1) → t.before.before.before.before.before.args.slot < 4
-below t = let s = t.before.before.before.before.before in with_below s.args.self s.args.slot (came s) s.requires (opened t)
+below : (t : tie.Then-is_open) → t.args.slot < 4
+below t = with_below t.args.self t.args.slot (came t.before.before.before.before.before) t.requires (opened t)
 
-is-open-requires : tie.Need-is-open-requires
-is-open-requires c κs = let s = c.before.before.before in with_size s.args.self s.args.slot (came s) s.requires
+is_open-requires : tie.Need-is_open-requires
+is_open-requires c κs = with_size c.args.self c.args.slot (came c.before.before.before) c.requires
 
-mul-own : tie.Need-overflow-mul-own
-mul-own c = let q = below c.before in omega (arith, q)
+offset_bounds-slots-slot : tie.Need-offset_bounds-slots-slot
+offset_bounds-slots-slot c = let q = below c.before in omega (arith, q)
 
-array-copy-out-own : tie.Need-array-copy-out-own
-array-copy-out-own c = below c.before
+bounds-slots-slot : tie.Need-bounds-slots-slot
+bounds-slots-slot c = below c.before
 
-may-use-requires : tie.Need-may-use-requires
-may-use-requires c κs = let s = c.before.before.before.before.before.before.before.before in with_claims s.args.self s.args.slot (came s) s.requires (below c.before.before.before)
+may_use-n-requires : tie.Need-may_use-n-requires
+may_use-n-requires c κs = with_claims c.args.self c.args.slot (came c.before.before.before.before.before.before.before.before) c.requires (below c.before.before.before)
 
-few : (k : tie.After-may-use) → k.may-use.result ≤ 64
-few k = let r = may_most k.before.before.before.before.before.before.before.before.before.args.self.slots k.before.before.before.before.before.before.before.before.before.args.slot in omega (arith, r, k.may-use.ensures)
+few : (k : tie.After-may_use-n) → k.may_use-n.result ≤ 64
+few k = let r = may_most k.args.self.slots k.args.slot in omega (arith, r, k.may_use-n.ensures)
 
-lend-requires : tie.Need-lend-requires
-lend-requires c κs =
-    let s = c.before.before.before.before.before.before.before.before.before.before in with_gather s.args.self s.args.slot (came s) s.requires (below c.before.before.before.before.before) _ (omega (arith, c.before.may-use.ensures))
+lend-loan-requires : tie.Need-lend-loan-requires
+lend-loan-requires c κs = with_gather c.args.self c.args.slot (came c.before.before.before.before.before.before.before.before.before.before) c.requires (below c.before.before.before.before.before) _ (omega (arith, c.may_use-n.ensures))
 
-mul-a : tie.Need-overflow-mul-a
-mul-a c = let q = below c.before.before.before.before.before.before.before.before in omega (arith, q)
+overflow_mul-a : tie.Need-overflow_mul-a
+overflow_mul-a c = let q = below c.before.before.before.before.before.before.before.before in omega (arith, q)
 
-add-e : tie.Need-overflow-add-e
-add-e c = let q = below c.before.before.before.before.before.before.before.before in let f = few c.before.before.before.before in omega (arith, q, f)
+overflow_add-e : tie.Need-overflow_add-e
+overflow_add-e c = let q = below c.before.before.before.before.before.before.before.before in let f = few c.before.before.before.before in omega (arith, q, f)
 
-sub-cut : tie.Need-overflow-sub-cut
-sub-cut c = search rules
+slice_bounds-cut-count : tie.Need-slice_bounds-cut-count
+slice_bounds-cut-count c = search rules
 
-part-cut-start : tie.Need-slice-bounds-cut-start
-part-cut-start c = search rules
+slice_bounds-cut-start : tie.Need-slice_bounds-cut-start
+slice_bounds-cut-start c = search rules
 
-part-cut-end : tie.Need-slice-bounds-cut-end
-part-cut-end c = let q = below c.before.before.before.before.before.before.before.before.before.before in let f = few c.before.before.before.before.before.before in let w = c.before.before.before.before.lend.ensures.gathered.into.gathers.shared.long in omega (arith, q, f, w)
+slice_bounds-cut-end : tie.Need-slice_bounds-cut-end
+slice_bounds-cut-end c = let q = below c.before.before.before.before.before.before.before.before.before in let f = few c.before.before.before.before.before in let w = c.lend-loan.ensures.gathered.into.gathers.shared.long in omega (arith, q, f, w)
 
-cut-requires : tie.Need-cut-requires
-cut-requires c κs =
-    let s = c.before.before.before.before.before.before.before.before.before.before.before.before.before.before.before.before.before in
-    let n = c.before.before.before.before.before.before.before.before.may-use.result in
-    with_loan s.args.self s.args.slot (came s) s.requires (below c.before.before.before.before.before.before.before.before.before.before.before.before) n _ _ c.before.before.before.before.before.before.lend.ensures (64 * s.args.slot + n - 64 * s.args.slot) (omega arith) (opened c.before.before.before.before.before.before.before.before.before.before.before.before) (let w = with_may s.args.self s.args.slot (came s) s.requires (below c.before.before.before.before.before.before.before.before.before.before.before.before) in omega (arith, w, c.before.before.before.before.before.before.before.before.may-use.ensures)) []
+cut-r-requires : tie.Need-cut-r-requires
+cut-r-requires c κs =
+    let n = c.may_use-n.result in
+    with_loan c.args.self c.args.slot (came c.before.before.before.before.before.before.before.before.before.before.before.before.before.before.before.before) c.requires (below c.before.before.before.before.before.before.before.before.before.before.before) n _ _ c.lend-loan.ensures (64 * c.args.slot + n - 64 * c.args.slot) (omega arith) (opened c.before.before.before.before.before.before.before.before.before.before.before) (let w = with_may c.args.self c.args.slot (came c.before.before.before.before.before.before.before.before.before.before.before.before.before.before.before.before) c.requires (below c.before.before.before.before.before.before.before.before.before.before.before) in omega (arith, w, c.may_use-n.ensures)) []
 
-promised-again-requires : tie.Need-promised-again-requires
-promised-again-requires c κs = let s = c.before.before.before.before.before.before.before.before.before.before.before.before.before.before.before.before.before.before.before.before.before in with_few s.args.self s.args.slot (came s) s.requires (below c.before.before.before.before.before.before.before.before.before.before.before.before.before.before.before.before)
+promised_again-requires : tie.Need-promised_again-requires
+promised_again-requires c κs = with_few c.args.self c.args.slot (came c.before.before.before.before.before.before.before.before.before.before.before.before.before.before.before.before.before.before.before.before) c.requires (below c.before.before.before.before.before.before.before.before.before.before.before.before.before.before.before)
 
 settle-requires : tie.Need-settle-requires
-settle-requires c κs = let g = c.before.before.before.before.before.before.before.before.before.before.before.lend.ensures.gathered.into in (below c.before.before.before.before.before.before.before.before.before.before.before.before.before.before.before.before.before, g.size, g.gathers.shared.long)
+settle-requires c κs = let g = c.lend-loan.ensures.gathered.into in (below c.before.before.before.before.before.before.before.before.before.before.before.before.before.before.before.before, g.size, g.gathers.shared.long)
 
-same_length : tie.Need-same-length
-same_length c = search rules
+shape_of-rows-then-is_open : tie.Need-shape_of-rows-then-is_open
+shape_of-rows-then-is_open c = search rules
 
-same-length-2 : tie.Need-same-length-2
-same-length-2 c = search rules
+shape_of-numbers-then-is_open : tie.Need-shape_of-numbers-then-is_open
+shape_of-numbers-then-is_open c = search rules
 
-returns : tie.Need-returns
-returns c ns =
-    let s = c.before.before.before.before.before.before.before.before.before.before.before.before.before.before.before.before.before.before.before.before.before.before.before.before.before in
-    let a = s.args in
-    let n = c.before.before.before.before.before.before.before.before.before.before.before.before.before.before.before.before.may-use.result in
-    serves_cut a.self a.slot (lent a.log.now a.rows.now a.numbers.now a.book.now ns) (opened c.before.before.before.before.before.before.before.before.before.before.before.before.before.before.before.before.before.before.before.before) n _ _ c.before.before.before.before.before.before.before.before.before.before.before.before.before.before.lend.ensures (64 * a.slot + n - 64 * a.slot) (omega arith) _ _ _ _ _ _ refl _ _ (below c.before.before.before.before.before.before.before.before.before.before.before.before.before.before.before.before.before.before.before.before) c.before.before.before.before.before.before.before.before.before.before.before.before.before.before.before.before.may-use.ensures a.k (length a.log.now) refl (c.before.before.before.before.before.before.before.cut.ensures ns) (again_settles _ _ _ _ _ _ _ _ _ c.before.before.before.promised-again.ensures c.before.before.settle.ensures)
+returns-then-is_open : tie.Need-returns-then-is_open
+returns-then-is_open c ns =
+    let a = c.args in
+    let n = c.may_use-n.result in
+    serves_cut a.self a.slot (lent a.log.now a.rows.now a.numbers.now a.book.now ns) (opened c.before.before.before.before.before.before.before.before.before.before.before.before.before.before.before.before.before.before.before) n _ _ c.lend-loan.ensures (64 * a.slot + n - 64 * a.slot) (omega arith) _ _ _ _ _ _ refl _ _ (below c.before.before.before.before.before.before.before.before.before.before.before.before.before.before.before.before.before.before.before) c.may_use-n.ensures a.k (length a.log.now) refl (c.cut-r.ensures ns) (again_settles _ _ _ _ _ _ _ _ _ c.promised_again.ensures c.settle.ensures)
 
 refuse-requires : tie.Need-refuse-requires
 refuse-requires c κs = search rules
 
-returns-2 : tie.Need-returns-2
-returns-2 c ns =
-    let s = c.before.before.before.before.before.before in
-    let a = s.args in
+returns : tie.Need-returns
+returns c ns =
+    let a = c.args in
     turns a.self (At a.slot (Call.Cut a.k (length a.log.now))) (lent a.log.now a.rows.now a.numbers.now a.book.now ns) _ _ c.refuse.ensures
-    (λ b v. turned_away a.self.slots b v a.slot (Call.Cut a.k (length a.log.now)) (sym c.before.before.is_open.ensures ∙ c.before.if1.false)
-    (readable-cut a.k (length a.log.now) (omega (arith, s.ranges.k))))
+    (λ b v. turned_away a.self.slots b v a.slot (Call.Cut a.k (length a.log.now)) (sym c.is_open.ensures ∙ c.if-is_open.false)
+    (readable-cut a.k (length a.log.now) (omega (arith, c.ranges.k))))
 
 pub cut_spec : {M : Type 1} → statement M
 cut_spec =
     tie.close
     (tie.spec
-    is-open-requires
-    mul-own
-    array-copy-out-own
-    may-use-requires
-    lend-requires
-    mul-a
-    add-e
-    sub-cut
-    part-cut-start
-    part-cut-end
-    cut-requires
-    promised-again-requires
+    is_open-requires
+    offset_bounds-slots-slot
+    bounds-slots-slot
+    may_use-n-requires
+    lend-loan-requires
+    overflow_mul-a
+    overflow_add-e
+    slice_bounds-cut-count
+    slice_bounds-cut-start
+    slice_bounds-cut-end
+    cut-r-requires
+    promised_again-requires
     settle-requires
-    same_length
-    same-length-2
-    returns
+    shape_of-rows-then-is_open
+    shape_of-numbers-then-is_open
+    returns-then-is_open
     refuse-requires
-    returns-2)
+    returns)

@@ -16,108 +16,104 @@ use Rattle.module.proofs.Module.finish.Tie as tie
 abbrev came : tie.Start → Lent
 came s = lent s.args.log.now s.args.rows.now s.args.numbers.now s.args.book.now []
 
-mul-own : tie.Need-overflow-mul-own
-mul-own c = search rules
+offset_bounds-after-slot : tie.Need-offset_bounds-after-slot
+offset_bounds-after-slot c = search rules
 
-element-copy-out-own : tie.Need-element-copy-out-own
-element-copy-out-own c = search rules
+bounds-after-slot : tie.Need-bounds-after-slot
+bounds-after-slot c = search rules
 
-mul-a : tie.Need-overflow-mul-a
-mul-a c = search rules
+overflow_mul-a : tie.Need-overflow_mul-a
+overflow_mul-a c = search rules
 
-few : (c : tie.After-site) → live_in c.before.before.before.before.before.before.before.args.self.slots c.before.before.before.before.before.before.before.args.slot ≤ 64
-few c = let s = c.before.before.before.before.before.before.before in with_few s.args.self s.args.slot (came s) s.requires c.before.before.before.if1.true
+few : (c : tie.After-site-1) → live_in c.args.self.slots c.args.slot ≤ 64
+few c = with_few c.args.self c.args.slot (came c.before.before.before.before.before.before.before) c.requires c.if-slot-lt-SLOTS.true
 
 live-requires : tie.Need-live-requires
 live-requires c κs = few c
 
-add-e : tie.Need-overflow-add-e
-add-e c = let f = few c.before in omega (arith, c.before.before.before.before.if1.true, f, c.live.ensures)
+overflow_add-e : tie.Need-overflow_add-e
+overflow_add-e c = let f = few c.before in omega (arith, c.if-slot-lt-SLOTS.true, f, c.live.ensures)
 
-sub-finish : tie.Need-overflow-sub-finish
-sub-finish c = search rules
+slice_bounds-finish-count : tie.Need-slice_bounds-finish-count
+slice_bounds-finish-count c = search rules
 
-part-finish-start : tie.Need-slice-bounds-finish-start
-part-finish-start c = search rules
+slice_bounds-finish-start : tie.Need-slice_bounds-finish-start
+slice_bounds-finish-start c = search rules
 
-part-finish-end : tie.Need-slice-bounds-finish-end
-part-finish-end c =
-    let s = c.before.before.before.before.before.before.before.before.before.before in
+slice_bounds-finish-end : tie.Need-slice_bounds-finish-end
+slice_bounds-finish-end c =
     let f = few c.before.before.before in
-    let w = with_long s.args.self s.args.slot (came s) s.requires in
-    omega (arith, c.before.before.before.before.before.before.if1.true, f, c.before.before.live.ensures, w)
+    let w = with_long c.args.self c.args.slot (came c.before.before.before.before.before.before.before.before.before.before) c.requires in
+    omega (arith, c.if-slot-lt-SLOTS.true, f, c.live.ensures, w)
 
-finish-requires : tie.Need-finish-requires
-finish-requires c κs =
-    let s = c.before.before.before.before.before.before.before.before.before.before.before.before.before in
-    with_live s.args.self s.args.slot (came s) s.requires c.before.before.before.before.before.before.before.if2.true
-    (64 * s.args.slot + c.before.before.before.before.before.live.result - 64 * s.args.slot) (omega (arith, c.before.before.before.before.before.live.ensures)) []
+finish-r-requires : tie.Need-finish-r-requires
+finish-r-requires c κs =
+    with_live c.args.self c.args.slot (came c.before.before.before.before.before.before.before.before.before.before.before.before.before) c.requires c.if-own.true
+    (64 * c.args.slot + c.live.result - 64 * c.args.slot) (omega (arith, c.live.ensures)) []
 
 with-requires : tie.Need-with-requires
 with-requires c κs = search rules
 
-mul-t22 : tie.Need-overflow-mul-t22
-mul-t22 c = omega (arith, c.before.before.before.before.before.before.before.before.before.before.before.before.before.before.before.before.before.if1.true)
+offset_bounds-after-slot-then-own : tie.Need-offset_bounds-after-slot-then-own
+offset_bounds-after-slot-then-own c = omega (arith, c.if-slot-lt-SLOTS.true)
 
-element-set-from-after : tie.Need-element-set-from-after
-element-set-from-after c = c.before.before.before.before.before.before.before.before.before.before.before.before.before.before.before.before.before.if1.true
+bounds-after-slot-then-own : tie.Need-bounds-after-slot-then-own
+bounds-after-slot-then-own c = c.if-slot-lt-SLOTS.true
 
-same_length : tie.Need-same-length
-same_length c = search rules
+shape_of-log-then-own : tie.Need-shape_of-log-then-own
+shape_of-log-then-own c = search rules
 
-same-length-2 : tie.Need-same-length-2
-same-length-2 c = search rules
+shape_of-rows-then-own : tie.Need-shape_of-rows-then-own
+shape_of-rows-then-own c = search rules
 
-same-length-3 : tie.Need-same-length-3
-same-length-3 c = search rules
+shape_of-numbers-then-own : tie.Need-shape_of-numbers-then-own
+shape_of-numbers-then-own c = search rules
 
-returns : tie.Need-returns
-returns c =
-    let a = c.before.before.before.before.before.before.before.before.before.before.before.before.before.before.before.before.before.before.before.before.before.before.args in
+returns-then-own : tie.Need-returns-then-own
+returns-then-own c =
+    let a = c.args in
     serves_held a.self a.slot (Call.Finish a.id) (lent a.log.now a.rows.now a.numbers.now a.book.now a.lists.now)
-    refl c.before.before.before.before.before.before.before.before.before.before.before.before.before.before.before.before.if2.true (64 * a.slot + c.before.before.before.before.before.before.before.before.before.before.before.before.before.before.live.result - 64 * a.slot) (omega (arith, c.before.before.before.before.before.before.before.before.before.before.before.before.before.before.live.ensures)) c.before.before.before.before.before.before.before.before.finish.result _ _ _ _ _
-    (search rules) (λ z e. sym e) _ c.before.with.ensures c.before.before.before.before.before.before.before.before.finish.ensures
+    refl c.if-own.true (64 * a.slot + c.live.result - 64 * a.slot) (omega (arith, c.live.ensures)) c.finish-r.result _ _ _ _ _
+    (search rules) (λ z e. sym e) _ c.with.ensures c.finish-r.ensures
 
 refuse-requires : tie.Need-refuse-requires
 refuse-requires c κs = search rules
 
-returns-2 : tie.Need-returns-2
-returns-2 c =
-    let s = c.before.before.before.before.before.before.before in
-    let a = s.args in
-    turns_plain a.self a.slot (Call.Finish a.id) (lent a.log.now a.rows.now a.numbers.now a.book.now a.lists.now) _ refl (omega (arith, s.ranges.id)) c.before.if2.false c.refuse.ensures
+returns-then-slot-lt-SLOTS : tie.Need-returns-then-slot-lt-SLOTS
+returns-then-slot-lt-SLOTS c =
+    let a = c.args in
+    turns_plain a.self a.slot (Call.Finish a.id) (lent a.log.now a.rows.now a.numbers.now a.book.now a.lists.now) _ refl (omega (arith, c.ranges.id)) c.if-own.false c.refuse.ensures
 
 refuse-requires-2 : tie.Need-refuse-requires-2
 refuse-requires-2 c κs = search rules
 
-returns-3 : tie.Need-returns-3
-returns-3 c =
-    let s = c.before.before.before.before.before in
-    let a = s.args in
-    turns_plain a.self a.slot (Call.Finish a.id) (lent a.log.now a.rows.now a.numbers.now a.book.now a.lists.now) _ refl (omega (arith, s.ranges.id))
-    (sym (past_last a.self.slots a.slot (with_size a.self a.slot (came s) s.requires) c.before.if1.false)) c.refuse2.ensures
+returns : tie.Need-returns
+returns c =
+    let a = c.args in
+    turns_plain a.self a.slot (Call.Finish a.id) (lent a.log.now a.rows.now a.numbers.now a.book.now a.lists.now) _ refl (omega (arith, c.ranges.id))
+    (sym (past_last a.self.slots a.slot (with_size a.self a.slot (came c.before.before.before.before.before) c.requires) c.if-slot-lt-SLOTS.false)) c.refuse-2.ensures
 
 pub finish_spec : {M : Type 1} → statement M
 finish_spec =
     tie.close
     (tie.spec
-    mul-own
-    element-copy-out-own
-    mul-a
+    offset_bounds-after-slot
+    bounds-after-slot
+    overflow_mul-a
     live-requires
-    add-e
-    sub-finish
-    part-finish-start
-    part-finish-end
-    finish-requires
+    overflow_add-e
+    slice_bounds-finish-count
+    slice_bounds-finish-start
+    slice_bounds-finish-end
+    finish-r-requires
     with-requires
-    mul-t22
-    element-set-from-after
-    same_length
-    same-length-2
-    same-length-3
-    returns
+    offset_bounds-after-slot-then-own
+    bounds-after-slot-then-own
+    shape_of-log-then-own
+    shape_of-rows-then-own
+    shape_of-numbers-then-own
+    returns-then-own
     refuse-requires
-    returns-2
+    returns-then-slot-lt-SLOTS
     refuse-requires-2
-    returns-3)
+    returns)

@@ -4,17 +4,23 @@ use borrow.Author.Rules.{rules}
 use Rattle.module.proofs.Module.is_open.Statement.{statement}
 use Rattle.module.proofs.Module.is_open.Tie as tie
 
-mul-s : tie.Need-overflow-mul-s
-mul-s c = search rules
+offset_bounds-slots-slot : tie.Need-offset_bounds-slots-slot
+offset_bounds-slots-slot c = search rules
 
-array-copy-out-s : tie.Need-array-copy-out-s
-array-copy-out-s c = search rules
+bounds-slots-slot : tie.Need-bounds-slots-slot
+bounds-slots-slot c = search rules
+
+returns-then-slot-lt-SLOTS : tie.Need-returns-then-slot-lt-SLOTS
+returns-then-slot-lt-SLOTS c = search rules
 
 returns : tie.Need-returns
-returns c = search rules
+returns c = past_last c.args.self.slots c.args.slot c.requires c.if-slot-lt-SLOTS.false
 
-returns-2 : tie.Need-returns-2
-returns-2 c = past_last c.before.args.self.slots c.before.args.slot c.before.requires c.if1.false
-
-pub is-open-spec : {M : Type 1} → statement M
-is-open-spec = tie.close (tie.spec mul-s array-copy-out-s returns returns-2)
+pub is_open_spec : {M : Type 1} → statement M
+is_open_spec =
+    tie.close
+    (tie.spec
+    offset_bounds-slots-slot
+    bounds-slots-slot
+    returns-then-slot-lt-SLOTS
+    returns)

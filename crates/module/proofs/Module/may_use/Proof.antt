@@ -10,76 +10,73 @@ use Rattle.module.proofs.Module.may_use.Statement.{statement}
 use Rattle.module.proofs.Module.may_use.Tie as tie
 
 -- what the four sums add up to
-sums : (c : tie.After-claim-beside4) → c.before.before.before.claim-beside.result + c.before.before.claim-beside2.result + c.before.claim-beside3.result
-    + c.claim-beside4.result + claim_in c.before.before.before.before.before.before.before.before.args.t1.slots c.before.before.before.before.before.before.before.before.args.slot ≡ four (claim_in c.before.before.before.before.before.before.before.before.args.t1.slots)
+sums : (c : tie.After-claim_beside-4) → c.claim_beside.result + c.claim_beside-2.result + c.claim_beside-3.result
+    + c.claim_beside-4.result + claim_in c.args.self.slots c.args.slot ≡ four (claim_in c.args.self.slots)
 sums c =
-    let s = c.before.before.before.before.before.before.before.before in
-    others-sum s.args.t1.slots s.args.slot s.requires.own _ _ _ _ c.before.before.before.claim-beside.ensures c.before.before.claim-beside2.ensures
-    c.before.claim-beside3.ensures c.claim-beside4.ensures
+    others-sum c.args.self.slots c.args.slot c.requires.own _ _ _ _ c.claim_beside.ensures c.claim_beside-2.ensures
+    c.claim_beside-3.ensures c.claim_beside-4.ensures
 
-element-copy-out-a : tie.Need-element-copy-out-a
-element-copy-out-a c = search rules
+bounds-self-0 : tie.Need-bounds-self-0
+bounds-self-0 c = search rules
 
-element-copy-out-b : tie.Need-element-copy-out-b
-element-copy-out-b c = search rules
+bounds-self-1 : tie.Need-bounds-self-1
+bounds-self-1 c = search rules
 
-element-copy-out-c : tie.Need-element-copy-out-c
-element-copy-out-c c = search rules
+bounds-self-2 : tie.Need-bounds-self-2
+bounds-self-2 c = search rules
 
-element-copy-out-d : tie.Need-element-copy-out-d
-element-copy-out-d c = search rules
+bounds-self-3 : tie.Need-bounds-self-3
+bounds-self-3 c = search rules
 
-claim-beside-requires : tie.Need-claim-beside-requires
-claim-beside-requires c κs = c.before.before.before.before.requires.few 0 (omega arith)
+claim_beside-requires : tie.Need-claim_beside-requires
+claim_beside-requires c κs = c.requires.few 0 (omega arith)
 
-claim-beside-requires-2 : tie.Need-claim-beside-requires-2
-claim-beside-requires-2 c κs = c.before.before.before.before.before.requires.few 1 (omega arith)
+claim_beside-requires-2 : tie.Need-claim_beside-requires-2
+claim_beside-requires-2 c κs = c.requires.few 1 (omega arith)
 
-add-others : tie.Need-overflow-add-others
-add-others c =
-    let s = c.before.before.before.before.before.before in
-    let few = beside_few s.args.t1.slots s.args.slot s.requires in
-    omega (arith, few 0 (omega arith) _ c.before.claim-beside.ensures, few 1 (omega arith) _ c.claim-beside2.ensures)
+overflow_add-others : tie.Need-overflow_add-others
+overflow_add-others c =
+    let few = beside_few c.args.self.slots c.args.slot c.requires in
+    omega (arith, few 0 (omega arith) _ c.claim_beside.ensures, few 1 (omega arith) _ c.claim_beside-2.ensures)
 
-claim-beside-requires-3 : tie.Need-claim-beside-requires-3
-claim-beside-requires-3 c κs = c.before.before.before.before.before.before.requires.few 2 (omega arith)
+claim_beside-requires-3 : tie.Need-claim_beside-requires-3
+claim_beside-requires-3 c κs = c.requires.few 2 (omega arith)
 
-add-others-2 : tie.Need-overflow-add-others-2
-add-others-2 c =
-    let s = c.before.before.before.before.before.before.before in
-    let few = beside_few s.args.t1.slots s.args.slot s.requires in
-    omega (arith, few 0 (omega arith) _ c.before.before.claim-beside.ensures, few 1 (omega arith) _ c.before.claim-beside2.ensures, few 2 (omega arith) _ c.claim-beside3.ensures)
+overflow_add-others-2 : tie.Need-overflow_add-others-2
+overflow_add-others-2 c =
+    let few = beside_few c.args.self.slots c.args.slot c.requires in
+    omega (arith, few 0 (omega arith) _ c.claim_beside.ensures, few 1 (omega arith) _ c.claim_beside-2.ensures, few 2 (omega arith) _ c.claim_beside-3.ensures)
 
-claim-beside-requires-4 : tie.Need-claim-beside-requires-4
-claim-beside-requires-4 c κs = c.before.before.before.before.before.before.before.requires.few 3 (omega arith)
+claim_beside-requires-4 : tie.Need-claim_beside-requires-4
+claim_beside-requires-4 c κs = c.requires.few 3 (omega arith)
 
-add-others-3 : tie.Need-overflow-add-others-3
-add-others-3 c = omega (arith, sums c, c.before.before.before.before.before.before.before.before.requires.fit)
+overflow_add-others-3 : tie.Need-overflow_add-others-3
+overflow_add-others-3 c = omega (arith, sums c, c.requires.fit)
 
-sub-room : tie.Need-overflow-sub-room
-sub-room c = omega (arith, sums c, c.before.before.before.before.before.before.before.before.requires.fit)
+overflow_sub-room : tie.Need-overflow_sub-room
+overflow_sub-room c = omega (arith, sums c, c.requires.fit)
 
-returns : tie.Need-returns
-returns c = others_low _ _ _ (sums c.before) c.before.before.before.before.before.before.before.before.before.requires.fit c.if1.true
+returns-then-room-lt-LIVE : tie.Need-returns-then-room-lt-LIVE
+returns-then-room-lt-LIVE c = others_low _ _ _ (sums c.before) c.requires.fit c.if-room-lt-LIVE.true
 
-returns-2 : tie.Need-returns-2
-returns-2 c = others-high _ _ _ (sums c.before) c.before.before.before.before.before.before.before.before.before.requires.fit c.if1.false
+returns-else-room-lt-LIVE : tie.Need-returns-else-room-lt-LIVE
+returns-else-room-lt-LIVE c = others-high _ _ _ (sums c.before) c.requires.fit c.if-room-lt-LIVE.false
 
-pub may-use-spec : {M : Type 1} → statement M
-may-use-spec =
+pub may_use_spec : {M : Type 1} → statement M
+may_use_spec =
     tie.close
     (tie.spec
-    element-copy-out-a
-    element-copy-out-b
-    element-copy-out-c
-    element-copy-out-d
-    claim-beside-requires
-    claim-beside-requires-2
-    add-others
-    claim-beside-requires-3
-    add-others-2
-    claim-beside-requires-4
-    add-others-3
-    sub-room
-    returns
-    returns-2)
+    bounds-self-0
+    bounds-self-1
+    bounds-self-2
+    bounds-self-3
+    claim_beside-requires
+    claim_beside-requires-2
+    overflow_add-others
+    claim_beside-requires-3
+    overflow_add-others-2
+    claim_beside-requires-4
+    overflow_add-others-3
+    overflow_sub-room
+    returns-then-room-lt-LIVE
+    returns-else-room-lt-LIVE)

@@ -4,18 +4,23 @@ use borrow.Author.Rules.{rules}
 use Rattle.module.proofs.Module.new.Statement.{statement}
 use Rattle.module.proofs.Module.new.Tie as tie
 
-known-length-requires : tie.Need-known-length-requires
-known-length-requires c κs = search rules
+known_length-requires : tie.Need-known_length-requires
+known_length-requires c κs = search rules
 
-number-entries-requires : tie.Need-number-entries-requires
-number-entries-requires c κs = search rules
+number_entries-requires : tie.Need-number_entries-requires
+number_entries-requires c κs = search rules
 
-blank-requires : tie.Need-blank-requires
-blank-requires c κs = search rules
+blank-site-requires : tie.Need-blank-site-requires
+blank-site-requires c κs = search rules
 
 returns : tie.Need-returns
-returns c = starts_as c.blank.result _ c.blank.ensures c.before.number-entries.ensures.0 c.before.number-entries.ensures.1
+returns c = starts_as c.blank-site.result _ c.blank-site.ensures c.number_entries.ensures.0 c.number_entries.ensures.1
 
 pub new_spec : {M : Type 1} → statement M
 new_spec =
-    tie.close (tie.spec known-length-requires number-entries-requires blank-requires returns)
+    tie.close
+    (tie.spec
+    known_length-requires
+    number_entries-requires
+    blank-site-requires
+    returns)

@@ -15,54 +15,50 @@ abbrev came : tie.Start → Lent
 came s = lent s.args.log.now s.args.rows.now s.args.numbers.now s.args.book.now []
 
 -- the slot is opened, and its site valid with what it is lent
-lent-to : (t : tie.Then1) → Lending t.before.before.before.before.before.args.self t.before.before.before.before.before.args.slot (came t.before.before.before.before.before)
-lent-to t = let s = t.before.before.before.before.before in lending s.args.self s.args.slot (came s) s.requires (sym t.before.is_open.ensures ∙ t.if1.true)
+lent-to : (t : tie.Then-is_open) → Lending t.args.self t.args.slot (came t.before.before.before.before.before)
+lent-to t = lending t.args.self t.args.slot (came t.before.before.before.before.before) t.requires (sym t.is_open.ensures ∙ t.if-is_open.true)
 
-is-open-requires : tie.Need-is-open-requires
-is-open-requires c κs = let s = c.before.before.before in with_size s.args.self s.args.slot (came s) s.requires
+is_open-requires : tie.Need-is_open-requires
+is_open-requires c κs = with_size c.args.self c.args.slot (came c.before.before.before) c.requires
 
-mul-own : tie.Need-overflow-mul-own
-mul-own c = omega (arith, (lent-to c.before).below)
+offset_bounds-slots-slot : tie.Need-offset_bounds-slots-slot
+offset_bounds-slots-slot c = omega (arith, (lent-to c.before).below)
 
-array-copy-out-own : tie.Need-array-copy-out-own
-array-copy-out-own c = (lent-to c.before).below
+bounds-slots-slot : tie.Need-bounds-slots-slot
+bounds-slots-slot c = (lent-to c.before).below
 
-mul-a : tie.Need-overflow-mul-a
-mul-a c = omega (arith, (lent-to c.before.before.before).below)
+overflow_mul-a : tie.Need-overflow_mul-a
+overflow_mul-a c = omega (arith, (lent-to c.before.before.before).below)
 
 live-requires : tie.Need-live-requires
 live-requires c κs = (lent-to c.before.before.before).few
 
-add-e : tie.Need-overflow-add-e
-add-e c = let k = lent-to c.before.before.before.before in omega (arith, k.below, k.few, c.live.ensures)
+overflow_add-e : tie.Need-overflow_add-e
+overflow_add-e c = let k = lent-to c.before.before.before.before in omega (arith, k.below, k.few, c.live.ensures)
 
-sub-persistent : tie.Need-overflow-sub-persistent
-sub-persistent c = search rules
+slice_bounds-persistent-count : tie.Need-slice_bounds-persistent-count
+slice_bounds-persistent-count c = search rules
 
-part-persistent-start : tie.Need-slice-bounds-persistent-start
-part-persistent-start c = search rules
+slice_bounds-persistent-start : tie.Need-slice_bounds-persistent-start
+slice_bounds-persistent-start c = search rules
 
-part-persistent-end : tie.Need-slice-bounds-persistent-end
-part-persistent-end c = let k = lent-to c.before.before.before.before in omega (arith, k.below, k.few, k.long, c.live.ensures)
+slice_bounds-persistent-end : tie.Need-slice_bounds-persistent-end
+slice_bounds-persistent-end c = let k = lent-to c.before.before.before.before in omega (arith, k.below, k.few, k.long, c.live.ensures)
 
-persistent-requires : tie.Need-persistent-requires
-persistent-requires c κs =
-    let s = c.before.before.before.before.before.before.before.before.before.before.before.before in
-    let l = c.before.before.before in
-    (lent-to c.before.before.before.before.before.before.before).valid (64 * s.args.slot + l.live.result - 64 * s.args.slot) (omega (arith, l.live.ensures)) []
+persistent-r-requires : tie.Need-persistent-r-requires
+persistent-r-requires c κs =
+    (lent-to c.before.before.before.before.before.before.before).valid (64 * c.args.slot + c.live.result - 64 * c.args.slot) (omega (arith, c.live.ensures)) []
 
 conclude-requires : tie.Need-conclude-requires
 conclude-requires c κs = let k = lent-to c.before.before.before.before.before.before.before.before.before.before in (k.below, k.size)
 
-same_length : tie.Need-same-length
-same_length c = search rules
+shape_of-numbers-then-is_open : tie.Need-shape_of-numbers-then-is_open
+shape_of-numbers-then-is_open c = search rules
 
-returns : tie.Need-returns
-returns c =
-    let s = c.before.before.before.before.before.before.before.before.before.before.before.before.before.before.before.before in
-    let a = s.args in
-    let l = c.before.before.before.before.before.before.before in
-    serves a.self a.slot (Call.Persistent a.n.0) (lent a.log.now a.rows.now a.numbers.now a.book.now a.lists.now) refl (lent-to c.before.before.before.before.before.before.before.before.before.before.before).on (64 * a.slot + l.live.result - 64 * a.slot) (omega (arith, l.live.ensures)) _ _ _ _ _ _ (search rules) _ (λ z e. sym e) _ c.conclude.ensures c.before.before.before.persistent.ensures
+returns-then-is_open : tie.Need-returns-then-is_open
+returns-then-is_open c =
+    let a = c.args in
+    serves a.self a.slot (Call.Persistent a.n.0) (lent a.log.now a.rows.now a.numbers.now a.book.now a.lists.now) refl (lent-to c.before.before.before.before.before.before.before.before.before.before.before).on (64 * a.slot + c.live.result - 64 * a.slot) (omega (arith, c.live.ensures)) _ _ _ _ _ _ (search rules) _ (λ z e. sym e) _ c.conclude.ensures c.persistent-r.ensures
 
 small : (s : tie.Start) → s.args.n.0 ≤ 18446744073709551615
 small s = search rules
@@ -70,28 +66,27 @@ small s = search rules
 refuse-requires : tie.Need-refuse-requires
 refuse-requires c κs = search rules
 
-returns-2 : tie.Need-returns-2
-returns-2 c =
-    let s = c.before.before.before.before.before.before in
-    let a = s.args in
-    turns_plain a.self a.slot (Call.Persistent a.n.0) (lent a.log.now a.rows.now a.numbers.now a.book.now a.lists.now) _ refl (small s) (sym c.before.before.is_open.ensures ∙ c.before.if1.false) c.refuse.ensures
+returns : tie.Need-returns
+returns c =
+    let a = c.args in
+    turns_plain a.self a.slot (Call.Persistent a.n.0) (lent a.log.now a.rows.now a.numbers.now a.book.now a.lists.now) _ refl (small c.before.before.before.before.before.before) (sym c.is_open.ensures ∙ c.if-is_open.false) c.refuse.ensures
 
-pub persistent-spec : {M : Type 1} → statement M
-persistent-spec =
+pub persistent_spec : {M : Type 1} → statement M
+persistent_spec =
     tie.close
     (tie.spec
-    is-open-requires
-    mul-own
-    array-copy-out-own
-    mul-a
+    is_open-requires
+    offset_bounds-slots-slot
+    bounds-slots-slot
+    overflow_mul-a
     live-requires
-    add-e
-    sub-persistent
-    part-persistent-start
-    part-persistent-end
-    persistent-requires
+    overflow_add-e
+    slice_bounds-persistent-count
+    slice_bounds-persistent-start
+    slice_bounds-persistent-end
+    persistent-r-requires
     conclude-requires
-    same_length
-    returns
+    shape_of-numbers-then-is_open
+    returns-then-is_open
     refuse-requires
-    returns-2)
+    returns)

@@ -5,25 +5,31 @@ use Rattle.module.specs.Polls.{book_size, book_below, book_valid, polls-site, po
 use Rattle.module.proofs.Module.poll.Statement.{statement}
 use Rattle.module.proofs.Module.poll.Tie as tie
 
-is-open-requires : tie.Need-is-open-requires
-is-open-requires c κs = book_size c.args.self c.args.slot c.args.book.now c.requires
+is_open-requires : tie.Need-is_open-requires
+is_open-requires c κs = book_size c.args.self c.args.slot c.args.book.now c.requires
 
-mul-own : tie.Need-overflow-mul-own
-mul-own c = let s = c.before.before.before in let q = book_below s.args.self s.args.slot s.args.book.now s.requires (sym c.before.before.is_open.ensures ∙ c.before.if1.true) in omega (arith, q)
+offset_bounds-slots-slot : tie.Need-offset_bounds-slots-slot
+offset_bounds-slots-slot c = let q = book_below c.args.self c.args.slot c.args.book.now c.requires (sym c.is_open.ensures ∙ c.if-is_open.true) in omega (arith, q)
 
-array-copy-out-own : tie.Need-array-copy-out-own
-array-copy-out-own c = let s = c.before.before.before in book_below s.args.self s.args.slot s.args.book.now s.requires (sym c.before.before.is_open.ensures ∙ c.before.if1.true)
+bounds-slots-slot : tie.Need-bounds-slots-slot
+bounds-slots-slot c = book_below c.args.self c.args.slot c.args.book.now c.requires (sym c.is_open.ensures ∙ c.if-is_open.true)
 
 poll-requires : tie.Need-poll-requires
-poll-requires c κs = let s = c.before.before.before.before.before in book_valid s.args.self s.args.slot s.args.book.now s.requires (sym c.before.before.before.before.is_open.ensures ∙ c.before.before.before.if1.true)
+poll-requires c κs = book_valid c.args.self c.args.slot c.args.book.now c.requires (sym c.is_open.ensures ∙ c.if-is_open.true)
+
+returns-then-is_open : tie.Need-returns-then-is_open
+returns-then-is_open c = let a = c.args in polls-site a.self a.slot a.book.now a.h _ (sym c.is_open.ensures ∙ c.if-is_open.true) c.poll.ensures
 
 returns : tie.Need-returns
-returns c = let a = c.before.before.before.before.before.before.args in polls-site a.self a.slot a.book.now a.h _ (sym c.before.before.before.before.before.is_open.ensures ∙ c.before.before.before.before.if1.true) c.poll.ensures
-
-returns-2 : tie.Need-returns-2
-returns-2 c = let a = c.before.before.args in polls_none a.self a.slot a.book.now a.h (sym c.before.is_open.ensures ∙ c.if1.false)
+returns c = let a = c.args in polls_none a.self a.slot a.book.now a.h (sym c.is_open.ensures ∙ c.if-is_open.false)
 
 pub poll_spec : {M : Type 1} → statement M
 poll_spec =
     tie.close
-    (tie.spec is-open-requires mul-own array-copy-out-own poll-requires returns returns-2)
+    (tie.spec
+    is_open-requires
+    offset_bounds-slots-slot
+    bounds-slots-slot
+    poll-requires
+    returns-then-is_open
+    returns)

@@ -22,134 +22,129 @@ abbrev came : tie.Start → Lent
 came s = lent s.args.log.now s.args.rows.now s.args.numbers.now s.args.book.now []
 
 -- the slot is opened
-opened : (t : tie.Then1) → (slot_in t.before.before.before.before.before.before.args.self.slots t.before.before.before.before.before.before.args.slot).opened ≡ true
-opened t = sym t.before.is_open.ensures ∙ t.if1.true
+opened : (t : tie.Then-is_open) → (slot_in t.args.self.slots t.args.slot).opened ≡ true
+opened t = sym t.is_open.ensures ∙ t.if-is_open.true
 
-below : (t : tie.Then1) → t.before.before.before.before.before.before.args.slot < 4
-below t = let s = t.before.before.before.before.before.before in with_below s.args.self s.args.slot (came s) s.requires (opened t)
+below : (t : tie.Then-is_open) → t.args.slot < 4
+below t = with_below t.args.self t.args.slot (came t.before.before.before.before.before.before) t.requires (opened t)
 
-is-open-requires : tie.Need-is-open-requires
-is-open-requires c κs = let s = c.before.before.before.before in with_size s.args.self s.args.slot (came s) s.requires
+is_open-requires : tie.Need-is_open-requires
+is_open-requires c κs = with_size c.args.self c.args.slot (came c.before.before.before.before) c.requires
 
-mul-own : tie.Need-overflow-mul-own
-mul-own c = let q = below c.before in omega (arith, q)
+offset_bounds-slots-slot : tie.Need-offset_bounds-slots-slot
+offset_bounds-slots-slot c = let q = below c.before in omega (arith, q)
 
-array-copy-out-own : tie.Need-array-copy-out-own
-array-copy-out-own c = below c.before
+bounds-slots-slot : tie.Need-bounds-slots-slot
+bounds-slots-slot c = below c.before
 
 live-requires : tie.Need-live-requires
-live-requires c κs = let s = c.before.before.before.before.before.before.before.before.before in with_few s.args.self s.args.slot (came s) s.requires (below c.before.before.before)
+live-requires c κs = with_few c.args.self c.args.slot (came c.before.before.before.before.before.before.before.before.before) c.requires (below c.before.before.before)
 
-add-lesser : tie.Need-overflow-add-lesser
-add-lesser c = let s = c.before.before.before.before.before.before.before.before.before.before in let f = with_few s.args.self s.args.slot (came s) s.requires (below c.before.before.before.before) in omega (arith, f, c.live.ensures)
+overflow_add-live : tie.Need-overflow_add-live
+overflow_add-live c = let f = with_few c.args.self c.args.slot (came c.before.before.before.before.before.before.before.before.before.before) c.requires (below c.before.before.before.before) in omega (arith, f, c.live.ensures)
 
-may-use-requires : tie.Need-may-use-requires
-may-use-requires c κs = let s = c.before.before.before.before.before.before.before.before.before.before in with_claims s.args.self s.args.slot (came s) s.requires (below c.before.before.before.before)
+may_use-requires : tie.Need-may_use-requires
+may_use-requires c κs = with_claims c.args.self c.args.slot (came c.before.before.before.before.before.before.before.before.before.before) c.requires (below c.before.before.before.before)
 
-lesser-requires : tie.Need-lesser-requires
-lesser-requires c κs = search rules
+lesser-n-requires : tie.Need-lesser-n-requires
+lesser-n-requires c κs = search rules
 
 -- how many are lent
-count : (k : tie.After-lesser) → k.lesser.result ≡ min (live_in k.before.before.before.before.before.before.before.before.before.before.before.before.args.self.slots k.before.before.before.before.before.before.before.before.before.before.before.before.args.slot + 1) (may_use k.before.before.before.before.before.before.before.before.before.before.before.before.args.self.slots k.before.before.before.before.before.before.before.before.before.before.before.before.args.slot)
-count k = k.lesser.ensures ∙ ap₂ (λ (x y : ℕ). min (x + 1) y) k.before.before.live.ensures k.before.may-use.ensures
+count : (k : tie.After-lesser-n) → k.lesser-n.result ≡ min (live_in k.args.self.slots k.args.slot + 1) (may_use k.args.self.slots k.args.slot)
+count k = k.lesser-n.ensures ∙ ap₂ (λ (x y : ℕ). min (x + 1) y) k.live.ensures k.may_use.ensures
 
-few : (k : tie.After-lesser) → k.lesser.result ≤ 64
-few k = let q = count_may _ _ _ (count k) in let r = may_most k.before.before.before.before.before.before.before.before.before.before.before.before.args.self.slots k.before.before.before.before.before.before.before.before.before.before.before.before.args.slot in omega (arith, q, r)
+few : (k : tie.After-lesser-n) → k.lesser-n.result ≤ 64
+few k = let q = count_may _ _ _ (count k) in let r = may_most k.args.self.slots k.args.slot in omega (arith, q, r)
 
-lend-requires : tie.Need-lend-requires
-lend-requires c κs =
-    let s = c.before.before.before.before.before.before.before.before.before.before.before.before.before in with_gather s.args.self s.args.slot (came s) s.requires (below c.before.before.before.before.before.before.before) _ (count_may _ _ _ (count c.before))
+lend-loan-requires : tie.Need-lend-loan-requires
+lend-loan-requires c κs = with_gather c.args.self c.args.slot (came c.before.before.before.before.before.before.before.before.before.before.before.before.before) c.requires (below c.before.before.before.before.before.before.before) _ (count_may _ _ _ (count c.before))
 
-mul-a : tie.Need-overflow-mul-a
-mul-a c = let q = below c.before.before.before.before.before.before.before.before.before.before in omega (arith, q)
+overflow_mul-a : tie.Need-overflow_mul-a
+overflow_mul-a c = let q = below c.before.before.before.before.before.before.before.before.before.before in omega (arith, q)
 
-add-e : tie.Need-overflow-add-e
-add-e c = let q = below c.before.before.before.before.before.before.before.before.before.before in let f = few c.before.before.before.before in omega (arith, q, f)
+overflow_add-e : tie.Need-overflow_add-e
+overflow_add-e c = let q = below c.before.before.before.before.before.before.before.before.before.before in let f = few c.before.before.before.before in omega (arith, q, f)
 
-sub-redo : tie.Need-overflow-sub-redo
-sub-redo c = search rules
+slice_bounds-redo-count : tie.Need-slice_bounds-redo-count
+slice_bounds-redo-count c = search rules
 
-part-redo-start : tie.Need-slice-bounds-redo-start
-part-redo-start c = search rules
+slice_bounds-redo-start : tie.Need-slice_bounds-redo-start
+slice_bounds-redo-start c = search rules
 
-part-redo-end : tie.Need-slice-bounds-redo-end
-part-redo-end c = let q = below c.before.before.before.before.before.before.before.before.before.before.before.before in let f = few c.before.before.before.before.before.before in let w = c.before.before.before.before.lend.ensures.gathered.into.gathers.shared.long in omega (arith, q, f, w)
+slice_bounds-redo-end : tie.Need-slice_bounds-redo-end
+slice_bounds-redo-end c = let q = below c.before.before.before.before.before.before.before.before.before.before.before.before in let f = few c.before.before.before.before.before.before in let w = c.lend-loan.ensures.gathered.into.gathers.shared.long in omega (arith, q, f, w)
 
-redo-requires : tie.Need-redo-requires
-redo-requires c κs =
-    let s = c.before.before.before.before.before.before.before.before.before.before.before.before.before.before.before.before.before.before.before.before in
-    let n = c.before.before.before.before.before.before.before.before.lesser.result in
-    with_loan s.args.self s.args.slot (came s) s.requires (below c.before.before.before.before.before.before.before.before.before.before.before.before.before.before) n _ _ c.before.before.before.before.before.before.lend.ensures (64 * s.args.slot + n - 64 * s.args.slot) (omega arith) (opened c.before.before.before.before.before.before.before.before.before.before.before.before.before.before) (let w = with_may s.args.self s.args.slot (came s) s.requires (below c.before.before.before.before.before.before.before.before.before.before.before.before.before.before) in lent-live _ _ _ (count c.before.before.before.before.before.before.before.before) w) []
+redo-r-requires : tie.Need-redo-r-requires
+redo-r-requires c κs =
+    let n = c.lesser-n.result in
+    with_loan c.args.self c.args.slot (came c.before.before.before.before.before.before.before.before.before.before.before.before.before.before.before.before.before.before.before.before) c.requires (below c.before.before.before.before.before.before.before.before.before.before.before.before.before.before) n _ _ c.lend-loan.ensures (64 * c.args.slot + n - 64 * c.args.slot) (omega arith) (opened c.before.before.before.before.before.before.before.before.before.before.before.before.before.before) (let w = with_may c.args.self c.args.slot (came c.before.before.before.before.before.before.before.before.before.before.before.before.before.before.before.before.before.before.before.before) c.requires (below c.before.before.before.before.before.before.before.before.before.before.before.before.before.before) in lent-live _ _ _ (count c.before.before.before.before.before.before.before.before) w) []
 
 settle-requires : tie.Need-settle-requires
-settle-requires c κs = let g = c.before.before.before.before.before.before.before.before.before.before.before.before.before.before.lend.ensures.gathered.into in (below c.before.before.before.before.before.before.before.before.before.before.before.before.before.before.before.before.before.before.before.before.before.before, g.size, same_len_mid (64 * c.before.before.before.before.before.before.before.before.before.before.before.before.before.before.before.before.before.before.before.before.before.before.before.before.before.before.before.before.args.slot) (64 * c.before.before.before.before.before.before.before.before.before.before.before.before.before.before.before.before.before.before.before.before.before.before.before.before.before.before.before.before.args.slot + c.before.before.before.before.before.before.before.before.before.before.before.before.before.before.before.before.lesser.result - 64 * c.before.before.before.before.before.before.before.before.before.before.before.before.before.before.before.before.before.before.before.before.before.before.before.before.before.before.before.before.args.slot) c.before.before.before.before.before.before.before.before.before.before.before.before.before.before.lend.new.1.0 c.before.before.before.before.before.before.before.redo.new.1.1.1.0 (search rules) ∙ g.gathers.shared.long)
+settle-requires c κs = let g = c.lend-loan.ensures.gathered.into in (below c.before.before.before.before.before.before.before.before.before.before.before.before.before.before.before.before.before.before.before.before.before.before, g.size, same_len_mid (64 * c.args.slot) (64 * c.args.slot + c.lesser-n.result - 64 * c.args.slot) c.lend-loan.new.numbers c.redo-r.new.order (search rules) ∙ g.gathers.shared.long)
 
-same_length : tie.Need-same-length
-same_length c = search rules
+shape_of-log-then-is_open : tie.Need-shape_of-log-then-is_open
+shape_of-log-then-is_open c = search rules
 
-same-length-2 : tie.Need-same-length-2
-same-length-2 c = search rules
+shape_of-rows-then-is_open : tie.Need-shape_of-rows-then-is_open
+shape_of-rows-then-is_open c = search rules
 
-same-length-3 : tie.Need-same-length-3
-same-length-3 c = search rules
+shape_of-numbers-then-is_open : tie.Need-shape_of-numbers-then-is_open
+shape_of-numbers-then-is_open c = search rules
 
-returns : tie.Need-returns
-returns c ns =
-    let s = c.before.before.before.before.before.before.before.before.before.before.before.before.before.before.before.before.before.before.before.before.before.before.before.before.before.before.before.before.before.before.before in
-    let a = s.args in
-    let n = c.before.before.before.before.before.before.before.before.before.before.before.before.before.before.before.before.before.before.before.lesser.result in
-    serves_redo a.self a.slot (lent a.log.now a.rows.now a.numbers.now a.book.now ns) (opened c.before.before.before.before.before.before.before.before.before.before.before.before.before.before.before.before.before.before.before.before.before.before.before.before.before) n _ _ c.before.before.before.before.before.before.before.before.before.before.before.before.before.before.before.before.before.lend.ensures (64 * a.slot + n - 64 * a.slot) (omega arith) _ _ _ _ _ _ (search rules) _ _ (below c.before.before.before.before.before.before.before.before.before.before.before.before.before.before.before.before.before.before.before.before.before.before.before.before.before) (count c.before.before.before.before.before.before.before.before.before.before.before.before.before.before.before.before.before.before.before) a.line.now (c.before.before.before.before.before.before.before.before.before.before.redo.ensures ns) c.before.before.settle.ensures
+returns-then-is_open : tie.Need-returns-then-is_open
+returns-then-is_open c ns =
+    let a = c.args in
+    let n = c.lesser-n.result in
+    serves_redo a.self a.slot (lent a.log.now a.rows.now a.numbers.now a.book.now ns) (opened c.before.before.before.before.before.before.before.before.before.before.before.before.before.before.before.before.before.before.before.before.before.before.before.before.before) n _ _ c.lend-loan.ensures (64 * a.slot + n - 64 * a.slot) (omega arith) _ _ _ _ _ _ (search rules) _ _ (below c.before.before.before.before.before.before.before.before.before.before.before.before.before.before.before.before.before.before.before.before.before.before.before.before.before) (count c.before.before.before.before.before.before.before.before.before.before.before.before.before.before.before.before.before.before.before) a.line.now (c.redo-r.ensures ns) c.settle.ensures
 
-read-did-requires : tie.Need-read-did-requires
-read-did-requires c κs = search rules
+read_did-x-requires : tie.Need-read_did-x-requires
+read_did-x-requires c κs = search rules
 
 refuse-requires : tie.Need-refuse-requires
 refuse-requires c κs = search rules
 
-returns-2 : tie.Need-returns-2
-returns-2 c ns =
-    let s = c.before.before.before.before.before.before.before.before.before in
-    let a = s.args in
+returns-then-x : tie.Need-returns-then-x
+returns-then-x c ns =
+    let a = c.args in
     turns a.self (At a.slot (Call.Redo a.line.now)) (lent a.log.now a.rows.now a.numbers.now a.book.now ns) _ _ c.refuse.ensures
-    (λ b v. turned_away a.self.slots b v a.slot (Call.Redo a.line.now) (sym c.before.before.before.before.is_open.ensures ∙ c.before.before.before.if1.false)
-    (readable_said a.line.now _ c.before.before.read-did.ensures c.before.if2.true))
+    (λ b v. turned_away a.self.slots b v a.slot (Call.Redo a.line.now) (sym c.is_open.ensures ∙ c.if-is_open.false)
+    (readable_said a.line.now _ c.read_did-x.ensures c.if-x.true))
 
 refuse-requires-2 : tie.Need-refuse-requires-2
 refuse-requires-2 c κs = search rules
 
-returns-3 : tie.Need-returns-3
-returns-3 c ns =
-    let s = c.before.before.before.before.before.before.before.before.before in
-    let a = s.args in
-    turns a.self (At a.slot (Call.Redo a.line.now)) (lent a.log.now a.rows.now a.numbers.now a.book.now ns) _ _ c.refuse2.ensures
-    (λ b v. turned_unread a.self.slots b v a.slot (Call.Redo a.line.now) (sym c.before.before.before.before.is_open.ensures ∙ c.before.before.before.if1.false)
-    (unreadable_redo a.line.now (did_unsaid a.line.now _ c.before.before.read-did.ensures c.before.if2.false)))
+returns : tie.Need-returns
+returns c ns =
+    let a = c.args in
+    turns a.self (At a.slot (Call.Redo a.line.now)) (lent a.log.now a.rows.now a.numbers.now a.book.now ns) _ _ c.refuse-2.ensures
+    (λ b v. turned_unread a.self.slots b v a.slot (Call.Redo a.line.now) (sym c.is_open.ensures ∙ c.if-is_open.false)
+    (unreadable_redo a.line.now (did_unsaid a.line.now _ c.read_did-x.ensures c.if-x.false)))
 
-pub redo-spec : {M : Type 1} → statement M
-redo-spec =
+pub redo_spec : {M : Type 1} → statement M
+redo_spec =
     tie.close
     (tie.spec
-    is-open-requires
-    mul-own
-    array-copy-out-own
+    is_open-requires
+    offset_bounds-slots-slot
+    bounds-slots-slot
     live-requires
-    add-lesser
-    may-use-requires
-    lesser-requires
-    lend-requires
-    mul-a
-    add-e
-    sub-redo
-    part-redo-start
-    part-redo-end
-    redo-requires
+    overflow_add-live
+    may_use-requires
+    lesser-n-requires
+    lend-loan-requires
+    overflow_mul-a
+    overflow_add-e
+    slice_bounds-redo-count
+    slice_bounds-redo-start
+    slice_bounds-redo-end
+    redo-r-requires
     settle-requires
-    same_length
-    same-length-2
-    same-length-3
-    returns
-    read-did-requires
+    shape_of-log-then-is_open
+    shape_of-rows-then-is_open
+    shape_of-numbers-then-is_open
+    returns-then-is_open
+    read_did-x-requires
     refuse-requires
-    returns-2
+    returns-then-x
     refuse-requires-2
-    returns-3)
+    returns)

@@ -5,25 +5,31 @@ use borrow.Author.Rules.{rules}
 use Rattle.module.proofs.Module.settle.Statement.{statement}
 use Rattle.module.proofs.Module.settle.Tie as tie
 
-is-refused-requires : tie.Need-is-refused-requires
-is-refused-requires c κs = search rules
+is_refused-requires : tie.Need-is_refused-requires
+is_refused-requires c κs = search rules
 
-put-part-requires : tie.Need-put-part-requires
-put-part-requires c κs = search rules
+put_part-requires : tie.Need-put_part-requires
+put_part-requires c κs = search rules
 
-same_length : tie.Need-same-length
-same_length c = search rules
+shape_of-numbers-then-is_refused : tie.Need-shape_of-numbers-then-is_refused
+shape_of-numbers-then-is_refused c = search rules
 
-returns : tie.Need-returns
-returns c = let a = c.before.before.before.before.before.before.before.before.before.args in settles_back a.self a.slot a.loan a.r a.promise _ _ (sym c.before.before.before.before.before.if1.true ∙ c.before.before.before.before.before.before.is-refused.ensures) c.before.before.put-part.ensures
+returns-then-is_refused : tie.Need-returns-then-is_refused
+returns-then-is_refused c = let a = c.args in settles_back a.self a.slot a.loan a.r a.promise _ _ (sym c.if-is_refused.true ∙ c.is_refused.ensures) c.put_part.ensures
 
 answer-requires : tie.Need-answer-requires
 answer-requires c κs = search rules
 
-returns-2 : tie.Need-returns-2
-returns-2 c = let a = c.before.before.before.before.before.before.args in settles_keep a.self a.slot a.loan a.r a.promise a.numbers.now _ (sym c.before.before.if1.false ∙ c.before.before.before.is-refused.ensures) c.answer.ensures
+returns : tie.Need-returns
+returns c = let a = c.args in settles_keep a.self a.slot a.loan a.r a.promise a.numbers.now _ (sym c.if-is_refused.false ∙ c.is_refused.ensures) c.answer.ensures
 
-pub settle-spec : {M : Type 1} → statement M
-settle-spec =
+pub settle_spec : {M : Type 1} → statement M
+settle_spec =
     tie.close
-    (tie.spec is-refused-requires put-part-requires same_length returns answer-requires returns-2)
+    (tie.spec
+    is_refused-requires
+    put_part-requires
+    shape_of-numbers-then-is_refused
+    returns-then-is_refused
+    answer-requires
+    returns)

@@ -15,80 +15,75 @@ abbrev came : tie.Start → Lent
 came s = lent s.args.log.now s.args.rows.now s.args.numbers.now s.args.book.now []
 
 -- the slot is opened, and its site valid with what it is lent
-lent-to : (t : tie.Then1) → Lending t.before.before.before.before.before.args.self t.before.before.before.before.before.args.slot (came t.before.before.before.before.before)
-lent-to t = let s = t.before.before.before.before.before in lending s.args.self s.args.slot (came s) s.requires (sym t.before.is_open.ensures ∙ t.if1.true)
+lent-to : (t : tie.Then-is_open) → Lending t.args.self t.args.slot (came t.before.before.before.before.before)
+lent-to t = lending t.args.self t.args.slot (came t.before.before.before.before.before) t.requires (sym t.is_open.ensures ∙ t.if-is_open.true)
 
-is-open-requires : tie.Need-is-open-requires
-is-open-requires c κs = let s = c.before.before.before in with_size s.args.self s.args.slot (came s) s.requires
+is_open-requires : tie.Need-is_open-requires
+is_open-requires c κs = with_size c.args.self c.args.slot (came c.before.before.before) c.requires
 
-mul-own : tie.Need-overflow-mul-own
-mul-own c = omega (arith, (lent-to c.before).below)
+offset_bounds-slots-slot : tie.Need-offset_bounds-slots-slot
+offset_bounds-slots-slot c = omega (arith, (lent-to c.before).below)
 
-array-copy-out-own : tie.Need-array-copy-out-own
-array-copy-out-own c = (lent-to c.before).below
+bounds-slots-slot : tie.Need-bounds-slots-slot
+bounds-slots-slot c = (lent-to c.before).below
 
-mul-a : tie.Need-overflow-mul-a
-mul-a c = omega (arith, (lent-to c.before.before.before).below)
+overflow_mul-a : tie.Need-overflow_mul-a
+overflow_mul-a c = omega (arith, (lent-to c.before.before.before).below)
 
 live-requires : tie.Need-live-requires
 live-requires c κs = (lent-to c.before.before.before).few
 
-add-e : tie.Need-overflow-add-e
-add-e c = let k = lent-to c.before.before.before.before in omega (arith, k.below, k.few, c.live.ensures)
+overflow_add-e : tie.Need-overflow_add-e
+overflow_add-e c = let k = lent-to c.before.before.before.before in omega (arith, k.below, k.few, c.live.ensures)
 
-sub-withdraw : tie.Need-overflow-sub-withdraw
-sub-withdraw c = search rules
+slice_bounds-withdraw-count : tie.Need-slice_bounds-withdraw-count
+slice_bounds-withdraw-count c = search rules
 
-part-withdraw-start : tie.Need-slice-bounds-withdraw-start
-part-withdraw-start c = search rules
+slice_bounds-withdraw-start : tie.Need-slice_bounds-withdraw-start
+slice_bounds-withdraw-start c = search rules
 
-part-withdraw-end : tie.Need-slice-bounds-withdraw-end
-part-withdraw-end c = let k = lent-to c.before.before.before.before in omega (arith, k.below, k.few, k.long, c.live.ensures)
+slice_bounds-withdraw-end : tie.Need-slice_bounds-withdraw-end
+slice_bounds-withdraw-end c = let k = lent-to c.before.before.before.before in omega (arith, k.below, k.few, k.long, c.live.ensures)
 
-withdraw-requires : tie.Need-withdraw-requires
-withdraw-requires c κs =
-    let s = c.before.before.before.before.before.before.before.before.before.before.before.before in
-    let l = c.before.before.before in
-    (lent-to c.before.before.before.before.before.before.before).valid (64 * s.args.slot + l.live.result - 64 * s.args.slot) (omega (arith, l.live.ensures)) []
+withdraw-r-requires : tie.Need-withdraw-r-requires
+withdraw-r-requires c κs =
+    (lent-to c.before.before.before.before.before.before.before).valid (64 * c.args.slot + c.live.result - 64 * c.args.slot) (omega (arith, c.live.ensures)) []
 
 conclude-requires : tie.Need-conclude-requires
 conclude-requires c κs = let k = lent-to c.before.before.before.before.before.before.before.before.before.before in (k.below, k.size)
 
-same_length : tie.Need-same-length
-same_length c = search rules
+shape_of-numbers-then-is_open : tie.Need-shape_of-numbers-then-is_open
+shape_of-numbers-then-is_open c = search rules
 
-returns : tie.Need-returns
-returns c =
-    let s = c.before.before.before.before.before.before.before.before.before.before.before.before.before.before.before.before in
-    let a = s.args in
-    let l = c.before.before.before.before.before.before.before in
-    serves a.self a.slot (Call.Withdraw a.id) (lent a.log.now a.rows.now a.numbers.now a.book.now a.lists.now) refl (lent-to c.before.before.before.before.before.before.before.before.before.before.before).on (64 * a.slot + l.live.result - 64 * a.slot) (omega (arith, l.live.ensures)) _ _ _ _ _ _ (search rules) _ (λ z e. sym e) _ c.conclude.ensures c.before.before.before.withdraw.ensures
+returns-then-is_open : tie.Need-returns-then-is_open
+returns-then-is_open c =
+    let a = c.args in
+    serves a.self a.slot (Call.Withdraw a.id) (lent a.log.now a.rows.now a.numbers.now a.book.now a.lists.now) refl (lent-to c.before.before.before.before.before.before.before.before.before.before.before).on (64 * a.slot + c.live.result - 64 * a.slot) (omega (arith, c.live.ensures)) _ _ _ _ _ _ (search rules) _ (λ z e. sym e) _ c.conclude.ensures c.withdraw-r.ensures
 
 refuse-requires : tie.Need-refuse-requires
 refuse-requires c κs = search rules
 
-returns-2 : tie.Need-returns-2
-returns-2 c =
-    let s = c.before.before.before.before.before.before in
-    let a = s.args in
-    turns_plain a.self a.slot (Call.Withdraw a.id) (lent a.log.now a.rows.now a.numbers.now a.book.now a.lists.now) _ refl (omega (arith, s.ranges.id)) (sym c.before.before.is_open.ensures ∙ c.before.if1.false) c.refuse.ensures
+returns : tie.Need-returns
+returns c =
+    let a = c.args in
+    turns_plain a.self a.slot (Call.Withdraw a.id) (lent a.log.now a.rows.now a.numbers.now a.book.now a.lists.now) _ refl (omega (arith, c.ranges.id)) (sym c.is_open.ensures ∙ c.if-is_open.false) c.refuse.ensures
 
-pub withdraw-spec : {M : Type 1} → statement M
-withdraw-spec =
+pub withdraw_spec : {M : Type 1} → statement M
+withdraw_spec =
     tie.close
     (tie.spec
-    is-open-requires
-    mul-own
-    array-copy-out-own
-    mul-a
+    is_open-requires
+    offset_bounds-slots-slot
+    bounds-slots-slot
+    overflow_mul-a
     live-requires
-    add-e
-    sub-withdraw
-    part-withdraw-start
-    part-withdraw-end
-    withdraw-requires
+    overflow_add-e
+    slice_bounds-withdraw-count
+    slice_bounds-withdraw-start
+    slice_bounds-withdraw-end
+    withdraw-r-requires
     conclude-requires
-    same_length
-    returns
+    shape_of-numbers-then-is_open
+    returns-then-is_open
     refuse-requires
-    returns-2)
+    returns)

@@ -12,14 +12,19 @@ use Rattle.module.proofs.Slot.claim_beside.Tie as tie
 abbrev claimOr : Slot → Bool → ℕ
 claimOr s b = cond b 0 (max (live_count s.site.table) s.promise)
 
-returns : tie.Need-returns
-returns c = let a = c.before.args in sym (ap (claimOr a.self) (eq-eqb a.j a.slot c.if1.true))
+returns-then-j-slot : tie.Need-returns-then-j-slot
+returns-then-j-slot c = let a = c.args in sym (ap (claimOr a.self) (eq-eqb a.j a.slot c.if-j-slot.true))
 
 claim-requires : tie.Need-claim-requires
 claim-requires c κs = search rules
 
-returns-2 : tie.Need-returns-2
-returns-2 c = let a = c.before.before.args in c.claim.ensures ∙ sym (ap (claimOr a.self) (ne_eqb a.j a.slot c.before.if1.false))
+returns : tie.Need-returns
+returns c = let a = c.args in c.claim.ensures ∙ sym (ap (claimOr a.self) (ne_eqb a.j a.slot c.if-j-slot.false))
 
-pub claim-beside-spec : {M : Type 1} → statement M
-claim-beside-spec = tie.close (tie.spec returns claim-requires returns-2)
+pub claim_beside_spec : {M : Type 1} → statement M
+claim_beside_spec =
+    tie.close
+    (tie.spec
+    returns-then-j-slot
+    claim-requires
+    returns)

@@ -7,25 +7,31 @@ use borrow.Author.Rules.{rules}
 use Rattle.module.proofs.Slot.promised_again.Statement.{statement}
 use Rattle.module.proofs.Slot.promised_again.Tie as tie
 
-live-requires : tie.Need-live-requires
-live-requires c κs = search rules
+live-live-requires : tie.Need-live-live-requires
+live-live-requires c κs = search rules
+
+greater-most-requires : tie.Need-greater-most-requires
+greater-most-requires c κs = search rules
 
 greater-requires : tie.Need-greater-requires
 greater-requires c κs = search rules
 
-greater-requires-2 : tie.Need-greater-requires-2
-greater-requires-2 c κs = search rules
+returns-then-site : tie.Need-returns-then-site
+returns-then-site c = again_restoring c.args.self _ _ c.if-self.true c.if-site.true (c.greater-most.ensures ∙ ap (max 16) c.live-live.ensures) c.greater.ensures
 
-returns : tie.Need-returns
-returns c = again_restoring c.before.before.before.before.before.before.args.self _ _ c.before.before.if1.true c.before.if2.true (c.before.before.before.before.greater.ensures ∙ ap (max 16) c.before.before.before.before.before.live.ensures) c.greater2.ensures
+returns-else-site : tie.Need-returns-else-site
+returns-else-site c = again_plain c.args.self _ (ap₂ (λ (a b : Bool). a && b) c.if-self.true c.if-site.false) (c.greater-most.ensures ∙ ap (max 16) c.live-live.ensures)
 
-returns-2 : tie.Need-returns-2
-returns-2 c = again_plain c.before.before.before.before.before.args.self _ (ap₂ (λ (a b : Bool). a && b) c.before.if1.true c.if2.false) (c.before.before.before.greater.ensures ∙ ap (max 16) c.before.before.before.before.live.ensures)
+returns-else-self : tie.Need-returns-else-self
+returns-else-self c = again_plain c.args.self _ (ap (λ (a : Bool). a && c.args.self.site.restoring) c.if-self.false) (c.greater-most.ensures ∙ ap (max 16) c.live-live.ensures)
 
-returns-3 : tie.Need-returns-3
-returns-3 c = again_plain c.before.before.before.before.args.self _ (ap (λ (a : Bool). a && c.before.before.before.before.args.self.site.restoring) c.if1.false) (c.before.before.greater.ensures ∙ ap (max 16) c.before.before.before.live.ensures)
-
-pub promised-again-spec : {M : Type 1} → statement M
-promised-again-spec =
+pub promised_again_spec : {M : Type 1} → statement M
+promised_again_spec =
     tie.close
-    (tie.spec live-requires greater-requires greater-requires-2 returns returns-2 returns-3)
+    (tie.spec
+    live-live-requires
+    greater-most-requires
+    greater-requires
+    returns-then-site
+    returns-else-site
+    returns-else-self)

@@ -8,51 +8,51 @@ use Rattle.module.specs.GatherLaws.{gathers_in_start, may_spare, may_give, gathe
 use Rattle.module.proofs.numbers.gather.Statement.{statement}
 use Rattle.module.proofs.numbers.gather.Tie as tie
 
-abbrev invariant-loop : tie.invariant-loop
-invariant-loop numbers₀ slot n after₀ numbers after = GathersIn after₀ numbers₀ slot after numbers
+abbrev invariant-loop-after : tie.invariant-loop-after
+invariant-loop-after numbers₀ slot n after₀ numbers after = GathersIn after₀ numbers₀ slot after numbers
 
-abbrev decreases-loop : tie.decreases-loop
-decreases-loop numbers₀ slot n after₀ numbers after = n - held_in after slot
+abbrev decreases-loop-after : tie.decreases-loop-after
+decreases-loop-after numbers₀ slot n after₀ numbers after = n - held_in after slot
 
-loop-holds : tie.Need-loop-init invariant-loop decreases-loop
-loop-holds c = gathers_in_start _ _ _ _ c.before.requires
+loop-after-init : tie.Need-loop-after-init invariant-loop-after decreases-loop-after
+loop-after-init c = gathers_in_start _ _ _ _ c.requires
 
-mul-own : tie.Need-overflow-mul-own invariant-loop decreases-loop
-mul-own c = omega (arith, c.before.before.requires.own)
+offset_bounds-after-slot : tie.Need-offset_bounds-after-slot invariant-loop-after decreases-loop-after
+offset_bounds-after-slot c = omega (arith, c.requires.own)
 
-array-copy-out-own : tie.Need-array-copy-out-own invariant-loop decreases-loop
-array-copy-out-own c = c.before.before.requires.own
+bounds-after-slot : tie.Need-bounds-after-slot invariant-loop-after decreases-loop-after
+bounds-after-slot c = c.requires.own
 
-same_length : tie.Need-same-length invariant-loop decreases-loop
-same_length c = c.before.before.before.loop.invariant.gathers.shared.long ∙ sym c.before.before.before.before.before.requires.shared.long
+shape_of-numbers-then-n-own : tie.Need-shape_of-numbers-then-n-own invariant-loop-after decreases-loop-after
+shape_of-numbers-then-n-own c = c.loop-after.invariant.gathers.shared.long ∙ sym c.requires.shared.long
 
-returns : tie.Need-returns invariant-loop decreases-loop
-returns c = record { into = c.before.before.before.loop.invariant; reached = c.if1.true }
+returns-then-n-own : tie.Need-returns-then-n-own invariant-loop-after decreases-loop-after
+returns-then-n-own c = record { into = c.loop-after.invariant; reached = c.if-n-own.true }
 
-spare-requires : tie.Need-spare-requires invariant-loop decreases-loop
-spare-requires c κs = may_spare _ _ _ _ c.before.before.before.before.before.requires _ _ c.before.before.before.loop.invariant c.if1.false
+spare-from-requires : tie.Need-spare-from-requires invariant-loop-after decreases-loop-after
+spare-from-requires c κs = may_spare _ _ _ _ c.requires _ _ c.loop-after.invariant c.if-n-own.false
 
-give-requires : tie.Need-give-requires invariant-loop decreases-loop
-give-requires c κs = may_give _ _ _ _ c.before.before.before.before.before.before.before.requires _ _ c.before.before.before.before.before.loop.invariant c.before.before.if1.false _ c.before.spare.ensures
+give-after-requires : tie.Need-give-after-requires invariant-loop-after decreases-loop-after
+give-after-requires c κs = may_give _ _ _ _ c.requires _ _ c.loop-after.invariant c.if-n-own.false _ c.spare-from.ensures
 
-loop-less : tie.Need-loop-smaller invariant-loop decreases-loop
-loop-less c = omega (arith, c.before.before.give.ensures.takes, c.before.before.before.before.before.if1.false)
+loop-after-smaller : tie.Need-loop-after-smaller invariant-loop-after decreases-loop-after
+loop-after-smaller c = omega (arith, c.give-after.ensures.takes, c.if-n-own.false)
 
-loop-again : tie.Need-loop-preserved invariant-loop decreases-loop
-loop-again c = gathers_in_next _ _ _ _ c.before.before.before.before.before.before.before.before.before.before.requires _ _ c.before.before.before.before.before.before.before.before.loop.invariant c.before.before.before.before.before.if1.false _ c.before.before.before.before.spare.ensures _ _ c.before.before.give.ensures
+loop-after-preserved : tie.Need-loop-after-preserved invariant-loop-after decreases-loop-after
+loop-after-preserved c = gathers_in_next _ _ _ _ c.requires _ _ c.loop-after.invariant c.if-n-own.false _ c.spare-from.ensures _ _ c.give-after.ensures
 
-pub gather-spec : {M : Type 1} → statement M
-gather-spec =
+pub gather_spec : {M : Type 1} → statement M
+gather_spec =
     tie.close
     (tie.spec
-    invariant-loop
-    decreases-loop
-    loop-holds
-    mul-own
-    array-copy-out-own
-    same_length
-    returns
-    spare-requires
-    give-requires
-    loop-less
-    loop-again)
+    invariant-loop-after
+    decreases-loop-after
+    loop-after-init
+    offset_bounds-after-slot
+    bounds-after-slot
+    shape_of-numbers-then-n-own
+    returns-then-n-own
+    spare-from-requires
+    give-after-requires
+    loop-after-smaller
+    loop-after-preserved)

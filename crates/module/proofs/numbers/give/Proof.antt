@@ -4,79 +4,79 @@ use borrow.Author.Rules.{rules}
 use Rattle.module.proofs.numbers.give.Statement.{statement}
 use Rattle.module.proofs.numbers.give.Tie as tie
 
-mul-giver : tie.Need-overflow-mul-giver
-mul-giver c = search rules
+offset_bounds-after-from : tie.Need-offset_bounds-after-from
+offset_bounds-after-from c = search rules
 
-array-copy-out-giver : tie.Need-array-copy-out-giver
-array-copy-out-giver c = search rules
+bounds-after-from : tie.Need-bounds-after-from
+bounds-after-from c = search rules
 
-mul-taker : tie.Need-overflow-mul-taker
-mul-taker c = search rules
+offset_bounds-after-to : tie.Need-offset_bounds-after-to
+offset_bounds-after-to c = search rules
 
-array-copy-out-taker : tie.Need-array-copy-out-taker
-array-copy-out-taker c = search rules
+bounds-after-to : tie.Need-bounds-after-to
+bounds-after-to c = search rules
 
-sub_held : tie.Need-overflow-sub-held
-sub_held c = search rules
+overflow_sub-held : tie.Need-overflow_sub-held
+overflow_sub-held c = search rules
 
-mul-numbers : tie.Need-overflow-mul-numbers
-mul-numbers c = search rules
+overflow_mul-numbers : tie.Need-overflow_mul-numbers
+overflow_mul-numbers c = search rules
 
-add-numbers : tie.Need-overflow-add-numbers
-add-numbers c = search rules
+overflow_add-numbers : tie.Need-overflow_add-numbers
+overflow_add-numbers c = search rules
 
-slice-read-numbers : tie.Need-slice-read-numbers
-slice-read-numbers c = search rules
+bounds-numbers-from : tie.Need-bounds-numbers-from
+bounds-numbers-from c = search rules
 
-mul-numbers-2 : tie.Need-overflow-mul-numbers-2
-mul-numbers-2 c = search rules
+overflow_mul-numbers-2 : tie.Need-overflow_mul-numbers-2
+overflow_mul-numbers-2 c = search rules
 
-add-numbers-2 : tie.Need-overflow-add-numbers-2
-add-numbers-2 c = search rules
+overflow_add-numbers-2 : tie.Need-overflow_add-numbers-2
+overflow_add-numbers-2 c = search rules
 
-slice-write-numbers : tie.Need-slice-write-numbers
-slice-write-numbers c = search rules
+bounds-numbers-to : tie.Need-bounds-numbers-to
+bounds-numbers-to c = search rules
 
-add-taker : tie.Need-overflow-add-taker
-add-taker c = search rules
+overflow_add-taker : tie.Need-overflow_add-taker
+overflow_add-taker c = search rules
 
-mul-after : tie.Need-overflow-mul-after
-mul-after c = search rules
+offset_bounds-after-from-2 : tie.Need-offset_bounds-after-from-2
+offset_bounds-after-from-2 c = search rules
 
-array-set-from-after : tie.Need-array-set-from-after
-array-set-from-after c = search rules
+bounds-after-from-2 : tie.Need-bounds-after-from-2
+bounds-after-from-2 c = search rules
 
-mul-after-2 : tie.Need-overflow-mul-after-2
-mul-after-2 c = search rules
+offset_bounds-after-to-2 : tie.Need-offset_bounds-after-to-2
+offset_bounds-after-to-2 c = search rules
 
-array-set-from-after-2 : tie.Need-array-set-from-after-2
-array-set-from-after-2 c = search rules
+bounds-after-to-2 : tie.Need-bounds-after-to-2
+bounds-after-to-2 c = search rules
 
-same_length : tie.Need-same-length
-same_length c = search rules
+shape_of-numbers : tie.Need-shape_of-numbers
+shape_of-numbers c = search rules
 
 returns : tie.Need-returns
-returns c = gives_one _ _ _ _ c.before.before.before.before.requires
+returns c = gives_one _ _ _ _ c.requires
 
 pub give_spec : {M : Type 1} → statement M
 give_spec =
     tie.close
     (tie.spec
-    mul-giver
-    array-copy-out-giver
-    mul-taker
-    array-copy-out-taker
-    sub_held
-    mul-numbers
-    add-numbers
-    slice-read-numbers
-    mul-numbers-2
-    add-numbers-2
-    slice-write-numbers
-    add-taker
-    mul-after
-    array-set-from-after
-    mul-after-2
-    array-set-from-after-2
-    same_length
+    offset_bounds-after-from
+    bounds-after-from
+    offset_bounds-after-to
+    bounds-after-to
+    overflow_sub-held
+    overflow_mul-numbers
+    overflow_add-numbers
+    bounds-numbers-from
+    overflow_mul-numbers-2
+    overflow_add-numbers-2
+    bounds-numbers-to
+    overflow_add-taker
+    offset_bounds-after-from-2
+    bounds-after-from-2
+    offset_bounds-after-to-2
+    bounds-after-to-2
+    shape_of-numbers
     returns)

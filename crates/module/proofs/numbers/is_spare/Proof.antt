@@ -6,20 +6,27 @@ use borrow.Author.Rules.{rules}
 use Rattle.module.proofs.numbers.is_spare.Statement.{statement}
 use Rattle.module.proofs.numbers.is_spare.Tie as tie
 
+returns-then-j-slot : tie.Need-returns-then-j-slot
+returns-then-j-slot c = let a = c.args in sym (spare_own a.slots a.slot a.j c.if-j-slot.true)
+
+offset_bounds-slots-j : tie.Need-offset_bounds-slots-j
+offset_bounds-slots-j c = search rules
+
+bounds-slots-j : tie.Need-bounds-slots-j
+bounds-slots-j c = search rules
+
+overflow_add-result : tie.Need-overflow_add-result
+overflow_add-result c = let p = c.requires in omega (arith, p.0.few c.args.j p.1, p.0.most c.args.j p.1)
+
 returns : tie.Need-returns
-returns c = let a = c.before.args in sym (spare_own a.t1 a.slot a.j c.if1.true)
+returns c = let a = c.args in sym (spare_other a.slots a.slot a.j c.if-j-slot.false)
 
-mul-s : tie.Need-overflow-mul-s
-mul-s c = search rules
-
-array-copy-out-s : tie.Need-array-copy-out-s
-array-copy-out-s c = search rules
-
-add-result : tie.Need-overflow-add-result
-add-result c = let p = c.before.before.before.before.before.requires in omega (arith, p.0.few c.before.before.before.before.before.args.j p.1, p.0.most c.before.before.before.before.before.args.j p.1)
-
-returns-2 : tie.Need-returns-2
-returns-2 c = let a = c.before.before.before.before.before.before.args in sym (spare_other a.t1 a.slot a.j c.before.before.before.before.before.if1.false)
-
-pub is-spare-spec : {M : Type 1} → statement M
-is-spare-spec = tie.close (tie.spec returns mul-s array-copy-out-s add-result returns-2)
+pub is_spare_spec : {M : Type 1} → statement M
+is_spare_spec =
+    tie.close
+    (tie.spec
+    returns-then-j-slot
+    offset_bounds-slots-j
+    bounds-slots-j
+    overflow_add-result
+    returns)

@@ -9,59 +9,59 @@ use Rattle.module.specs.PartLaws.{part-copied}
 use Rattle.module.proofs.numbers.part_of.Statement.{statement}
 use Rattle.module.proofs.numbers.part_of.Tie as tie
 
-abbrev invariant-loop : tie.invariant-loop
-invariant-loop numbers slot at part₀ i₀ part i = (i ≤ 64) × (length part ≡ 64) × (take i part ≡ part_of slot i numbers)
+abbrev invariant-loop-i : tie.invariant-loop-i
+invariant-loop-i numbers slot at part₀ i₀ part i = (i ≤ 64) × (length part ≡ 64) × (take i part ≡ part_of slot i numbers)
 
-abbrev decreases-loop : tie.decreases-loop
-decreases-loop numbers slot at part₀ i₀ part i = 64 - i
+abbrev decreases-loop-i : tie.decreases-loop-i
+decreases-loop-i numbers slot at part₀ i₀ part i = 64 - i
 
-mul_at : tie.Need-overflow-mul-at invariant-loop decreases-loop
-mul_at c = omega (arith, c.requires.0)
+overflow_mul-at : tie.Need-overflow_mul-at invariant-loop-i decreases-loop-i
+overflow_mul-at c = omega (arith, c.requires.0)
 
-loop-holds : tie.Need-loop-init invariant-loop decreases-loop
-loop-holds c = (omega arith, refl, refl)
+loop-i-init : tie.Need-loop-i-init invariant-loop-i decreases-loop-i
+loop-i-init c = (omega arith, refl, refl)
 
-add-part : tie.Need-overflow-add-part invariant-loop decreases-loop
-add-part c = omega (arith, c.before.before.requires.0)
+overflow_add-part : tie.Need-overflow_add-part invariant-loop-i decreases-loop-i
+overflow_add-part c = omega (arith, c.requires.0)
 
-shared-slice-read-part : tie.Need-shared-slice-read-part invariant-loop decreases-loop
-shared-slice-read-part c = omega (arith, c.before.before.before.requires.0, c.before.before.before.requires.1, c.before.loop-test.true)
+bounds-numbers-at : tie.Need-bounds-numbers-at invariant-loop-i decreases-loop-i
+bounds-numbers-at c = omega (arith, c.requires.0, c.requires.1, c.loop-i-test.true)
 
-array-write-part : tie.Need-array-write-part invariant-loop decreases-loop
-array-write-part c = omega (arith, c.before.loop-test.true)
+bounds-part-i : tie.Need-bounds-part-i invariant-loop-i decreases-loop-i
+bounds-part-i c = omega (arith, c.loop-i-test.true)
 
-add-i : tie.Need-overflow-add-i invariant-loop decreases-loop
-add-i c = omega arith
+overflow_add-i : tie.Need-overflow_add-i invariant-loop-i decreases-loop-i
+overflow_add-i c = omega arith
 
-loop-less : tie.Need-loop-smaller invariant-loop decreases-loop
-loop-less c = omega arith
+loop-i-smaller : tie.Need-loop-i-smaller invariant-loop-i decreases-loop-i
+loop-i-smaller c = omega arith
 
-loop-again : tie.Need-loop-preserved invariant-loop decreases-loop
-loop-again c =
-    let l = c.before.before.loop in
-    let a = c.before.before.before.args in
-    let p = c.before.before.before.requires in
-    let t = c.before.loop-test.true in
+loop-i-preserved : tie.Need-loop-i-preserved invariant-loop-i decreases-loop-i
+loop-i-preserved c =
+    let l = c.loop-i in
+    let a = c.args in
+    let p = c.requires in
+    let t = c.loop-i-test.true in
     (omega (arith, t), length-set l.part l.i _ ∙ l.invariant.1, part-copied a.slot l.i a.numbers.now l.part (omega (arith, l.invariant.1, t)) (omega (arith, p.0, p.1, t)) l.invariant.2)
 
-returns : tie.Need-returns invariant-loop decreases-loop
+returns : tie.Need-returns invariant-loop-i decreases-loop-i
 returns c =
-    let l = c.before.loop in
+    let l = c.loop-i in
     let e : l.i ≡ 64 = omega arith in
-    sym (take_all l.i l.part (omega (arith, l.invariant.1))) ∙ l.invariant.2 ∙ ap (λ (k : ℕ). part_of c.before.before.args.slot k c.before.before.args.numbers.now) e
+    sym (take_all l.i l.part (omega (arith, l.invariant.1))) ∙ l.invariant.2 ∙ ap (λ (k : ℕ). part_of c.args.slot k c.args.numbers.now) e
 
-pub part-of-spec : {M : Type 1} → statement M
-part-of-spec =
+pub part_of_spec : {M : Type 1} → statement M
+part_of_spec =
     tie.close
     (tie.spec
-    invariant-loop
-    decreases-loop
-    mul_at
-    loop-holds
-    add-part
-    shared-slice-read-part
-    array-write-part
-    add-i
-    loop-less
-    loop-again
+    invariant-loop-i
+    decreases-loop-i
+    overflow_mul-at
+    loop-i-init
+    overflow_add-part
+    bounds-numbers-at
+    bounds-part-i
+    overflow_add-i
+    loop-i-smaller
+    loop-i-preserved
     returns)

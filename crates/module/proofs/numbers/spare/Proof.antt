@@ -6,35 +6,35 @@ use borrow.Author.Rules.{rules}
 use Rattle.module.proofs.numbers.spare.Statement.{statement}
 use Rattle.module.proofs.numbers.spare.Tie as tie
 
-is-spare-requires : tie.Need-is-spare-requires
-is-spare-requires c κs = search rules
+is_spare-requires : tie.Need-is_spare-requires
+is_spare-requires c κs = search rules
+
+returns-then-is_spare : tie.Need-returns-then-is_spare
+returns-then-is_spare c = is_spare_of _ _ 0 (omega arith) (sym c.is_spare.ensures ∙ c.if-is_spare.true)
+
+is_spare-requires-2 : tie.Need-is_spare-requires-2
+is_spare-requires-2 c κs = search rules
+
+returns-then-is_spare-2 : tie.Need-returns-then-is_spare-2
+returns-then-is_spare-2 c = is_spare_of _ _ 1 (omega arith) (sym c.is_spare-2.ensures ∙ c.if-is_spare-2.true)
+
+is_spare-requires-3 : tie.Need-is_spare-requires-3
+is_spare-requires-3 c κs = search rules
+
+returns-then-is_spare-3 : tie.Need-returns-then-is_spare-3
+returns-then-is_spare-3 c = is_spare_of _ _ 2 (omega arith) (sym c.is_spare-3.ensures ∙ c.if-is_spare-3.true)
 
 returns : tie.Need-returns
-returns c = is_spare_of _ _ 0 (omega arith) (sym c.before.is-spare.ensures ∙ c.if1.true)
+returns c = spare_last _ _ c.requires (sym c.is_spare.ensures ∙ c.if-is_spare.false) (sym c.is_spare-2.ensures ∙ c.if-is_spare-2.false) (sym c.is_spare-3.ensures ∙ c.if-is_spare-3.false)
 
-is-spare-requires-2 : tie.Need-is-spare-requires-2
-is-spare-requires-2 c κs = search rules
-
-returns-2 : tie.Need-returns-2
-returns-2 c = is_spare_of _ _ 1 (omega arith) (sym c.before.is-spare2.ensures ∙ c.if2.true)
-
-is-spare-requires-3 : tie.Need-is-spare-requires-3
-is-spare-requires-3 c κs = search rules
-
-returns-3 : tie.Need-returns-3
-returns-3 c = is_spare_of _ _ 2 (omega arith) (sym c.before.is-spare3.ensures ∙ c.if3.true)
-
-returns-4 : tie.Need-returns-4
-returns-4 c = spare_last _ _ c.before.before.before.before.before.before.requires (sym c.before.before.before.before.before.is-spare.ensures ∙ c.before.before.before.before.if1.false) (sym c.before.before.before.is-spare2.ensures ∙ c.before.before.if2.false) (sym c.before.is-spare3.ensures ∙ c.if3.false)
-
-pub spare-spec : {M : Type 1} → statement M
-spare-spec =
+pub spare_spec : {M : Type 1} → statement M
+spare_spec =
     tie.close
     (tie.spec
-    is-spare-requires
-    returns
-    is-spare-requires-2
-    returns-2
-    is-spare-requires-3
-    returns-3
-    returns-4)
+    is_spare-requires
+    returns-then-is_spare
+    is_spare-requires-2
+    returns-then-is_spare-2
+    is_spare-requires-3
+    returns-then-is_spare-3
+    returns)

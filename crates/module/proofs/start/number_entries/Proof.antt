@@ -8,53 +8,53 @@ use Rattle.table.specs.ShiftLaws.{below_next}
 use Rattle.module.proofs.start.number_entries.Statement.{statement}
 use Rattle.module.proofs.start.number_entries.Tie as tie
 
-abbrev invariant-loop : tie.invariant-loop
-invariant-loop numbers₀ i₀ numbers i = (i ≤ 128) × (length numbers ≡ 256) × (take i numbers ≡ below i)
+abbrev invariant-loop-i : tie.invariant-loop-i
+invariant-loop-i numbers₀ i₀ numbers i = (i ≤ 128) × (length numbers ≡ 256) × (take i numbers ≡ below i)
 
-abbrev decreases-loop : tie.decreases-loop
-decreases-loop numbers₀ i₀ numbers i = 128 - i
+abbrev decreases-loop-i : tie.decreases-loop-i
+decreases-loop-i numbers₀ i₀ numbers i = 128 - i
 
-loop-holds : tie.Need-loop-init invariant-loop decreases-loop
+loop-i-init : tie.Need-loop-i-init invariant-loop-i decreases-loop-i
 unfolding below
-loop-holds c = (omega arith, c.requires, refl)
+loop-i-init c = (omega arith, c.requires, refl)
 
-cast-numbers : tie.Need-overflow-cast-numbers invariant-loop decreases-loop
-cast-numbers c = omega arith
+overflow_cast-numbers : tie.Need-overflow_cast-numbers invariant-loop-i decreases-loop-i
+overflow_cast-numbers c = omega arith
 
-slice-write-numbers : tie.Need-slice-write-numbers invariant-loop decreases-loop
-slice-write-numbers c = omega (arith, c.before.loop.invariant.1)
+bounds-numbers-i : tie.Need-bounds-numbers-i invariant-loop-i decreases-loop-i
+bounds-numbers-i c = omega (arith, c.loop-i.invariant.1)
 
-add-i : tie.Need-overflow-add-i invariant-loop decreases-loop
-add-i c = omega arith
+overflow_add-i : tie.Need-overflow_add-i invariant-loop-i decreases-loop-i
+overflow_add-i c = omega arith
 
-loop-less : tie.Need-loop-smaller invariant-loop decreases-loop
-loop-less c = omega arith
+loop-i-smaller : tie.Need-loop-i-smaller invariant-loop-i decreases-loop-i
+loop-i-smaller c = omega arith
 
-loop-again : tie.Need-loop-preserved invariant-loop decreases-loop
-loop-again c =
-    let l = c.before.loop in
+loop-i-preserved : tie.Need-loop-i-preserved invariant-loop-i decreases-loop-i
+loop-i-preserved c =
+    let l = c.loop-i in
     (omega arith, length-set l.numbers l.i _ ∙ l.invariant.1, below_next l.numbers l.i (omega (arith, l.invariant.1)) l.invariant.2)
 
-same_length : tie.Need-same-length invariant-loop decreases-loop
-same_length c = c.before.loop.invariant.1 ∙ sym c.before.before.requires
+shape_of-numbers : tie.Need-shape_of-numbers invariant-loop-i decreases-loop-i
+shape_of-numbers c = c.loop-i.invariant.1 ∙ sym c.requires
 
-returns : tie.Need-returns invariant-loop decreases-loop
+returns : tie.Need-returns invariant-loop-i decreases-loop-i
 returns c =
-    let l = c.before.loop in
+    let l = c.loop-i in
     let e : l.i ≡ 128 = omega arith in
     (l.invariant.1, ap (λ (k : ℕ). take k l.numbers) (sym e) ∙ l.invariant.2 ∙ ap below e)
 
-pub number-entries-spec : {M : Type 1} → statement M
-number-entries-spec =
+pub number_entries_spec : {M : Type 1} → statement M
+number_entries_spec =
     tie.close
     (tie.spec
-    invariant-loop
-    decreases-loop
-    loop-holds
-    cast-numbers
-    slice-write-numbers
-    add-i
-    loop-less
-    loop-again
-    same_length
+    invariant-loop-i
+    decreases-loop-i
+    loop-i-init
+    overflow_cast-numbers
+    bounds-numbers-i
+    overflow_add-i
+    loop-i-smaller
+    loop-i-preserved
+    shape_of-numbers
     returns)
