@@ -7,222 +7,211 @@ use borrow.Author.Rules.{rules}
 use Rattle.session.proofs.call.Statement.{statement}
 use Rattle.session.proofs.call.Tie as tie
 
-enum_told : tie.Need-enum-told
-enum_told c = search rules
+enum_told-1 : tie.Need-enum_told-1
+enum_told-1 c = search rules
 
 refused-requires : tie.Need-refused-requires
 refused-requires c κs = search rules
 
-enum-told-2 : tie.Need-enum-told-2
-enum-told-2 c = search rules
+enum_told-in-SiteOf : tie.Need-enum_told-in-SiteOf
+enum_told-in-SiteOf c = search rules
 
-refused-requires-2 : tie.Need-refused-requires-2
-refused-requires-2 c κs = search rules
+refused-requires-in-SiteOf : tie.Need-refused-requires-in-SiteOf
+refused-requires-in-SiteOf c κs = search rules
 
-enum-known-form : tie.Need-enum-known-form
-enum-known-form c = search rules
+enum_known-form : tie.Need-enum_known-form
+enum_known-form c = search rules
 
 add-requires : tie.Need-add-requires
 add-requires c κs = search rules
 
-enum-known-form-2 : tie.Need-enum-known-form-2
-enum-known-form-2 c = search rules
+enum_known-form-in-Finish-1 : tie.Need-enum_known-form-in-Finish-1
+enum_known-form-in-Finish-1 c = search rules
 
 finish-requires : tie.Need-finish-requires
 finish-requires c κs = search rules
 
-enum-known-form-3 : tie.Need-enum-known-form-3
-enum-known-form-3 c = search rules
+enum_known-form-in-Withdraw-1 : tie.Need-enum_known-form-in-Withdraw-1
+enum_known-form-in-Withdraw-1 c = search rules
 
 withdraw-requires : tie.Need-withdraw-requires
 withdraw-requires c κs = search rules
 
-enum-known-form-4 : tie.Need-enum-known-form-4
-enum-known-form-4 c = search rules
+enum_known-form-in-Persistent-1 : tie.Need-enum_known-form-in-Persistent-1
+enum_known-form-in-Persistent-1 c = search rules
 
 persistent-requires : tie.Need-persistent-requires
 persistent-requires c κs = search rules
 
-enum-known-form-5 : tie.Need-enum-known-form-5
-enum-known-form-5 c = search rules
+enum_known-form-in-Stable-1 : tie.Need-enum_known-form-in-Stable-1
+enum_known-form-in-Stable-1 c = search rules
 
 stable-requires : tie.Need-stable-requires
 stable-requires c κs = search rules
 
-enum-known-form-6 : tie.Need-enum-known-form-6
-enum-known-form-6 c = search rules
+enum_known-form-in-Show-1 : tie.Need-enum_known-form-in-Show-1
+enum_known-form-in-Show-1 c = search rules
 
 show-requires : tie.Need-show-requires
 show-requires c κs = search rules
 
-enum-known-form-7 : tie.Need-enum-known-form-7
-enum-known-form-7 c = search rules
+enum_known-form-in-Cut-1 : tie.Need-enum_known-form-in-Cut-1
+enum_known-form-in-Cut-1 c = search rules
 
 cut-requires : tie.Need-cut-requires
 cut-requires c κs = search rules
 
-enum-told-3 : tie.Need-enum-told-3
-enum-told-3 c = search rules
+enum_told-in-Redo : tie.Need-enum_told-in-Redo
+enum_told-in-Redo c = search rules
 
-redo-did-requires : tie.Need-redo-did-requires
-redo-did-requires c κs = search rules
+redo_did-requires : tie.Need-redo_did-requires
+redo_did-requires c κs = search rules
 
-enum-told-4 : tie.Need-enum-told-4
-enum-told-4 c = search rules
+enum_told-in-End : tie.Need-enum_told-in-End
+enum_told-in-End c = search rules
 
 end-requires : tie.Need-end-requires
 end-requires c κs = search rules
 
-returns : tie.Need-returns
+returns-in-Bad : tie.Need-returns-in-Bad
 unfolding site_reply
-returns c =
-    let e = c.before.before.before.before.before.before in
-    formed e.args.site (lent e.args.log.now e.args.rows.now e.args.order.now e.args.book.now e.args.lists.now) e.args.c _ _ _ c.before.enum_told.given.1
-    (c.refused.ensures (lent e.args.log.now e.args.rows.now e.args.order.now e.args.book.now e.args.lists.now))
+returns-in-Bad c =
+    formed c.args.site (lent c.args.log.now c.args.rows.now c.args.order.now c.args.book.now c.args.lists.now) c.args.c _ _ _ c.in-Bad.is
+    (c.refused.ensures (lent c.args.log.now c.args.rows.now c.args.order.now c.args.book.now c.args.lists.now))
 
-returns-2 : tie.Need-returns-2
+returns-in-SiteOf : tie.Need-returns-in-SiteOf
 unfolding site_reply
-returns-2 c =
-    let e = c.before.before.before.before.before.before in
-    formed e.args.site (lent e.args.log.now e.args.rows.now e.args.order.now e.args.book.now e.args.lists.now) e.args.c _ _ _ c.before.enum-told2.given.1
-    (c.refused2.ensures (lent e.args.log.now e.args.rows.now e.args.order.now e.args.book.now e.args.lists.now))
+returns-in-SiteOf c =
+    formed c.args.site (lent c.args.log.now c.args.rows.now c.args.order.now c.args.book.now c.args.lists.now) c.args.c _ _ _ c.in-SiteOf.is
+    (c.refused-in-SiteOf.ensures (lent c.args.log.now c.args.rows.now c.args.order.now c.args.book.now c.args.lists.now))
 
-same_length : tie.Need-same-length
-same_length c = search rules
+shape_of-log-in-Add : tie.Need-shape_of-log-in-Add
+shape_of-log-in-Add c = search rules
 
-returns-3 : tie.Need-returns-3
+returns-in-Add : tie.Need-returns-in-Add
 unfolding site_reply
-returns-3 c =
-    let e = c.before.before.before.before.before.before.before.before.before.before.before.before.before in
-    formed e.args.site (lent e.args.log.now e.args.rows.now e.args.order.now e.args.book.now e.args.lists.now) e.args.c _ _ _ c.before.before.before.before.before.before.before.before.form.given.1
-    (steps_alone e.args.site (lent e.args.log.now e.args.rows.now e.args.order.now e.args.book.now e.args.lists.now) _ _ _ (search rules)
+returns-in-Add c =
+    formed c.args.site (lent c.args.log.now c.args.rows.now c.args.order.now c.args.book.now c.args.lists.now) c.args.c _ _ _ c.in-Add.is
+    (steps_alone c.args.site (lent c.args.log.now c.args.rows.now c.args.order.now c.args.book.now c.args.lists.now) _ _ _ (search rules)
     c.add.ensures)
 
-same-length-2 : tie.Need-same-length-2
-same-length-2 c = search rules
+shape_of-log-in-Finish : tie.Need-shape_of-log-in-Finish
+shape_of-log-in-Finish c = search rules
 
-returns-4 : tie.Need-returns-4
+returns-in-Finish : tie.Need-returns-in-Finish
 unfolding site_reply
-returns-4 c =
-    let e = c.before.before.before.before.before.before.before.before.before.before.before.before.before.before in
-    formed e.args.site (lent e.args.log.now e.args.rows.now e.args.order.now e.args.book.now e.args.lists.now) e.args.c _ _ _ c.before.before.before.before.before.before.before.before.before.form2.given.1
-    c.before.before.finish.ensures
+returns-in-Finish c =
+    formed c.args.site (lent c.args.log.now c.args.rows.now c.args.order.now c.args.book.now c.args.lists.now) c.args.c _ _ _ c.in-Finish.is
+    c.finish.ensures
 
-same-length-3 : tie.Need-same-length-3
-same-length-3 c = search rules
+shape_of-log-in-Withdraw : tie.Need-shape_of-log-in-Withdraw
+shape_of-log-in-Withdraw c = search rules
 
-returns-5 : tie.Need-returns-5
+returns-in-Withdraw : tie.Need-returns-in-Withdraw
 unfolding site_reply
-returns-5 c =
-    let e = c.before.before.before.before.before.before.before.before.before.before.before.before.before in
-    formed e.args.site (lent e.args.log.now e.args.rows.now e.args.order.now e.args.book.now e.args.lists.now) e.args.c _ _ _ c.before.before.before.before.before.before.before.before.form3.given.1
+returns-in-Withdraw c =
+    formed c.args.site (lent c.args.log.now c.args.rows.now c.args.order.now c.args.book.now c.args.lists.now) c.args.c _ _ _ c.in-Withdraw.is
     c.withdraw.ensures
 
-same-length-4 : tie.Need-same-length-4
-same-length-4 c = search rules
+shape_of-log-in-Persistent : tie.Need-shape_of-log-in-Persistent
+shape_of-log-in-Persistent c = search rules
 
-returns-6 : tie.Need-returns-6
+returns-in-Persistent : tie.Need-returns-in-Persistent
 unfolding site_reply
-returns-6 c =
-    let e = c.before.before.before.before.before.before.before.before.before.before.before.before.before in
-    formed e.args.site (lent e.args.log.now e.args.rows.now e.args.order.now e.args.book.now e.args.lists.now) e.args.c _ _ _ c.before.before.before.before.before.before.before.before.form4.given.1
+returns-in-Persistent c =
+    formed c.args.site (lent c.args.log.now c.args.rows.now c.args.order.now c.args.book.now c.args.lists.now) c.args.c _ _ _ c.in-Persistent.is
     c.persistent.ensures
 
-same-length-5 : tie.Need-same-length-5
-same-length-5 c = search rules
+shape_of-log-in-Stable : tie.Need-shape_of-log-in-Stable
+shape_of-log-in-Stable c = search rules
 
-returns-7 : tie.Need-returns-7
+returns-in-Stable : tie.Need-returns-in-Stable
 unfolding site_reply
-returns-7 c =
-    let e = c.before.before.before.before.before.before.before.before.before.before.before.before.before.before.before.before in
-    formed e.args.site (lent e.args.log.now e.args.rows.now e.args.order.now e.args.book.now e.args.lists.now) e.args.c _ _ _ c.before.before.before.before.before.before.before.before.before.before.before.form5.given.1
-    c.before.before.stable.ensures
+returns-in-Stable c =
+    formed c.args.site (lent c.args.log.now c.args.rows.now c.args.order.now c.args.book.now c.args.lists.now) c.args.c _ _ _ c.in-Stable.is
+    c.stable.ensures
 
-same-length-6 : tie.Need-same-length-6
-same-length-6 c = search rules
+shape_of-log-in-Show : tie.Need-shape_of-log-in-Show
+shape_of-log-in-Show c = search rules
 
-returns-8 : tie.Need-returns-8
+returns-in-Show : tie.Need-returns-in-Show
 unfolding site_reply
-returns-8 c =
-    let e = c.before.before.before.before.before.before.before.before.before.before.before.before.before in
-    formed e.args.site (lent e.args.log.now e.args.rows.now e.args.order.now e.args.book.now e.args.lists.now) e.args.c _ _ _ c.before.before.before.before.before.before.before.before.form6.given.1
-    (c.show.ensures e.args.lists.now)
+returns-in-Show c =
+    formed c.args.site (lent c.args.log.now c.args.rows.now c.args.order.now c.args.book.now c.args.lists.now) c.args.c _ _ _ c.in-Show.is
+    (c.show.ensures c.args.lists.now)
 
-same-length-7 : tie.Need-same-length-7
-same-length-7 c = search rules
+shape_of-log-in-Cut : tie.Need-shape_of-log-in-Cut
+shape_of-log-in-Cut c = search rules
 
-returns-9 : tie.Need-returns-9
+returns-in-Cut : tie.Need-returns-in-Cut
 unfolding site_reply
-returns-9 c =
-    let e = c.before.before.before.before.before.before.before.before.before.before.before.before in
-    formed e.args.site (lent e.args.log.now e.args.rows.now e.args.order.now e.args.book.now e.args.lists.now) e.args.c _ _ _ c.before.before.before.before.before.before.before.form7.given.1
-    (steps_alone e.args.site (lent e.args.log.now e.args.rows.now e.args.order.now e.args.book.now e.args.lists.now) _ _ _ (search rules)
-    (c.cut.ensures e.args.lists.now))
+returns-in-Cut c =
+    formed c.args.site (lent c.args.log.now c.args.rows.now c.args.order.now c.args.book.now c.args.lists.now) c.args.c _ _ _ c.in-Cut.is
+    (steps_alone c.args.site (lent c.args.log.now c.args.rows.now c.args.order.now c.args.book.now c.args.lists.now) _ _ _ (search rules)
+    (c.cut.ensures c.args.lists.now))
 
-same-length-8 : tie.Need-same-length-8
-same-length-8 c = search rules
+shape_of-log-in-Redo : tie.Need-shape_of-log-in-Redo
+shape_of-log-in-Redo c = search rules
 
-returns-10 : tie.Need-returns-10
+returns-in-Redo : tie.Need-returns-in-Redo
 unfolding site_reply
-returns-10 c =
-    let e = c.before.before.before.before.before.before.before.before.before.before.before.before in
-    formed e.args.site (lent e.args.log.now e.args.rows.now e.args.order.now e.args.book.now e.args.lists.now) e.args.c _ _ _ c.before.before.before.before.before.before.before.enum-told3.given.1
-    (redo-alone e.args.site (lent e.args.log.now e.args.rows.now e.args.order.now e.args.book.now e.args.lists.now) _ _ _ (search rules)
-    (c.before.before.redo-did.ensures e.args.lists.now))
+returns-in-Redo c =
+    formed c.args.site (lent c.args.log.now c.args.rows.now c.args.order.now c.args.book.now c.args.lists.now) c.args.c _ _ _ c.in-Redo.is
+    (redo-alone c.args.site (lent c.args.log.now c.args.rows.now c.args.order.now c.args.book.now c.args.lists.now) _ _ _ (search rules)
+    (c.redo_did.ensures c.args.lists.now))
 
-same-length-9 : tie.Need-same-length-9
-same-length-9 c = search rules
+shape_of-log-in-End : tie.Need-shape_of-log-in-End
+shape_of-log-in-End c = search rules
 
-returns-11 : tie.Need-returns-11
+returns-in-End : tie.Need-returns-in-End
 unfolding site_reply
-returns-11 c =
-    let e = c.before.before.before.before.before.before.before.before.before.before.before.before.before in
-    formed e.args.site (lent e.args.log.now e.args.rows.now e.args.order.now e.args.book.now e.args.lists.now) e.args.c _ _ _ c.before.before.before.before.before.before.before.before.enum-told4.given.1
+returns-in-End c =
+    formed c.args.site (lent c.args.log.now c.args.rows.now c.args.order.now c.args.book.now c.args.lists.now) c.args.c _ _ _ c.in-End.is
     c.end.ensures
 
-pub call-spec : {M : Type 1} → statement M
-call-spec =
+pub call_spec : {M : Type 1} → statement M
+call_spec =
     tie.close
     (tie.spec
-    enum_told
+    enum_told-1
     refused-requires
-    enum-told-2
-    refused-requires-2
-    enum-known-form
+    enum_told-in-SiteOf
+    refused-requires-in-SiteOf
+    enum_known-form
     add-requires
-    enum-known-form-2
+    enum_known-form-in-Finish-1
     finish-requires
-    enum-known-form-3
+    enum_known-form-in-Withdraw-1
     withdraw-requires
-    enum-known-form-4
+    enum_known-form-in-Persistent-1
     persistent-requires
-    enum-known-form-5
+    enum_known-form-in-Stable-1
     stable-requires
-    enum-known-form-6
+    enum_known-form-in-Show-1
     show-requires
-    enum-known-form-7
+    enum_known-form-in-Cut-1
     cut-requires
-    enum-told-3
-    redo-did-requires
-    enum-told-4
+    enum_told-in-Redo
+    redo_did-requires
+    enum_told-in-End
     end-requires
-    returns
-    returns-2
-    same_length
-    returns-3
-    same-length-2
-    returns-4
-    same-length-3
-    returns-5
-    same-length-4
-    returns-6
-    same-length-5
-    returns-7
-    same-length-6
-    returns-8
-    same-length-7
-    returns-9
-    same-length-8
-    returns-10
-    same-length-9
-    returns-11)
+    returns-in-Bad
+    returns-in-SiteOf
+    shape_of-log-in-Add
+    returns-in-Add
+    shape_of-log-in-Finish
+    returns-in-Finish
+    shape_of-log-in-Withdraw
+    returns-in-Withdraw
+    shape_of-log-in-Persistent
+    returns-in-Persistent
+    shape_of-log-in-Stable
+    returns-in-Stable
+    shape_of-log-in-Show
+    returns-in-Show
+    shape_of-log-in-Cut
+    returns-in-Cut
+    shape_of-log-in-Redo
+    returns-in-Redo
+    shape_of-log-in-End
+    returns-in-End)

@@ -6,21 +6,27 @@ use borrow.Author.Tests.{le-leb, lt-leb}
 use Rattle.session.proofs.lists_fit.Statement.{statement}
 use Rattle.session.proofs.lists_fit.Tie as tie
 
+returns-then-first-gt-LIVE : tie.Need-returns-then-first-gt-LIVE
+returns-then-first-gt-LIVE c = rw (lt-leb c.args.first live_limit c.if-first-gt-LIVE.true) refl
+
+returns-then-second-gt-LIVE : tie.Need-returns-then-second-gt-LIVE
+returns-then-second-gt-LIVE c =
+    let a = c.args in
+    rw (le-leb a.first live_limit c.if-first-gt-LIVE.false, lt-leb a.second live_limit c.if-second-gt-LIVE.true) refl
+
+overflow_add-result : tie.Need-overflow_add-result
+overflow_add-result c = search rules
+
 returns : tie.Need-returns
-returns c = rw (lt-leb c.before.args.first live_limit c.if1.true) refl
+returns c =
+    let a = c.args in
+    rw (le-leb a.first live_limit c.if-first-gt-LIVE.false, le-leb a.second live_limit c.if-second-gt-LIVE.false) refl
 
-returns-2 : tie.Need-returns-2
-returns-2 c =
-    let a = c.before.before.args in
-    rw (le-leb a.first live_limit c.before.if1.false, lt-leb a.second live_limit c.if2.true) refl
-
-add-result : tie.Need-overflow-add-result
-add-result c = search rules
-
-returns-3 : tie.Need-returns-3
-returns-3 c =
-    let a = c.before.before.args in
-    rw (le-leb a.first live_limit c.before.if1.false, le-leb a.second live_limit c.if2.false) refl
-
-pub lists-fit-spec : {M : Type 1} → statement M
-lists-fit-spec = tie.close (tie.spec returns returns-2 add-result returns-3)
+pub lists_fit_spec : {M : Type 1} → statement M
+lists_fit_spec =
+    tie.close
+    (tie.spec
+    returns-then-first-gt-LIVE
+    returns-then-second-gt-LIVE
+    overflow_add-result
+    returns)

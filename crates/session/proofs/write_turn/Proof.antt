@@ -1,7 +1,8 @@
 -- The two slices are the two lists that the reply counts: they stand one behind the other in the array, and the second has as many numbers
 -- as it counts. Where the test says that they do not stand there, nothing is written.
 use Prim.Native.Nat.{ℕ, ◌+◌, ◌≤◌}
-use mathlib.Core.Path.{sym, subst}
+use mathlib.Core.Path.{ap, sym, subst}
+use mathlib.Core.Bool.{not}
 use lib.ListN.{length, take, drop}
 use lib.Seq.{length-take-le}
 use Rattle.forms.specs.Limits.{reply_limit}
@@ -13,93 +14,88 @@ use borrow.Author.Rules.{rules}
 use Rattle.session.proofs.write_turn.Statement.{statement}
 use Rattle.session.proofs.write_turn.Tie as tie
 
-lists-fit-requires : tie.Need-lists-fit-requires
-lists-fit-requires c κs = search rules
+lists_fit-requires : tie.Need-lists_fit-requires
+lists_fit-requires c κs = search rules
 
-returns : tie.Need-returns
-returns c =
-    let a = c.before.before.before.before.args in
+returns-then-not-lists_fit : tie.Need-returns-then-not-lists_fit
+returns-then-not-lists_fit c =
+    let a = c.args in
     writes_nothing a.r a.lists.now a.out.now a.at
-    (unfit_told a.r a.lists.now _ c.before.lists-fit.ensures c.if1.true)
+    (unfit_told a.r a.lists.now _ c.lists_fit.ensures (ap not c.if-not-lists_fit.true))
 
-add-m : tie.Need-overflow-add-m
-add-m c =
-    let a = c.before.before.before.before.args in
-    let p = fit-told a.r a.lists.now _ c.before.lists-fit.ensures c.if1.false in
+overflow_add-m : tie.Need-overflow_add-m
+overflow_add-m c =
+    let a = c.args in
+    let p = fit-told a.r a.lists.now _ c.lists_fit.ensures (ap not c.if-not-lists_fit.false) in
     let x = p.first.few in
     let y = p.second.few in
     search rules
 
-slice-aggregate-write-reply : tie.Need-slice-aggregate-write-reply
-slice-aggregate-write-reply c =
-    let t = c.before.before in
-    let a = t.before.before.before.before.args in
-    sym (length-take-le _ _ (fit-told a.r a.lists.now _ t.before.lists-fit.ensures t.if1.false).first.within)
+slice_bounds-write_reply-end : tie.Need-slice_bounds-write_reply-end
+slice_bounds-write_reply-end c =
+    let a = c.args in
+    sym (length-take-le _ _ (fit-told a.r a.lists.now _ c.lists_fit.ensures (ap not c.if-not-lists_fit.false)).first.within)
 
-mul-write-reply : tie.Need-overflow-mul-write-reply
-mul-write-reply c =
-    let t = c.before.before in
-    let a = t.before.before.before.before.args in
-    let x = (fit-told a.r a.lists.now _ t.before.lists-fit.ensures t.if1.false).first.few in
+offset_bounds-lists-n : tie.Need-offset_bounds-lists-n
+offset_bounds-lists-n c =
+    let a = c.args in
+    let x = (fit-told a.r a.lists.now _ c.lists_fit.ensures (ap not c.if-not-lists_fit.false)).first.few in
     search rules
 
-sub-write-reply : tie.Need-overflow-sub-write-reply
-sub-write-reply c = search rules
+slice_bounds-write_reply-count : tie.Need-slice_bounds-write_reply-count
+slice_bounds-write_reply-count c = search rules
 
-part-write-reply-start : tie.Need-slice-bounds-write-reply-start
-part-write-reply-start c = search rules
+slice_bounds-write_reply-start : tie.Need-slice_bounds-write_reply-start
+slice_bounds-write_reply-start c = search rules
 
-part-write-reply-end : tie.Need-slice-bounds-write-reply-end
-part-write-reply-end c =
-    let t = c.before.before in
-    let a = t.before.before.before.before.args in
-    let p = fit-told a.r a.lists.now _ t.before.lists-fit.ensures t.if1.false in
+slice_bounds-write_reply-end-2 : tie.Need-slice_bounds-write_reply-end-2
+slice_bounds-write_reply-end-2 c =
+    let a = c.args in
+    let p = fit-told a.r a.lists.now _ c.lists_fit.ensures (ap not c.if-not-lists_fit.false) in
     let w = lists_within a.r a.lists.now p in
     search rules
 
-write-reply-requires : tie.Need-write-reply-requires
+write_reply-requires : tie.Need-write_reply-requires
 unfolding numbers_of
-write-reply-requires c κs =
-    let t = c.before.before.before in
-    let a = t.before.before.before.before.args in
+write_reply-requires c κs =
+    let a = c.args in
     let r = a.r in
     let ns = a.lists.now in
     subst (λ (k : ℕ). (length (take r.first ns) ≤ 64) × (length (take k (drop r.first ns)) ≤ 64)) (sym (second-counts r.first r.second))
-    (lists_short (replied r ns) (fit-told r ns _ t.before.lists-fit.ensures t.if1.false))
+    (lists_short (replied r ns) (fit-told r ns _ c.lists_fit.ensures (ap not c.if-not-lists_fit.false)))
 
-same_length : tie.Need-same-length
-same_length c = search rules
+shape_of-out : tie.Need-shape_of-out
+shape_of-out c = search rules
 
-returns-2 : tie.Need-returns-2
+returns : tie.Need-returns
 unfolding numbers_of outcome_of
-returns-2 c =
-    let t = c.before.before.before.before.before.before in
-    let a = t.before.before.before.before.args in
+returns c =
+    let a = c.args in
     let r = a.r in
     let ns = a.lists.now in
-    let w = c.before.before.write-reply in
-    writes_fitting r ns a.out.now a.at w.result _ (fit-told r ns _ t.before.lists-fit.ensures t.if1.false)
+    let w = c.write_reply in
+    writes_fitting r ns a.out.now a.at w.result _ (fit-told r ns _ c.lists_fit.ensures (ap not c.if-not-lists_fit.false))
     (record {
       text =
-          subst (λ (k : ℕ). Writes a.out.now a.at (with_end (outcome_text (outcome_with r.form (take r.first ns) (take k (drop r.first ns))))) w.result w.new.0)
+          subst (λ (k : ℕ). Writes a.out.now a.at (with_end (outcome_text (outcome_with r.form (take r.first ns) (take k (drop r.first ns))))) w.result w.new.buf)
           (second-counts r.first r.second) w.ensures.0;
       short =
           subst (λ (k : ℕ). length (outcome_text (outcome_with r.form (take r.first ns) (take k (drop r.first ns)))) + 1 ≤ reply_limit)
           (second-counts r.first r.second) w.ensures.1;
     })
 
-pub write-turn-spec : {M : Type 1} → statement M
-write-turn-spec =
+pub write_turn_spec : {M : Type 1} → statement M
+write_turn_spec =
     tie.close
     (tie.spec
-    lists-fit-requires
-    returns
-    add-m
-    slice-aggregate-write-reply
-    mul-write-reply
-    sub-write-reply
-    part-write-reply-start
-    part-write-reply-end
-    write-reply-requires
-    same_length
-    returns-2)
+    lists_fit-requires
+    returns-then-not-lists_fit
+    overflow_add-m
+    slice_bounds-write_reply-end
+    offset_bounds-lists-n
+    slice_bounds-write_reply-count
+    slice_bounds-write_reply-start
+    slice_bounds-write_reply-end-2
+    write_reply-requires
+    shape_of-out
+    returns)

@@ -6,25 +6,29 @@ use borrow.Author.Rules.{rules}
 use Rattle.session.proofs.Session.answer.Statement.{statement}
 use Rattle.session.proofs.Session.answer.Tie as tie
 
-turn-requires : tie.Need-turn-requires
-turn-requires c κs = search rules
+turn-t-requires : tie.Need-turn-t-requires
+turn-t-requires c κs = search rules
 
-write-turn-requires : tie.Need-write-turn-requires
-write-turn-requires c κs = search rules
+write_turn-next-requires : tie.Need-write_turn-next-requires
+write_turn-next-requires c κs = search rules
 
-same_length : tie.Need-same-length
-same_length c = search rules
+shape_of-log : tie.Need-shape_of-log
+shape_of-log c = search rules
 
-same-length-2 : tie.Need-same-length-2
-same-length-2 c = search rules
+shape_of-out : tie.Need-shape_of-out
+shape_of-out c = search rules
 
 returns : tie.Need-returns
 returns c =
-    let t = c.before.before.before.before.before.before.before.before.before.before in
-    let e = t.before.before.before.before.before.before.before.before.before in
-    answers-turn e.args.self (lent e.args.log.now e.args.rows.now e.args.order.now e.args.book.now e.args.lists.now) _ t.turn.result _ _ e.args.out.now _
-    t.turn.ensures (writes_printable _ _ _ _ _ _ t.turn.ensures.answer.printable c.before.before.write-turn.ensures).text
+    answers-turn c.args.self (lent c.args.log.now c.args.rows.now c.args.order.now c.args.book.now c.args.lists.now) _ c.turn-t.result _ _ c.args.out.now _
+    c.turn-t.ensures (writes_printable _ _ _ _ _ _ c.turn-t.ensures.answer.printable c.write_turn-next.ensures).text
 
-pub answer-spec : {M : Type 1} → statement M
-answer-spec =
-    tie.close (tie.spec turn-requires write-turn-requires same_length same-length-2 returns)
+pub answer_spec : {M : Type 1} → statement M
+answer_spec =
+    tie.close
+    (tie.spec
+    turn-t-requires
+    write_turn-next-requires
+    shape_of-log
+    shape_of-out
+    returns)

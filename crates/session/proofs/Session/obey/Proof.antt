@@ -33,73 +33,69 @@ no-site room CommandForm.Redo o = refl
 no-site room CommandForm.End o = refl
 
 call-requires : tie.Need-call-requires
-call-requires c κs = c.before.before.before.before.before.before.before.before.requires.site c.before.before.before.before.before.before.if1.true
+call-requires c κs = c.requires.site c.if-self.true
 
 called-requires : tie.Need-called-requires
 called-requires c κs = search rules
 
-same_length : tie.Need-same-length
-same_length c = search rules
+shape_of-log-then-self : tie.Need-shape_of-log-then-self
+shape_of-log-then-self c = search rules
 
-returns : tie.Need-returns
-returns c =
-    let e = c.before.before.before.before.before.before.before.before.before.before.before.before in
-    form_called e.args.self (lent e.args.log.now e.args.rows.now e.args.order.now e.args.book.now e.args.lists.now) e.args.c _ _ _
-    c.before.before.before.before.before.before.before.before.before.before.if1.true e.requires c.before.before.before.call.ensures c.called.ensures
+returns-then-self : tie.Need-returns-then-self
+returns-then-self c =
+    form_called c.args.self (lent c.args.log.now c.args.rows.now c.args.order.now c.args.book.now c.args.lists.now) c.args.c _ _ _
+    c.if-self.true c.requires c.call.ensures c.called.ensures
 
-enum_told : tie.Need-enum-told
-enum_told c = search rules
+enum_told-1 : tie.Need-enum_told-1
+enum_told-1 c = search rules
 
 refuse-requires : tie.Need-refuse-requires
 refuse-requires c κs = search rules
 
-enum-known-form : tie.Need-enum-known-form
-enum-known-form c = search rules
+enum_known-form : tie.Need-enum_known-form
+enum_known-form c = search rules
 
-open-site-requires : tie.Need-open-site-requires
-open-site-requires c κs = c.before.before.before.before.before.before.before.if1.false
+open_site-requires : tie.Need-open_site-requires
+open_site-requires c κs = c.if-self.false
 
-refuse-requires-2 : tie.Need-refuse-requires-2
-refuse-requires-2 c κs = search rules
+refuse-requires-in_default : tie.Need-refuse-requires-in_default
+refuse-requires-in_default c κs = search rules
 
-returns-2 : tie.Need-returns-2
+returns-in-Bad : tie.Need-returns-in-Bad
 unfolding closed_reply
-returns-2 c =
-    let e = c.before.before.before.before.before in
-    form_refused e.args.self (lent e.args.log.now e.args.rows.now e.args.order.now e.args.book.now e.args.lists.now) e.args.c _ Unreadable _
-    c.before.before.before.if1.false c.before.enum_told.given.1 refl e.requires c.refuse.ensures
+returns-in-Bad c =
+    form_refused c.args.self (lent c.args.log.now c.args.rows.now c.args.order.now c.args.book.now c.args.lists.now) c.args.c _ Unreadable _
+    c.if-self.false c.in-Bad.is refl c.requires c.refuse.ensures
 
-same-length-2 : tie.Need-same-length-2
-same-length-2 c = search rules
+shape_of-log : tie.Need-shape_of-log
+shape_of-log c = search rules
 
-returns-3 : tie.Need-returns-3
-returns-3 c =
-    let e = c.before.before.before.before.before.before.before.before.before.before.before.before in
-    form_opens e.args.self (lent e.args.log.now e.args.rows.now e.args.order.now e.args.book.now e.args.lists.now) e.args.c _ _ _
-    c.before.before.before.before.before.before.before.before.before.before.if1.false c.before.before.before.before.before.before.before.before.form.given.1
-    (c.before.before.open-site.ensures e.args.lists.now)
+returns-in-SiteOf : tie.Need-returns-in-SiteOf
+returns-in-SiteOf c =
+    form_opens c.args.self (lent c.args.log.now c.args.rows.now c.args.order.now c.args.book.now c.args.lists.now) c.args.c _ _ _
+    c.if-self.false c.in-SiteOf.is
+    (c.open_site.ensures c.args.lists.now)
 
-returns-4 : tie.Need-returns-4
-returns-4 c =
-    let e = c.before.before.before.before in
-    form_refused e.args.self (lent e.args.log.now e.args.rows.now e.args.order.now e.args.book.now e.args.lists.now) e.args.c e.args.c.form OutOfTurn _
-    c.before.before.if1.false refl (no-site (length e.args.log.now) e.args.c.form c.before.match.keys3)
-    e.requires c.refuse2.ensures
+returns-in_default : tie.Need-returns-in_default
+returns-in_default c =
+    form_refused c.args.self (lent c.args.log.now c.args.rows.now c.args.order.now c.args.book.now c.args.lists.now) c.args.c c.args.c.form OutOfTurn _
+    c.if-self.false refl (no-site (length c.args.log.now) c.args.c.form c.in_default.in_default-own.keys3)
+    c.requires c.refuse-in_default.ensures
 
-pub obey-spec : {M : Type 1} → statement M
-obey-spec =
+pub obey_spec : {M : Type 1} → statement M
+obey_spec =
     tie.close
     (tie.spec
     call-requires
     called-requires
-    same_length
-    returns
-    enum_told
+    shape_of-log-then-self
+    returns-then-self
+    enum_told-1
     refuse-requires
-    enum-known-form
-    open-site-requires
-    refuse-requires-2
-    returns-2
-    same-length-2
-    returns-3
-    returns-4)
+    enum_known-form
+    open_site-requires
+    refuse-requires-in_default
+    returns-in-Bad
+    shape_of-log
+    returns-in-SiteOf
+    returns-in_default)

@@ -6,30 +6,33 @@ use borrow.Author.Rules.{rules}
 use Rattle.session.proofs.Session.open_site.Statement.{statement}
 use Rattle.session.proofs.Session.open_site.Tie as tie
 
-open-requires : tie.Need-open-requires
-open-requires c κs = search rules
+open-c-requires : tie.Need-open-c-requires
+open-c-requires c κs = search rules
 
 called-requires : tie.Need-called-requires
 called-requires c κs = search rules
 
-same_length : tie.Need-same-length
-same_length c = search rules
+shape_of-log-then-site-eq0 : tie.Need-shape_of-log-then-site-eq0
+shape_of-log-then-site-eq0 c = search rules
 
-returns : tie.Need-returns
-returns c = λ ns.
-    let o = c.before.before.before.before.before.before in
-    let e = c.before.before.before.before.before.before.before.before.before.before.before in
-    opens_not e.args.self (lent e.args.log.now e.args.rows.now e.args.order.now e.args.book.now ns) _ _ _ e.requires (o.«open».ensures ns) c.if1.true
+returns-then-site-eq0 : tie.Need-returns-then-site-eq0
+returns-then-site-eq0 c = λ ns.
+    opens_not c.args.self (lent c.args.log.now c.args.rows.now c.args.order.now c.args.book.now ns) _ _ _ c.requires (c.open-c.ensures ns) c.if-site-eq0.true
 
-same-length-2 : tie.Need-same-length-2
-same-length-2 c = search rules
+shape_of-log-else-site-eq0 : tie.Need-shape_of-log-else-site-eq0
+shape_of-log-else-site-eq0 c = search rules
 
-returns-2 : tie.Need-returns-2
-returns-2 c = λ ns.
-    let o = c.before.before.before.before.before.before.before in
-    let e = c.before.before.before.before.before.before.before.before.before.before.before.before in
-    opens e.args.self (lent e.args.log.now e.args.rows.now e.args.order.now e.args.book.now ns) _ _ _ _ (o.«open».ensures ns) (omega (arith, c.before.if1.false)) c.called.ensures
+returns-else-site-eq0 : tie.Need-returns-else-site-eq0
+returns-else-site-eq0 c = λ ns.
+    opens c.args.self (lent c.args.log.now c.args.rows.now c.args.order.now c.args.book.now ns) _ _ _ _ (c.open-c.ensures ns) (omega (arith, c.if-site-eq0.false)) c.called.ensures
 
-pub open-site-spec : {M : Type 1} → statement M
-open-site-spec =
-    tie.close (tie.spec open-requires called-requires same_length returns same-length-2 returns-2)
+pub open_site_spec : {M : Type 1} → statement M
+open_site_spec =
+    tie.close
+    (tie.spec
+    open-c-requires
+    called-requires
+    shape_of-log-then-site-eq0
+    returns-then-site-eq0
+    shape_of-log-else-site-eq0
+    returns-else-site-eq0)

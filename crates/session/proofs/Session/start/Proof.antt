@@ -12,4 +12,8 @@ returns : tie.Need-returns
 returns c = starts _ refl
 
 pub start_spec : {M : Type 1} → statement M
-start_spec = tie.close (tie.spec blank-requires returns)
+start_spec =
+    tie.close
+    (tie.spec
+    blank-requires
+    returns)
