@@ -3,17 +3,23 @@ use borrow.Author.Rules.{rules}
 use Rattle.stream.proofs.run.Statement.{statement}
 use Rattle.stream.proofs.run.Tie as tie
 
-run-session-requires : tie.Need-run-session-requires
-run-session-requires c κs = tt
+run_session-r-requires : tie.Need-run_session-r-requires
+run_session-r-requires c κs = tt
 
-same_length : tie.Need-same-length
-same_length c = search rules
+shape_of-log : tie.Need-shape_of-log
+shape_of-log c = search rules
 
-same-length-2 : tie.Need-same-length-2
-same-length-2 c = search rules
+shape_of-out : tie.Need-shape_of-out
+shape_of-out c = search rules
 
 returns : tie.Need-returns
-returns c = c.before.before.before.before.run-session.ensures.runs
+returns c = c.run_session-r.ensures.runs
 
 pub run_spec : {M : Type 1} → statement M
-run_spec = tie.close (tie.spec run-session-requires same_length same-length-2 returns)
+run_spec =
+    tie.close
+    (tie.spec
+    run_session-r-requires
+    shape_of-log
+    shape_of-out
+    returns)

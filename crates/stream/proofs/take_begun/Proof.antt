@@ -8,58 +8,54 @@ use borrow.Author.Rules.{rules}
 use Rattle.stream.proofs.take_begun.Statement.{statement}
 use Rattle.stream.proofs.take_begun.Tie as tie
 
-with-bytes-requires : tie.Need-with-bytes-requires
-with-bytes-requires c κs = search rules
+with_bytes-whole-requires : tie.Need-with_bytes-whole-requires
+with_bytes-whole-requires c κs = search rules
 
 refuse-requires : tie.Need-refuse-requires
 refuse-requires c κs = search rules
 
-returns : tie.Need-returns
-returns c =
-    let e = c.before.before.before.before.before.before in
-    let w = c.before.before.before.with-bytes in
-    let m = lent e.args.log.now e.args.rows.now e.args.order.now e.args.book.now e.args.lists.now in
-    λ line h. turns_over e.args.session m _ _ e.requires.0 (over_is w.result _ (w.ensures line h) c.before.if1.true) c.refuse.ensures
+returns-then-whole : tie.Need-returns-then-whole
+returns-then-whole c =
+    let w = c.with_bytes-whole in
+    let m = lent c.args.log.now c.args.rows.now c.args.order.now c.args.book.now c.args.lists.now in
+    λ line h. turns_over c.args.session m _ _ c.requires.0 (over_is w.result _ (w.ensures line h) c.if-whole.true) c.refuse.ensures
 
-array-share-prefix-bytes : tie.Need-array-share-prefix-bytes
-array-share-prefix-bytes c =
-    let e = c.before.before.before.before.before.before.before.before.before.before in
-    let w = c.before.before.before.before.before.before.before.with-bytes in
-    let l = some-line e.args.b e.requires.1 in
+slice_bounds-bytes-end : tie.Need-slice_bounds-bytes-end
+slice_bounds-bytes-end c =
+    let w = c.with_bytes-whole in
+    let l = some-line c.args.b c.requires.1 in
     let x = w.ensures l.line l.begins in
     omega (arith, x.few, x.long)
 
-slice-aggregate-turn : tie.Need-slice-aggregate-turn
-slice-aggregate-turn c =
-    let e = c.before.before.before.before.before.before.before.before.before.before.before in
-    let w = c.before.before.before.before.before.before.before.before.with-bytes in
-    let l = some-line e.args.b e.requires.1 in
+slice_bounds-turn-end : tie.Need-slice_bounds-turn-end
+slice_bounds-turn-end c =
+    let w = c.with_bytes-whole in
+    let l = some-line c.args.b c.requires.1 in
     let x = w.ensures l.line l.begins in
     sym (length-take-le _ _ (omega (arith, x.few, x.long)))
 
 turn-requires : tie.Need-turn-requires
-turn-requires c κs = c.before.before.before.before.before.before.before.before.before.before.before.requires.0
+turn-requires c κs = c.requires.0
 
-same_length : tie.Need-same-length
-same_length c = search rules
+shape_of-log : tie.Need-shape_of-log
+shape_of-log c = search rules
 
-returns-2 : tie.Need-returns-2
-returns-2 c =
-    let e = c.before.before.before.before.before.before.before.before.before.before.before.before.before.before in
-    let w = c.before.before.before.before.before.before.before.before.before.before.before.with-bytes in
-    let m = lent e.args.log.now e.args.rows.now e.args.order.now e.args.book.now e.args.lists.now in
-    let held = c.before.before.before.before.before.before.before.before.before.if1.false in
-    λ line h. turns_as e.args.session m _ _ _ _ (held_is w.result _ (w.ensures line h) held) c.before.before.turn.ensures
+returns : tie.Need-returns
+returns c =
+    let w = c.with_bytes-whole in
+    let m = lent c.args.log.now c.args.rows.now c.args.order.now c.args.book.now c.args.lists.now in
+    let held = c.if-whole.false in
+    λ line h. turns_as c.args.session m _ _ _ _ (held_is w.result _ (w.ensures line h) held) c.turn.ensures
 
-pub take-begun-spec : {M : Type 1} → statement M
-take-begun-spec =
+pub take_begun_spec : {M : Type 1} → statement M
+take_begun_spec =
     tie.close
     (tie.spec
-    with-bytes-requires
+    with_bytes-whole-requires
     refuse-requires
-    returns
-    array-share-prefix-bytes
-    slice-aggregate-turn
+    returns-then-whole
+    slice_bounds-bytes-end
+    slice_bounds-turn-end
     turn-requires
-    same_length
-    returns-2)
+    shape_of-log
+    returns)

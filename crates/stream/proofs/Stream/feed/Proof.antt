@@ -11,162 +11,158 @@ use borrow.Author.Rules.{rules}
 use Rattle.stream.proofs.Stream.feed.Statement.{statement}
 use Rattle.stream.proofs.Stream.feed.Tie as tie
 
-abbrev invariant-loop : tie.invariant-loop
-invariant-loop log₀ rows₀ order₀ book₀ lists₀ chunk out₀ session₀ begun₀ at₀ n₀ log rows order book lists out session begun at n =
+abbrev invariant-loop-e : tie.invariant-loop-e
+invariant-loop-e log₀ rows₀ order₀ book₀ lists₀ chunk out₀ session₀ begun₀ at₀ n₀ log rows order book lists out session begun at n =
     Along (record { session = session₀; begun = begun₀ }) (lent log₀ rows₀ order₀ book₀ lists₀) chunk
     (record { stream = record { session = session; begun = begun }; used = at; written = n }) (lent log rows order book lists) out₀ out
 
-abbrev decreases-loop : tie.decreases-loop
-decreases-loop log₀ rows₀ order₀ book₀ lists₀ chunk out₀ session₀ begun₀ at₀ n₀ log rows order book lists out session begun at n = length chunk - at
+abbrev decreases-loop-e : tie.decreases-loop-e
+decreases-loop-e log₀ rows₀ order₀ book₀ lists₀ chunk out₀ session₀ begun₀ at₀ n₀ log rows order book lists out session begun at n = length chunk - at
 
 -- the line end that was found
-ended : (c : tie.After-known-told invariant-loop decreases-loop) →
-    EndAt c.before.before.before.before.before.before.before.before.before.before.args.chunk.now
-    c.before.before.before.before.loop.at c.before.e.given.0.0
-ended c = rw c.before.e.given.1 at c.before.before.before.find-end.ensures
+ended : (c : tie.In-At invariant-loop-e decreases-loop-e) →
+    EndAt c.args.chunk.now
+    c.loop-e.at c.in-At.e
+ended c = rw c.in-At.is at c.find_end.ensures
 
-loop-holds : tie.Need-loop-init invariant-loop decreases-loop
-loop-holds c =
-    let a = c.before.before.before.before.before.args in
+loop-e-init : tie.Need-loop-e-init invariant-loop-e decreases-loop-e
+loop-e-init c =
+    let a = c.args in
     let m = lent a.log.now a.rows.now a.order.now a.book.now a.lists.now in
-    along_start a.self m a.chunk.now a.out.now c.before.before.before.before.before.requires
+    along_start a.self m a.chunk.now a.out.now c.requires
 
-find-end-requires : tie.Need-find-end-requires invariant-loop decreases-loop
-find-end-requires c κs = c.loop.invariant.within
+find_end-requires : tie.Need-find_end-requires invariant-loop-e decreases-loop-e
+find_end-requires c κs = c.loop-e.invariant.within
 
-enum-known-e : tie.Need-enum-known-e invariant-loop decreases-loop
-enum-known-e c = search rules
+enum_known-e : tie.Need-enum_known-e invariant-loop-e decreases-loop-e
+enum_known-e c = search rules
 
-enum_told : tie.Need-enum-told invariant-loop decreases-loop
-enum_told c = search rules
+enum_told-1 : tie.Need-enum_told-1 invariant-loop-e decreases-loop-e
+enum_told-1 c = search rules
 
-sub-with-bytes : tie.Need-overflow-sub-with-bytes invariant-loop decreases-loop
-sub-with-bytes c = c.before.before.before.loop.invariant.within
+slice_bounds-with_bytes-count : tie.Need-slice_bounds-with_bytes-count invariant-loop-e decreases-loop-e
+slice_bounds-with_bytes-count c = c.loop-e.invariant.within
 
-part-with-bytes-start : tie.Need-slice-bounds-with-bytes-start invariant-loop decreases-loop
-part-with-bytes-start c = let w = c.before.before.before.loop.invariant.within in search rules
+slice_bounds-with_bytes-start : tie.Need-slice_bounds-with_bytes-start invariant-loop-e decreases-loop-e
+slice_bounds-with_bytes-start c = let w = c.loop-e.invariant.within in search rules
 
-part-with-bytes-end : tie.Need-slice-bounds-with-bytes-end invariant-loop decreases-loop
-part-with-bytes-end c = let w = c.before.before.before.loop.invariant.within in search rules
+slice_bounds-with_bytes-end : tie.Need-slice_bounds-with_bytes-end invariant-loop-e decreases-loop-e
+slice_bounds-with_bytes-end c = let w = c.loop-e.invariant.within in search rules
 
-with-bytes-requires : tie.Need-with-bytes-requires invariant-loop decreases-loop
-with-bytes-requires c κs = c.before.before.before.before.loop.invariant.valid.begun
+with_bytes-rest-requires : tie.Need-with_bytes-rest-requires invariant-loop-e decreases-loop-e
+with_bytes-rest-requires c κs = c.loop-e.invariant.valid.begun
 
-same_length : tie.Need-same-length invariant-loop decreases-loop
-same_length c = c.before.before.before.before.before.loop.invariant.room
+shape_of-log-in_default : tie.Need-shape_of-log-in_default invariant-loop-e decreases-loop-e
+shape_of-log-in_default c = c.loop-e.invariant.room
 
-same-length-2 : tie.Need-same-length-2 invariant-loop decreases-loop
-same-length-2 c = c.before.before.before.before.before.loop.invariant.long
+shape_of-out-in_default : tie.Need-shape_of-out-in_default invariant-loop-e decreases-loop-e
+shape_of-out-in_default c = c.loop-e.invariant.long
 
-returns : tie.Need-returns invariant-loop decreases-loop
-returns c =
-    let i = c.before.before.before.before.before.loop.invariant in
-    let none = rw c.before.before.enum_told.given.1 at c.before.before.before.before.find-end.ensures in
-    along_feeds _ _ _ _ _ _ _ (along_rest _ _ _ _ _ _ _ i c.with-bytes.result none c.with-bytes.ensures) (λ lt. absurd (omega (arith, lt)))
+returns-in_default : tie.Need-returns-in_default invariant-loop-e decreases-loop-e
+returns-in_default c =
+    let i = c.loop-e.invariant in
+    let none = rw c.in_default.is at c.find_end.ensures in
+    along_feeds _ _ _ _ _ _ _ (along_rest _ _ _ _ _ _ _ i c.with_bytes-rest.result none c.with_bytes-rest.ensures) (λ lt. absurd (omega (arith, lt)))
 
-sub-if1 : tie.Need-overflow-sub-if1 invariant-loop decreases-loop
-sub-if1 c =
-    let i = c.before.before.before.before.loop.invariant in
+overflow_sub-out : tie.Need-overflow_sub-out invariant-loop-e decreases-loop-e
+overflow_sub-out c =
+    let i = c.loop-e.invariant in
     let f = along_fits _ _ _ _ _ _ _ i in
     omega (arith, f, i.long)
 
-same-length-3 : tie.Need-same-length-3 invariant-loop decreases-loop
-same-length-3 c = c.before.before.before.before.before.loop.invariant.room
+shape_of-log-then-out-n-lt-REPLY_BYTES : tie.Need-shape_of-log-then-out-n-lt-REPLY_BYTES invariant-loop-e decreases-loop-e
+shape_of-log-then-out-n-lt-REPLY_BYTES c = c.loop-e.invariant.room
 
-same-length-4 : tie.Need-same-length-4 invariant-loop decreases-loop
-same-length-4 c = c.before.before.before.before.before.loop.invariant.long
+shape_of-out-then-out-n-lt-REPLY_BYTES : tie.Need-shape_of-out-then-out-n-lt-REPLY_BYTES invariant-loop-e decreases-loop-e
+shape_of-out-then-out-n-lt-REPLY_BYTES c = c.loop-e.invariant.long
 
-returns-2 : tie.Need-returns-2 invariant-loop decreases-loop
-returns-2 c =
-    let i = c.before.before.before.before.before.loop.invariant in
-    along_feeds _ _ _ _ _ _ _ i (λ lt. let l = i.long in let f = along_fits _ _ _ _ _ _ _ i in omega (arith, l, f, c.if1.true))
+returns-then-out-n-lt-REPLY_BYTES : tie.Need-returns-then-out-n-lt-REPLY_BYTES invariant-loop-e decreases-loop-e
+returns-then-out-n-lt-REPLY_BYTES c =
+    let i = c.loop-e.invariant in
+    along_feeds _ _ _ _ _ _ _ i (λ lt. let l = i.long in let f = along_fits _ _ _ _ _ _ _ i in omega (arith, l, f, c.if-out-n-lt-REPLY_BYTES.true))
 
-sub-take-line : tie.Need-overflow-sub-take-line invariant-loop decreases-loop
-sub-take-line c = (ended c.before.before.before.before.before.before).from
+slice_bounds-take_line-count : tie.Need-slice_bounds-take_line-count invariant-loop-e decreases-loop-e
+slice_bounds-take_line-count c = (ended c.before.before.before.before.before.before).from
 
-part-take-line-start : tie.Need-slice-bounds-take-line-start invariant-loop decreases-loop
-part-take-line-start c =
+slice_bounds-take_line-start : tie.Need-slice_bounds-take_line-start invariant-loop-e decreases-loop-e
+slice_bounds-take_line-start c =
     let x = ended c.before.before.before.before.before.before in
     let f = x.from in
     let b = x.before in
     search rules
 
-part-take-line-end : tie.Need-slice-bounds-take-line-end invariant-loop decreases-loop
-part-take-line-end c =
+slice_bounds-take_line-end : tie.Need-slice_bounds-take_line-end invariant-loop-e decreases-loop-e
+slice_bounds-take_line-end c =
     let x = ended c.before.before.before.before.before.before in
     let f = x.from in
     let b = x.before in
     search rules
 
-take-line-requires : tie.Need-take-line-requires invariant-loop decreases-loop
-take-line-requires c κs = let v = c.before.before.before.before.before.before.before.before.before.before.before.loop.invariant.valid in (v.session, v.begun)
+take_line-t-requires : tie.Need-take_line-t-requires invariant-loop-e decreases-loop-e
+take_line-t-requires c κs = let v = c.loop-e.invariant.valid in (v.session, v.begun)
 
-no-line-requires : tie.Need-no-line-requires invariant-loop decreases-loop
-no-line-requires c κs = search rules
+no_line-begun-requires : tie.Need-no_line-begun-requires invariant-loop-e decreases-loop-e
+no_line-begun-requires c κs = search rules
 
-put-reply-requires : tie.Need-put-reply-requires invariant-loop decreases-loop
-put-reply-requires c κs =
-    let found = c.before.before.before.before.before.before.before.before.before.before.before.before.before.before.before.before in
-    let i = found.before.before.before.before.loop.invariant in
-    let t = c.before.before.before.before.before.before.before.before.take-line in
-    let new = lent t.new.1.1.0 t.new.1.1.1.0 t.new.1.1.1.1.0 t.new.1.1.1.1.1.0 t.new.1.1.1.1.1.1.0 in
+put_reply-n-requires : tie.Need-put_reply-n-requires invariant-loop-e decreases-loop-e
+put_reply-n-requires c κs =
+    let i = c.loop-e.invariant in
+    let t = c.take_line-t in
+    let new = lent t.new.log t.new.rows t.new.order t.new.book t.new.lists in
     let f = along_fits _ _ _ _ _ _ _ i in
-    let room = c.before.before.before.before.before.before.before.before.before.before.before.before.before.before.before.if1.false in
-    (line_printable _ _ _ _ _ _ _ i found.before.e.given.0.0 (ended found) t.result new t.ensures, omega (arith, i.long, f, room))
+    let room = c.if-out-n-lt-REPLY_BYTES.false in
+    (line_printable _ _ _ _ _ _ _ i c.in-At.e (ended c.before.before.before.before.before.before.before.before.before.before.before.before.before.before.before.before) t.result new t.ensures, omega (arith, i.long, f, room))
 
-add_at : tie.Need-overflow-add-at invariant-loop decreases-loop
-add_at c =
-    let found = c.before.before.before.before.before.before.before.before.before.before.before.before.before.before.before.before.before.before.before in
-    let entry = found.before.before.before.before.before.before.before.before.before.before in
-    let b = (ended found).before in
-    let g : length entry.args.chunk.now < 18446744073709551616 = entry.well-formed.1.1.1.1.1.1.0.0 in
+overflow_add-at : tie.Need-overflow_add-at invariant-loop-e decreases-loop-e
+overflow_add-at c =
+    let b = (ended c.before.before.before.before.before.before.before.before.before.before.before.before.before.before.before.before.before.before.before).before in
+    let g : length c.args.chunk.now < 18446744073709551616 = c.well_formed.1.1.1.1.1.1.0.0 in
     omega (arith, b, g)
 
-loop-less : tie.Need-loop-smaller invariant-loop decreases-loop
-loop-less c =
+loop-e-smaller : tie.Need-loop-e-smaller invariant-loop-e decreases-loop-e
+loop-e-smaller c =
     let x = ended c.before.before.before.before.before.before.before.before.before.before.before.before.before.before.before.before.before.before.before in
     omega (arith, x.before, x.from)
 
-loop-again : tie.Need-loop-preserved invariant-loop decreases-loop
-loop-again c =
-    let found = c.before.before.before.before.before.before.before.before.before.before.before.before.before.before.before.before.before.before.before in
-    let l = found.before.before.before.before.loop in
-    let t = c.before.before.before.before.before.before.before.before.before.before.before.take-line in
-    let b = c.before.before.before.before.before.before.no_line in
-    let p = c.before.before.put-reply in
-    let new = lent t.new.1.1.0 t.new.1.1.1.0 t.new.1.1.1.1.0 t.new.1.1.1.1.1.0 t.new.1.1.1.1.1.1.0 in
-    let same : length t.new.1.1.0 ≡ length l.log = search rules in
-    let long : length p.new.0 ≡ length l.out = search rules in
-    along_line _ _ _ _ _ _ _ l.invariant found.before.e.given.0.0 (ended found) t.result new t.ensures
-    b.result p.result p.new.0 same long b.ensures p.ensures
+loop-e-preserved : tie.Need-loop-e-preserved invariant-loop-e decreases-loop-e
+loop-e-preserved c =
+    let l = c.loop-e in
+    let t = c.take_line-t in
+    let b = c.no_line-begun in
+    let p = c.put_reply-n in
+    let new = lent t.new.log t.new.rows t.new.order t.new.book t.new.lists in
+    let same : length t.new.log ≡ length l.log = search rules in
+    let long : length p.new.out ≡ length l.out = search rules in
+    along_line _ _ _ _ _ _ _ l.invariant c.in-At.e (ended c.before.before.before.before.before.before.before.before.before.before.before.before.before.before.before.before.before.before.before) t.result new t.ensures
+    b.result p.result p.new.out same long b.ensures p.ensures
 
-pub feed-spec : {M : Type 1} → statement M
-feed-spec =
+pub feed_spec : {M : Type 1} → statement M
+feed_spec =
     tie.close
     (tie.spec
-    invariant-loop
-    decreases-loop
-    loop-holds
-    find-end-requires
-    enum-known-e
-    enum_told
-    sub-with-bytes
-    part-with-bytes-start
-    part-with-bytes-end
-    with-bytes-requires
-    same_length
-    same-length-2
-    returns
-    sub-if1
-    same-length-3
-    same-length-4
-    returns-2
-    sub-take-line
-    part-take-line-start
-    part-take-line-end
-    take-line-requires
-    no-line-requires
-    put-reply-requires
-    add_at
-    loop-less
-    loop-again)
+    invariant-loop-e
+    decreases-loop-e
+    loop-e-init
+    find_end-requires
+    enum_known-e
+    enum_told-1
+    slice_bounds-with_bytes-count
+    slice_bounds-with_bytes-start
+    slice_bounds-with_bytes-end
+    with_bytes-rest-requires
+    shape_of-log-in_default
+    shape_of-out-in_default
+    returns-in_default
+    overflow_sub-out
+    shape_of-log-then-out-n-lt-REPLY_BYTES
+    shape_of-out-then-out-n-lt-REPLY_BYTES
+    returns-then-out-n-lt-REPLY_BYTES
+    slice_bounds-take_line-count
+    slice_bounds-take_line-start
+    slice_bounds-take_line-end
+    take_line-t-requires
+    no_line-begun-requires
+    put_reply-n-requires
+    overflow_add-at
+    loop-e-smaller
+    loop-e-preserved)

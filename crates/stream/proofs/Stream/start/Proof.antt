@@ -4,14 +4,19 @@ use borrow.Author.Rules.{rules}
 use Rattle.stream.proofs.Stream.start.Statement.{statement}
 use Rattle.stream.proofs.Stream.start.Tie as tie
 
-start-requires : tie.Need-start-requires
-start-requires c κs = search rules
+start-session-requires : tie.Need-start-session-requires
+start-session-requires c κs = search rules
 
-no-line-requires : tie.Need-no-line-requires
-no-line-requires c κs = search rules
+no_line-begun-requires : tie.Need-no_line-begun-requires
+no_line-begun-requires c κs = search rules
 
 returns : tie.Need-returns
-returns c = λ m. starts_stream c.before.start.result c.no_line.result m (c.before.start.ensures m) c.no_line.ensures
+returns c = λ m. starts_stream c.start-session.result c.no_line-begun.result m (c.start-session.ensures m) c.no_line-begun.ensures
 
 pub start_spec : {M : Type 1} → statement M
-start_spec = tie.close (tie.spec start-requires no-line-requires returns)
+start_spec =
+    tie.close
+    (tie.spec
+    start-session-requires
+    no_line-begun-requires
+    returns)
