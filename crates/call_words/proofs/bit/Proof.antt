@@ -6,8 +6,8 @@ use borrow.Author.Rules.{rules}
 use Rattle.call_words.proofs.bit.Statement.{statement}
 use Rattle.call_words.proofs.bit.Tie as tie
 
-cast-result : tie.Need-overflow-cast-result
-cast-result c = search rules
+overflow_cast-result : tie.Need-overflow_cast-result
+overflow_cast-result c = search rules
 
 byte-is : (b : Bool) → bool_byte b ≡ cond b 1 0
 byte-is true = refl
@@ -16,5 +16,9 @@ byte-is false = refl
 returns : tie.Need-returns
 returns c = byte-is c.args.b
 
-pub bit-spec : {M : Type 1} → statement M
-bit-spec = tie.close (tie.spec cast-result returns)
+pub bit_spec : {M : Type 1} → statement M
+bit_spec =
+    tie.close
+    (tie.spec
+    overflow_cast-result
+    returns)

@@ -10,55 +10,53 @@ use Rattle.removal.proofs.marks_of.Statement.{statement}
 use Rattle.removal.proofs.marks_of.Tie as tie
 
 -- the slots are as many as before
-long : (c : tie.After-read-slots) → length c.read-slots.new.1.1.1.0 ≡ 23824
-long c = let a = c.before.before.blank-slots.ensures in let k = c.read-slots.auto in search rules
+long : (c : tie.After-read_slots) → length c.read_slots.new.slots ≡ 23824
+long c = let a = c.blank_slots-slots.ensures in let k = c.read_slots.auto in search rules
 
-sub-n : tie.Need-overflow-sub-n
-sub-n c = search rules
+overflow_sub-n : tie.Need-overflow_sub-n
+overflow_sub-n c = search rules
 
-blank-slots-requires : tie.Need-blank-slots-requires
-blank-slots-requires c κs = search rules
+blank_slots-slots-requires : tie.Need-blank_slots-slots-requires
+blank_slots-slots-requires c κs = search rules
 
-slice-aggregate-read-slots : tie.Need-slice-aggregate-read-slots
-slice-aggregate-read-slots c = search rules
+slice_bounds-read_slots-end : tie.Need-slice_bounds-read_slots-end
+slice_bounds-read_slots-end c = search rules
 
-read-slots-requires : tie.Need-read-slots-requires
-read-slots-requires c κs = search rules
+read_slots-requires : tie.Need-read_slots-requires
+read_slots-requires c κs = search rules
 
-mul-slots : tie.Need-overflow-mul-slots
-mul-slots c = search rules
+overflow_mul-slots : tie.Need-overflow_mul-slots
+overflow_mul-slots c = search rules
 
-array-share-prefix-slots : tie.Need-array-share-prefix-slots
-array-share-prefix-slots c = search rules
+slice_bounds-slots-end : tie.Need-slice_bounds-slots-end
+slice_bounds-slots-end c = search rules
 
-slice-aggregate-mark : tie.Need-slice-aggregate-mark
-slice-aggregate-mark c =
-    let L = c.before.before.before.before.before.before.before.before.before.before.requires in
+slice_bounds-mark-end : tie.Need-slice_bounds-mark-end
+slice_bounds-mark-end c =
+    let L = c.requires in
     let size = long c.before.before in
-    sym (length-take-le (8 * (c.before.before.before.before.before.before.before.before.before.before.args.j.done.0 - c.before.before.before.before.before.before.before.before.before.before.args.j.base.0)) c.before.before.read-slots.new.1.1.1.0 (omega (arith, size, L.few, L.done)))
+    sym (length-take-le (8 * (c.args.j.done.0 - c.args.j.base.0)) c.read_slots.new.slots (omega (arith, size, L.few, L.done)))
 
 mark-requires : tie.Need-mark-requires
 mark-requires c κs =
-    let p = c.before.before.before.before.before.before.before.before.before.before in
-    marks_placed p.args.s.now p.args.j p.args.pairs.now p.args.lost.now c.before.before.read-slots.new.1.1.1.0 p.requires (long c.before.before)
-    (c.before.before.read-slots.ensures p.requires.histories p.requires.lines p.requires.stands)
+    marks_placed c.args.s.now c.args.j c.args.pairs.now c.args.lost.now c.read_slots.new.slots c.requires (long c.before.before)
+    (c.read_slots.ensures c.requires.histories c.requires.lines c.requires.stands)
 
 returns : tie.Need-returns
 returns c =
-    let p = c.before.before.before.before.before.before.before.before.before.before.before in
-    marks_fall p.args.s.now p.args.j p.args.pairs.now p.args.lost.now c.before.before.before.read-slots.new.1.1.1.0 c.mark.result p.requires (long c.before.before.before)
-    c.before.before.before.read-slots.ensures c.mark.ensures
+    marks_fall c.args.s.now c.args.j c.args.pairs.now c.args.lost.now c.read_slots.new.slots c.mark.result c.requires (long c.before.before.before)
+    c.read_slots.ensures c.mark.ensures
 
-pub marks-of-spec : {M : Type 1} → statement M
-marks-of-spec =
+pub marks_of_spec : {M : Type 1} → statement M
+marks_of_spec =
     tie.close
     (tie.spec
-    sub-n
-    blank-slots-requires
-    slice-aggregate-read-slots
-    read-slots-requires
-    mul-slots
-    array-share-prefix-slots
-    slice-aggregate-mark
+    overflow_sub-n
+    blank_slots-slots-requires
+    slice_bounds-read_slots-end
+    read_slots-requires
+    overflow_mul-slots
+    slice_bounds-slots-end
+    slice_bounds-mark-end
     mark-requires
     returns)

@@ -8,97 +8,90 @@ use borrow.Author.Rules.{rules}
 use Rattle.removal.proofs.report.Statement.{statement}
 use Rattle.removal.proofs.report.Tie as tie
 
-returns : tie.Need-returns
-returns c = let p = c.before.before.before.before.before in report-above p.args.log.now p.args.pairs.now p.args.lost.now p.args.out.now c.if1.true
+returns-then-log-gt-LOG_BYTES : tie.Need-returns-then-log-gt-LOG_BYTES
+returns-then-log-gt-LOG_BYTES c = report-above c.args.log.now c.args.pairs.now c.args.lost.now c.args.out.now c.if-log-gt-LOG_BYTES.true
 
-read-log-requires : tie.Need-read-log-requires
-read-log-requires c κs = search rules
+read_log-j-requires : tie.Need-read_log-j-requires
+read_log-j-requires c κs = search rules
 
-all-known-requires : tie.Need-all-known-requires
-all-known-requires c κs = search rules
+all_known-requires : tie.Need-all_known-requires
+all_known-requires c κs = search rules
 
-slice-aggregate-marks-of : tie.Need-slice-aggregate-marks-of
-slice-aggregate-marks-of c =
-    let p = c.before.before.before.before.before.before.before.before.before.before.before.before.before.before in
-    let x = c.before.before.before.before.before.before.read_Log in
-    let S = read_some p.args.log.now p.args.pairs.now p.args.lost.now p.args.out.now c.before.before.before.before.before.before.before.before.before.if1.false x.result _ _ x.ensures c.before.before.before.before.before.if2.true in
-    sym (length-take-le x.result.used p.args.log.now S.reads.holds.within)
+slice_bounds-marks_of-end : tie.Need-slice_bounds-marks_of-end
+slice_bounds-marks_of-end c =
+    let x = c.read_log-j in
+    let S = read_some c.args.log.now c.args.pairs.now c.args.lost.now c.args.out.now c.if-log-gt-LOG_BYTES.false x.result _ _ x.ensures c.if-ok.true in
+    sym (length-take-le x.result.used c.args.log.now S.reads.holds.within)
 
-marks-of-requires : tie.Need-marks-of-requires
-marks-of-requires c κs =
-    let p = c.before.before.before.before.before.before.before.before.before.before.before.before.before.before in
-    let x = c.before.before.before.before.before.before.read_Log in
-    let small = c.before.before.before.before.before.before.before.before.before.if1.false in
-    let S = read_some p.args.log.now p.args.pairs.now p.args.lost.now p.args.out.now small x.result _ _ x.ensures c.before.before.before.before.before.if2.true in
-    let both = known_yes _ c.before.before.all_known.result c.before.before.all_known.ensures c.before.if3.true in
-    read_lines_lem p.args.log.now x.result _ _ S.histories S.base_line S.lines S.reads small p.args.pairs.now p.args.lost.now both.0 both.1
+marks_of-gone-requires : tie.Need-marks_of-gone-requires
+marks_of-gone-requires c κs =
+    let x = c.read_log-j in
+    let small = c.if-log-gt-LOG_BYTES.false in
+    let S = read_some c.args.log.now c.args.pairs.now c.args.lost.now c.args.out.now small x.result _ _ x.ensures c.if-ok.true in
+    let both = known_yes _ c.all_known.result c.all_known.ensures c.if-all_known.true in
+    read_lines_lem c.args.log.now x.result _ _ S.histories S.base_line S.lines S.reads small c.args.pairs.now c.args.lost.now both.0 both.1
 
-slice-aggregate-answer : tie.Need-slice-aggregate-answer
-slice-aggregate-answer c = search rules
+slice_bounds-answer-end : tie.Need-slice_bounds-answer-end
+slice_bounds-answer-end c = search rules
 
-sub-answer : tie.Need-overflow-sub-answer
-sub-answer c =
-    let p = c.before.before.before.before.before.before.before.before.before.before.before.before.before.before.before.before in
-    let x = c.before.before.before.before.before.before.before.before.read_Log in
-    let S = read_some p.args.log.now p.args.pairs.now p.args.lost.now p.args.out.now c.before.before.before.before.before.before.before.before.before.before.before.if1.false x.result _ _ x.ensures c.before.before.before.before.before.before.before.if2.true in
-    let d = read_done p.args.log.now x.result _ _ S.histories S.base_line S.lines S.reads c.before.before.before.before.before.before.before.before.before.before.before.if1.false in
+overflow_sub-high : tie.Need-overflow_sub-high
+overflow_sub-high c =
+    let x = c.read_log-j in
+    let S = read_some c.args.log.now c.args.pairs.now c.args.lost.now c.args.out.now c.if-log-gt-LOG_BYTES.false x.result _ _ x.ensures c.if-ok.true in
+    let d = read_done c.args.log.now x.result _ _ S.histories S.base_line S.lines S.reads c.if-log-gt-LOG_BYTES.false in
     omega (arith, d)
 
 answer-requires : tie.Need-answer-requires
 answer-requires c κs =
-    let p = c.before.before.before.before.before.before.before.before.before.before.before.before.before.before.before.before.before in
-    let x = c.before.before.before.before.before.before.before.before.before.read_Log in
-    let small = c.before.before.before.before.before.before.before.before.before.before.before.before.if1.false in
-    let S = read_some p.args.log.now p.args.pairs.now p.args.lost.now p.args.out.now small x.result _ _ x.ensures c.before.before.before.before.before.before.before.before.if2.true in
-    let M = c.before.before.marks-of.ensures S.histories S.lines
-    (read_stands p.args.log.now x.result _ _ S.histories S.base_line S.lines S.reads small)
-    (read_done p.args.log.now x.result _ _ S.histories S.base_line S.lines S.reads small) in
-    read_can p.args.log.now x.result _ _ S.histories S.base_line S.lines S.reads small c.before.before.marks-of.result M.size
+    let x = c.read_log-j in
+    let small = c.if-log-gt-LOG_BYTES.false in
+    let S = read_some c.args.log.now c.args.pairs.now c.args.lost.now c.args.out.now small x.result _ _ x.ensures c.if-ok.true in
+    let M = c.marks_of-gone.ensures S.histories S.lines
+    (read_stands c.args.log.now x.result _ _ S.histories S.base_line S.lines S.reads small)
+    (read_done c.args.log.now x.result _ _ S.histories S.base_line S.lines S.reads small) in
+    read_can c.args.log.now x.result _ _ S.histories S.base_line S.lines S.reads small c.marks_of-gone.result M.size
 
-same_length : tie.Need-same-length
-same_length c = search rules
+shape_of-out-then-all_known : tie.Need-shape_of-out-then-all_known
+shape_of-out-then-all_known c = search rules
 
-returns-2 : tie.Need-returns-2
-returns-2 c =
-    let p = c.before.before.before.before.before.before.before.before.before.before.before.before.before.before.before.before.before.before.before.before in
-    let x = c.before.before.before.before.before.before.before.before.before.before.before.before.read_Log in
-    let small = c.before.before.before.before.before.before.before.before.before.before.before.before.before.before.before.if1.false in
-    let S = read_some p.args.log.now p.args.pairs.now p.args.lost.now p.args.out.now small x.result _ _ x.ensures c.before.before.before.before.before.before.before.before.before.before.before.if2.true in
-    let both = known_yes _ c.before.before.before.before.before.before.before.before.all_known.result c.before.before.before.before.before.before.before.before.all_known.ensures c.before.before.before.before.before.before.before.if3.true in
-    let M = c.before.before.before.before.before.marks-of.ensures S.histories S.lines
-    (read_stands p.args.log.now x.result _ _ S.histories S.base_line S.lines S.reads small)
-    (read_done p.args.log.now x.result _ _ S.histories S.base_line S.lines S.reads small) in
-    report-names p.args.log.now p.args.pairs.now p.args.lost.now p.args.out.now small x.result _ _ S both c.before.before.before.before.before.marks-of.result M
-    c.before.before.answer.result c.before.before.answer.new.1.1.1.0 c.before.before.answer.ensures
+returns-then-all_known : tie.Need-returns-then-all_known
+returns-then-all_known c =
+    let x = c.read_log-j in
+    let small = c.if-log-gt-LOG_BYTES.false in
+    let S = read_some c.args.log.now c.args.pairs.now c.args.lost.now c.args.out.now small x.result _ _ x.ensures c.if-ok.true in
+    let both = known_yes _ c.all_known.result c.all_known.ensures c.if-all_known.true in
+    let M = c.marks_of-gone.ensures S.histories S.lines
+    (read_stands c.args.log.now x.result _ _ S.histories S.base_line S.lines S.reads small)
+    (read_done c.args.log.now x.result _ _ S.histories S.base_line S.lines S.reads small) in
+    report-names c.args.log.now c.args.pairs.now c.args.lost.now c.args.out.now small x.result _ _ S both c.marks_of-gone.result M
+    c.answer.result c.answer.new.out c.answer.ensures
 
-returns-3 : tie.Need-returns-3
-returns-3 c =
-    let p = c.before.before.before.before.before.before.before.before.before.before.before.before.before in
-    let x = c.before.before.before.before.before.read_Log in
-    let small = c.before.before.before.before.before.before.before.before.if1.false in
-    let S = read_some p.args.log.now p.args.pairs.now p.args.lost.now p.args.out.now small x.result _ _ x.ensures c.before.before.before.before.if2.true in
-    report_unknown p.args.log.now p.args.pairs.now p.args.lost.now p.args.out.now small x.result _ _ S
-    (known_no _ c.before.all_known.result c.before.all_known.ensures c.if3.false)
+returns-then-ok : tie.Need-returns-then-ok
+returns-then-ok c =
+    let x = c.read_log-j in
+    let small = c.if-log-gt-LOG_BYTES.false in
+    let S = read_some c.args.log.now c.args.pairs.now c.args.lost.now c.args.out.now small x.result _ _ x.ensures c.if-ok.true in
+    report_unknown c.args.log.now c.args.pairs.now c.args.lost.now c.args.out.now small x.result _ _ S
+    (known_no _ c.all_known.result c.all_known.ensures c.if-all_known.false)
 
-returns-4 : tie.Need-returns-4
-returns-4 c =
-    let p = c.before.before.before.before.before.before.before.before.before in
-    let x = c.before.read_Log in
-    report-bad p.args.log.now p.args.pairs.now p.args.lost.now p.args.out.now c.before.before.before.before.if1.false x.result _ _ x.ensures c.if2.false
+returns : tie.Need-returns
+returns c =
+    let x = c.read_log-j in
+    report-bad c.args.log.now c.args.pairs.now c.args.lost.now c.args.out.now c.if-log-gt-LOG_BYTES.false x.result _ _ x.ensures c.if-ok.false
 
-pub report-spec : {M : Type 1} → statement M
-report-spec =
+pub report_spec : {M : Type 1} → statement M
+report_spec =
     tie.close
     (tie.spec
-    returns
-    read-log-requires
-    all-known-requires
-    slice-aggregate-marks-of
-    marks-of-requires
-    slice-aggregate-answer
-    sub-answer
+    returns-then-log-gt-LOG_BYTES
+    read_log-j-requires
+    all_known-requires
+    slice_bounds-marks_of-end
+    marks_of-gone-requires
+    slice_bounds-answer-end
+    overflow_sub-high
     answer-requires
-    same_length
-    returns-2
-    returns-3
-    returns-4)
+    shape_of-out-then-all_known
+    returns-then-all_known
+    returns-then-ok
+    returns)

@@ -5,98 +5,98 @@ use borrow.Author.Rules.{rules}
 use Rattle.call_words.proofs.adding.held_in.Statement.{statement}
 use Rattle.call_words.proofs.adding.held_in.Tie as tie
 
-element-copy-out-asked-of : tie.Need-element-copy-out-asked-of
-element-copy-out-asked-of c = search rules
+bounds-words-0 : tie.Need-bounds-words-0
+bounds-words-0 c = search rules
 
-element-copy-out-asked-of-2 : tie.Need-element-copy-out-asked-of-2
-element-copy-out-asked-of-2 c = search rules
+bounds-words-1 : tie.Need-bounds-words-1
+bounds-words-1 c = search rules
 
-element-copy-out-asked-of-3 : tie.Need-element-copy-out-asked-of-3
-element-copy-out-asked-of-3 c = search rules
+bounds-words-2 : tie.Need-bounds-words-2
+bounds-words-2 c = search rules
 
-element-copy-out-asked-of-4 : tie.Need-element-copy-out-asked-of-4
-element-copy-out-asked-of-4 c = search rules
+bounds-words-3 : tie.Need-bounds-words-3
+bounds-words-3 c = search rules
 
-asked-of-requires : tie.Need-asked-of-requires
-asked-of-requires c κs = search rules
+asked_of-a-requires : tie.Need-asked_of-a-requires
+asked_of-a-requires c κs = search rules
 
-element-copy-out-asked-of-5 : tie.Need-element-copy-out-asked-of-5
-element-copy-out-asked-of-5 c = search rules
+bounds-words-4 : tie.Need-bounds-words-4
+bounds-words-4 c = search rules
 
-element-copy-out-asked-of-6 : tie.Need-element-copy-out-asked-of-6
-element-copy-out-asked-of-6 c = search rules
+bounds-words-5 : tie.Need-bounds-words-5
+bounds-words-5 c = search rules
 
-element-copy-out-asked-of-7 : tie.Need-element-copy-out-asked-of-7
-element-copy-out-asked-of-7 c = search rules
+bounds-words-6 : tie.Need-bounds-words-6
+bounds-words-6 c = search rules
 
-element-copy-out-asked-of-8 : tie.Need-element-copy-out-asked-of-8
-element-copy-out-asked-of-8 c = search rules
+bounds-words-7 : tie.Need-bounds-words-7
+bounds-words-7 c = search rules
 
-asked-of-requires-2 : tie.Need-asked-of-requires-2
-asked-of-requires-2 c κs = search rules
+asked_of-b-requires : tie.Need-asked_of-b-requires
+asked_of-b-requires c κs = search rules
 
-element-copy-out-asked-of-9 : tie.Need-element-copy-out-asked-of-9
-element-copy-out-asked-of-9 c = search rules
+bounds-words-8 : tie.Need-bounds-words-8
+bounds-words-8 c = search rules
 
-element-copy-out-asked-of-10 : tie.Need-element-copy-out-asked-of-10
-element-copy-out-asked-of-10 c = search rules
+bounds-words-9 : tie.Need-bounds-words-9
+bounds-words-9 c = search rules
 
-element-copy-out-asked-of-11 : tie.Need-element-copy-out-asked-of-11
-element-copy-out-asked-of-11 c = search rules
+bounds-words-10 : tie.Need-bounds-words-10
+bounds-words-10 c = search rules
 
-element-copy-out-asked-of-12 : tie.Need-element-copy-out-asked-of-12
-element-copy-out-asked-of-12 c = search rules
+bounds-words-11 : tie.Need-bounds-words-11
+bounds-words-11 c = search rules
 
-asked-of-requires-3 : tie.Need-asked-of-requires-3
-asked-of-requires-3 c κs = search rules
+asked_of-c-requires : tie.Need-asked_of-c-requires
+asked_of-c-requires c κs = search rules
 
-element-copy-out-asked-of-13 : tie.Need-element-copy-out-asked-of-13
-element-copy-out-asked-of-13 c = search rules
+bounds-words-12 : tie.Need-bounds-words-12
+bounds-words-12 c = search rules
 
-element-copy-out-asked-of-14 : tie.Need-element-copy-out-asked-of-14
-element-copy-out-asked-of-14 c = search rules
+bounds-words-13 : tie.Need-bounds-words-13
+bounds-words-13 c = search rules
 
-element-copy-out-asked-of-15 : tie.Need-element-copy-out-asked-of-15
-element-copy-out-asked-of-15 c = search rules
+bounds-words-14 : tie.Need-bounds-words-14
+bounds-words-14 c = search rules
 
-element-copy-out-asked-of-16 : tie.Need-element-copy-out-asked-of-16
-element-copy-out-asked-of-16 c = search rules
+bounds-words-15 : tie.Need-bounds-words-15
+bounds-words-15 c = search rules
 
-asked-of-requires-4 : tie.Need-asked-of-requires-4
-asked-of-requires-4 c κs = search rules
+asked_of-d-requires : tie.Need-asked_of-d-requires
+asked_of-d-requires c κs = search rules
 
 returns : tie.Need-returns
 unfolding held_in
 returns c =
-    let a = c.before.before.before.before.before.before.before.before.before.before.before.before.before.before.before.before.before.before.before.before.args in
+    let a = c.args in
     λ i.
     record {
       count = a.count;
-      first = c.before.before.before.before.before.before.before.before.before.before.before.before.before.before.before.asked_of.ensures i ∷ c.before.before.before.before.before.before.before.before.before.before.asked-of2.ensures i ∷ c.before.before.before.before.before.asked-of3.ensures i ∷ c.asked-of4.ensures i ∷ [];
+      first = c.asked_of-a.ensures i ∷ c.asked_of-b.ensures i ∷ c.asked_of-c.ensures i ∷ c.asked_of-d.ensures i ∷ [];
     }
 
-pub held-in-spec : {M : Type 1} → statement M
-held-in-spec =
+pub held_in_spec : {M : Type 1} → statement M
+held_in_spec =
     tie.close
     (tie.spec
-    element-copy-out-asked-of
-    element-copy-out-asked-of-2
-    element-copy-out-asked-of-3
-    element-copy-out-asked-of-4
-    asked-of-requires
-    element-copy-out-asked-of-5
-    element-copy-out-asked-of-6
-    element-copy-out-asked-of-7
-    element-copy-out-asked-of-8
-    asked-of-requires-2
-    element-copy-out-asked-of-9
-    element-copy-out-asked-of-10
-    element-copy-out-asked-of-11
-    element-copy-out-asked-of-12
-    asked-of-requires-3
-    element-copy-out-asked-of-13
-    element-copy-out-asked-of-14
-    element-copy-out-asked-of-15
-    element-copy-out-asked-of-16
-    asked-of-requires-4
+    bounds-words-0
+    bounds-words-1
+    bounds-words-2
+    bounds-words-3
+    asked_of-a-requires
+    bounds-words-4
+    bounds-words-5
+    bounds-words-6
+    bounds-words-7
+    asked_of-b-requires
+    bounds-words-8
+    bounds-words-9
+    bounds-words-10
+    bounds-words-11
+    asked_of-c-requires
+    bounds-words-12
+    bounds-words-13
+    bounds-words-14
+    bounds-words-15
+    asked_of-d-requires
     returns)

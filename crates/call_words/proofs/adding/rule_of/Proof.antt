@@ -5,21 +5,27 @@ use Rattle.table.specs.Rows.{rule_named}
 use Rattle.call_words.proofs.adding.rule_of.Statement.{statement}
 use Rattle.call_words.proofs.adding.rule_of.Tie as tie
 
-returns : tie.Need-returns
+returns-in-0 : tie.Need-returns-in-0
 unfolding rule_named
-returns c = sym (ap rule_named c.match.keys1)
+returns-in-0 c = sym (ap rule_named c.in-0.is)
 
-returns-2 : tie.Need-returns-2
+returns-in-1 : tie.Need-returns-in-1
 unfolding rule_named
-returns-2 c = sym (ap rule_named c.match.keys2)
+returns-in-1 c = sym (ap rule_named c.in-1.is)
 
-returns-3 : tie.Need-returns-3
+returns-in-2 : tie.Need-returns-in-2
 unfolding rule_named
-returns-3 c = sym (ap rule_named c.match.keys3)
+returns-in-2 c = sym (ap rule_named c.in-2.is)
 
-returns-4 : tie.Need-returns-4
+returns-in_default : tie.Need-returns-in_default
 unfolding rule_named
-returns-4 c = let r = c.match.rest in rw (ne_eqb _ _ r.0.0.1, ne_eqb _ _ r.0.1, ne_eqb _ _ r.1)
+returns-in_default c = let r = c.in_default.in_default-own.rest in rw (ne_eqb _ _ r.0.0.1, ne_eqb _ _ r.0.1, ne_eqb _ _ r.1)
 
-pub rule-of-spec : {M : Type 1} → statement M
-rule-of-spec = tie.close (tie.spec returns returns-2 returns-3 returns-4)
+pub rule_of_spec : {M : Type 1} → statement M
+rule_of_spec =
+    tie.close
+    (tie.spec
+    returns-in-0
+    returns-in-1
+    returns-in-2
+    returns-in_default)

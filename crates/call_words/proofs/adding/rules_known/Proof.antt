@@ -9,53 +9,53 @@ use borrow.Author.Rules.{rules}
 use Rattle.call_words.proofs.adding.rules_known.Statement.{statement}
 use Rattle.call_words.proofs.adding.rules_known.Tie as tie
 
-element-copy-out-if1 : tie.Need-element-copy-out-if1
-element-copy-out-if1 c = search rules
+bounds-words-0 : tie.Need-bounds-words-0
+bounds-words-0 c = search rules
 
-element-copy-out-if2 : tie.Need-element-copy-out-if2
-element-copy-out-if2 c = search rules
+bounds-words-4 : tie.Need-bounds-words-4
+bounds-words-4 c = search rules
 
-element-copy-out-if3 : tie.Need-element-copy-out-if3
-element-copy-out-if3 c = search rules
+bounds-words-8 : tie.Need-bounds-words-8
+bounds-words-8 c = search rules
 
-element-copy-out-result : tie.Need-element-copy-out-result
-element-copy-out-result c = search rules
+bounds-words-12 : tie.Need-bounds-words-12
+bounds-words-12 c = search rules
 
-returns : tie.Need-returns
+returns-then-words-le3-3 : tie.Need-returns-then-words-le3-3
 unfolding rules_known
-returns c =
-    let ws = c.before.before.before.before.before.before.before.args.words.now in
-    known_next _ _ _ (le-leb (get_or ws 0 0) 3 c.before.before.before.before.before.if1.true)
-    (known_next _ _ _ (le-leb (get_or ws 4 0) 3 c.before.before.before.if2.true) (known_next _ _ _ (le-leb (get_or ws 8 0) 3 c.before.if3.true) refl))
+returns-then-words-le3-3 c =
+    let ws = c.args.words.now in
+    known_next _ _ _ (le-leb (get_or ws 0 0) 3 c.if-words-le3.true)
+    (known_next _ _ _ (le-leb (get_or ws 4 0) 3 c.if-words-le3-2.true) (known_next _ _ _ (le-leb (get_or ws 8 0) 3 c.if-words-le3-3.true) refl))
 
-returns-2 : tie.Need-returns-2
+returns-else-words-le3-3 : tie.Need-returns-else-words-le3-3
 unfolding rules_known
-returns-2 c =
-    let ws = c.before.before.before.before.before.before.args.words.now in
-    known_next _ _ _ (le-leb (get_or ws 0 0) 3 c.before.before.before.before.if1.true)
-    (known_next _ _ _ (le-leb (get_or ws 4 0) 3 c.before.before.if2.true) (known-not _ _ (lt-leb (get_or ws 8 0) 3 (omega (arith, c.if3.false)))))
+returns-else-words-le3-3 c =
+    let ws = c.args.words.now in
+    known_next _ _ _ (le-leb (get_or ws 0 0) 3 c.if-words-le3.true)
+    (known_next _ _ _ (le-leb (get_or ws 4 0) 3 c.if-words-le3-2.true) (known-not _ _ (lt-leb (get_or ws 8 0) 3 (omega (arith, c.if-words-le3-3.false)))))
 
-returns-3 : tie.Need-returns-3
+returns-else-words-le3-2 : tie.Need-returns-else-words-le3-2
 unfolding rules_known
-returns-3 c =
-    let ws = c.before.before.before.before.args.words.now in
-    known_next _ _ _ (le-leb (get_or ws 0 0) 3 c.before.before.if1.true) (known-not _ _ (lt-leb (get_or ws 4 0) 3 (omega (arith, c.if2.false))))
+returns-else-words-le3-2 c =
+    let ws = c.args.words.now in
+    known_next _ _ _ (le-leb (get_or ws 0 0) 3 c.if-words-le3.true) (known-not _ _ (lt-leb (get_or ws 4 0) 3 (omega (arith, c.if-words-le3-2.false))))
 
-returns-4 : tie.Need-returns-4
+returns-else-words-le3 : tie.Need-returns-else-words-le3
 unfolding rules_known
-returns-4 c =
-    let ws = c.before.before.args.words.now in
-    known-not _ _ (lt-leb (get_or ws 0 0) 3 (omega (arith, c.if1.false)))
+returns-else-words-le3 c =
+    let ws = c.args.words.now in
+    known-not _ _ (lt-leb (get_or ws 0 0) 3 (omega (arith, c.if-words-le3.false)))
 
-pub rules-known-spec : {M : Type 1} → statement M
-rules-known-spec =
+pub rules_known_spec : {M : Type 1} → statement M
+rules_known_spec =
     tie.close
     (tie.spec
-    element-copy-out-if1
-    element-copy-out-if2
-    element-copy-out-if3
-    element-copy-out-result
-    returns
-    returns-2
-    returns-3
-    returns-4)
+    bounds-words-0
+    bounds-words-4
+    bounds-words-8
+    bounds-words-12
+    returns-then-words-le3-3
+    returns-else-words-le3-3
+    returns-else-words-le3-2
+    returns-else-words-le3)

@@ -31,47 +31,47 @@ bare (ReplyForm.Restarted lines used) o = absurd (miss (0 ∷ 1 ∷ 2 ∷ 4 ∷ 
 bare (ReplyForm.Redone ran examined) o = absurd (miss (0 ∷ 1 ∷ 2 ∷ 4 ∷ 5 ∷ 6 ∷ 10 ∷ []) 9 tt o)
 bare ReplyForm.Ended o = refl
 
-enum-known-form : tie.Need-enum-known-form
-enum-known-form c = search rules
+enum_known-form : tie.Need-enum_known-form
+enum_known-form c = search rules
 
-enum-known-form-2 : tie.Need-enum-known-form-2
-enum-known-form-2 c = search rules
+enum_known-form-in-Shows-1 : tie.Need-enum_known-form-in-Shows-1
+enum_known-form-in-Shows-1 c = search rules
 
-enum-known-form-3 : tie.Need-enum-known-form-3
-enum-known-form-3 c = search rules
+enum_known-form-in-Restarted-1 : tie.Need-enum_known-form-in-Restarted-1
+enum_known-form-in-Restarted-1 c = search rules
 
-enum-known-form-4 : tie.Need-enum-known-form-4
-enum-known-form-4 c = search rules
+enum_known-form-in-Redone-1 : tie.Need-enum_known-form-in-Redone-1
+enum_known-form-in-Redone-1 c = search rules
 
-returns : tie.Need-returns
+returns-in-Finished : tie.Need-returns-in-Finished
 unfolding single_words
-returns c = said c.before.before.before.args.r _ c.before.form.given.1
+returns-in-Finished c = said c.args.r _ c.in-Finished.is
 
-returns-2 : tie.Need-returns-2
+returns-in-Shows : tie.Need-returns-in-Shows
 unfolding single_words
-returns-2 c = said c.before.before.before.args.r _ c.before.form2.given.1
+returns-in-Shows c = said c.args.r _ c.in-Shows.is
 
-returns-3 : tie.Need-returns-3
+returns-in-Restarted : tie.Need-returns-in-Restarted
 unfolding single_words
-returns-3 c = said c.before.before.before.args.r _ c.before.form3.given.1
+returns-in-Restarted c = said c.args.r _ c.in-Restarted.is
 
-returns-4 : tie.Need-returns-4
+returns-in-Redone : tie.Need-returns-in-Redone
 unfolding single_words
-returns-4 c = said c.before.before.before.args.r _ c.before.form4.given.1
+returns-in-Redone c = said c.args.r _ c.in-Redone.is
 
-returns-5 : tie.Need-returns-5
-returns-5 c = let r = c.before.args.r in sym (ap (λ (ws : List ℕ). r.first ∷ r.second ∷ ws) (bare r.form c.match.keys5))
+returns-in_default : tie.Need-returns-in_default
+returns-in_default c = let r = c.args.r in sym (ap (λ (ws : List ℕ). r.first ∷ r.second ∷ ws) (bare r.form c.in_default.in_default-own.keys5))
 
-pub answer-of-spec : {M : Type 1} → statement M
-answer-of-spec =
+pub answer_of_spec : {M : Type 1} → statement M
+answer_of_spec =
     tie.close
     (tie.spec
-    enum-known-form
-    enum-known-form-2
-    enum-known-form-3
-    enum-known-form-4
-    returns
-    returns-2
-    returns-3
-    returns-4
-    returns-5)
+    enum_known-form
+    enum_known-form-in-Shows-1
+    enum_known-form-in-Restarted-1
+    enum_known-form-in-Redone-1
+    returns-in-Finished
+    returns-in-Shows
+    returns-in-Restarted
+    returns-in-Redone
+    returns-in_default)

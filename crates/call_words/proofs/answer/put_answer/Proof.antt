@@ -7,23 +7,28 @@ use borrow.Author.Rules.{rules}
 use Rattle.call_words.proofs.answer.put_answer.Statement.{statement}
 use Rattle.call_words.proofs.answer.put_answer.Tie as tie
 
-reply-number-requires : tie.Need-reply-number-requires
-reply-number-requires c κs = search rules
+reply_number-n-requires : tie.Need-reply_number-n-requires
+reply_number-n-requires c κs = search rules
 
-answer-of-requires : tie.Need-answer-of-requires
-answer-of-requires c κs = search rules
+answer_of-requires : tie.Need-answer_of-requires
+answer_of-requires c κs = search rules
+
+returns-then-n-eq0 : tie.Need-returns-then-n-eq0
+returns-then-n-eq0 c = search rules
 
 returns : tie.Need-returns
-returns c = search rules
-
-returns-2 : tie.Need-returns-2
-returns-2 c =
-    let e = c.before.before in
-    let n = c.before.reply-number in
+returns c =
+    let n = c.reply_number-n in
     record {
       number = n.ensures;
-      answer = sym (ap (λ (b : Bool). cond b (answer_words e.args.r) e.args.answer.now) (ne_eqb n.result 0 c.if1.false));
+      answer = sym (ap (λ (b : Bool). cond b (answer_words c.args.r) c.args.answer.now) (ne_eqb n.result 0 c.if-n-eq0.false));
     }
 
-pub put-answer-spec : {M : Type 1} → statement M
-put-answer-spec = tie.close (tie.spec reply-number-requires answer-of-requires returns returns-2)
+pub put_answer_spec : {M : Type 1} → statement M
+put_answer_spec =
+    tie.close
+    (tie.spec
+    reply_number-n-requires
+    answer_of-requires
+    returns-then-n-eq0
+    returns)

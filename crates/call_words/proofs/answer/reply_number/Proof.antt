@@ -25,18 +25,24 @@ accepted (ReplyForm.Restarted lines used) o = refl
 accepted (ReplyForm.Redone ran examined) o = refl
 accepted ReplyForm.Ended o = refl
 
-enum-known-form : tie.Need-enum-known-form
-enum-known-form c = search rules
+enum_known-form : tie.Need-enum_known-form
+enum_known-form c = search rules
 
-refusal-number-requires : tie.Need-refusal-number-requires
-refusal-number-requires c κs = search rules
+refusal_number-requires : tie.Need-refusal_number-requires
+refusal_number-requires c κs = search rules
 
-returns : tie.Need-returns
+returns-in-Refused : tie.Need-returns-in-Refused
 unfolding form_number
-returns c = c.refusal-number.ensures ∙ sym (ap form_number c.before.before.form.given.1)
+returns-in-Refused c = c.refusal_number.ensures ∙ sym (ap form_number c.in-Refused.is)
 
-returns-2 : tie.Need-returns-2
-returns-2 c = sym (accepted c.before.args.form c.match.keys2)
+returns-in_default : tie.Need-returns-in_default
+returns-in_default c = sym (accepted c.args.form c.in_default.in_default-own.keys2)
 
-pub reply-number-spec : {M : Type 1} → statement M
-reply-number-spec = tie.close (tie.spec enum-known-form refusal-number-requires returns returns-2)
+pub reply_number_spec : {M : Type 1} → statement M
+reply_number_spec =
+    tie.close
+    (tie.spec
+    enum_known-form
+    refusal_number-requires
+    returns-in-Refused
+    returns-in_default)

@@ -8,27 +8,34 @@ use borrow.Author.Rules.{rules}
 use Rattle.call_words.proofs.polls.poll_number.Statement.{statement}
 use Rattle.call_words.proofs.polls.poll_number.Tie as tie
 
-enum_told : tie.Need-enum-told
-enum_told c = search rules
+enum_told-1 : tie.Need-enum_told-1
+enum_told-1 c = search rules
 
-enum-told-2 : tie.Need-enum-told-2
-enum-told-2 c = search rules
+enum_told-in-Busy : tie.Need-enum_told-in-Busy
+enum_told-in-Busy c = search rules
 
-enum-told-3 : tie.Need-enum-told-3
-enum-told-3 c = search rules
+enum_told-in-NoSuchHistory : tie.Need-enum_told-in-NoSuchHistory
+enum_told-in-NoSuchHistory c = search rules
 
-returns : tie.Need-returns
+returns-in-Dry : tie.Need-returns-in-Dry
 unfolding polled_of polled_number number_of
-returns c = sym (ap (λ (x : PollAnswer). polled_number (polled_of x)) c.enum_told.given.1)
+returns-in-Dry c = sym (ap (λ (x : PollAnswer). polled_number (polled_of x)) c.in-Dry.is)
 
-returns-2 : tie.Need-returns-2
+returns-in-Busy : tie.Need-returns-in-Busy
 unfolding polled_of polled_number number_of
-returns-2 c = sym (ap (λ (x : PollAnswer). polled_number (polled_of x)) c.enum-told2.given.1)
+returns-in-Busy c = sym (ap (λ (x : PollAnswer). polled_number (polled_of x)) c.in-Busy.is)
 
-returns-3 : tie.Need-returns-3
+returns-in-NoSuchHistory : tie.Need-returns-in-NoSuchHistory
 unfolding polled_of polled_number number_of
-returns-3 c = sym (ap (λ (x : PollAnswer). polled_number (polled_of x)) c.enum-told3.given.1)
+returns-in-NoSuchHistory c = sym (ap (λ (x : PollAnswer). polled_number (polled_of x)) c.in-NoSuchHistory.is)
 
-pub poll-number-spec : {M : Type 1} → statement M
-poll-number-spec =
-    tie.close (tie.spec enum_told enum-told-2 enum-told-3 returns returns-2 returns-3)
+pub poll_number_spec : {M : Type 1} → statement M
+poll_number_spec =
+    tie.close
+    (tie.spec
+    enum_told-1
+    enum_told-in-Busy
+    enum_told-in-NoSuchHistory
+    returns-in-Dry
+    returns-in-Busy
+    returns-in-NoSuchHistory)

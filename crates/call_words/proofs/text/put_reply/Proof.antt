@@ -9,46 +9,44 @@ use borrow.Author.Rules.{rules}
 use Rattle.call_words.proofs.text.put_reply.Statement.{statement}
 use Rattle.call_words.proofs.text.put_reply.Tie as tie
 
-write-turn-requires : tie.Need-write-turn-requires
-write-turn-requires c κs = search rules
+write_turn-requires : tie.Need-write_turn-requires
+write_turn-requires c κs = search rules
 
-enum-known-n : tie.Need-enum-known-n
-enum-known-n c = search rules
+enum_known-n : tie.Need-enum_known-n
+enum_known-n c = search rules
 
-enum_told : tie.Need-enum-told
-enum_told c = search rules
+enum_told-1 : tie.Need-enum_told-1
+enum_told-1 c = search rules
 
-same_length : tie.Need-same-length
-same_length c = search rules
+shape_of-out-in-At : tie.Need-shape_of-out-in-At
+shape_of-out-in-At c = search rules
 
-returns : tie.Need-returns
-returns c =
-    let e = c.before.before.before.before.before.before.before.before.before in
-    let a = e.args in
-    let w = c.before.before.before.before.before.write-turn in
-    let v = writes_printable a.r a.lists.now a.out.now 0 w.result _ e.requires.0 w.ensures in
-    wrote_at a.out.now 0 _ w.result _ c.before.n.given.0.0 v.text c.before.n.given.1
+returns-in-At : tie.Need-returns-in-At
+returns-in-At c =
+    let a = c.args in
+    let w = c.write_turn in
+    let v = writes_printable a.r a.lists.now a.out.now 0 w.result _ c.requires.0 w.ensures in
+    wrote_at a.out.now 0 _ w.result _ c.in-At.n v.text c.in-At.is
 
-same-length-2 : tie.Need-same-length-2
-same-length-2 c = search rules
+shape_of-out-in-NoRoom : tie.Need-shape_of-out-in-NoRoom
+shape_of-out-in-NoRoom c = search rules
 
-returns-2 : tie.Need-returns-2
-returns-2 c =
-    let e = c.before.before.before.before.before.before.before.before in
-    let w = c.before.before.before.before.write-turn in
-    let v = writes_printable e.args.r e.args.lists.now e.args.out.now 0 w.result _ e.requires.0 w.ensures in
-    let short = (wrote_not e.args.out.now 0 _ w.result _ v.text c.enum_told.given.1).short in
-    let text = outcome_text (outcome_of (replied e.args.r e.args.lists.now)) in
-    absurd (omega (arith, short, end_size text, v.short, e.requires.1))
+returns-in-NoRoom : tie.Need-returns-in-NoRoom
+returns-in-NoRoom c =
+    let w = c.write_turn in
+    let v = writes_printable c.args.r c.args.lists.now c.args.out.now 0 w.result _ c.requires.0 w.ensures in
+    let short = (wrote_not c.args.out.now 0 _ w.result _ v.text c.in-NoRoom.is).short in
+    let text = outcome_text (outcome_of (replied c.args.r c.args.lists.now)) in
+    absurd (omega (arith, short, end_size text, v.short, c.requires.1))
 
-pub put-reply-spec : {M : Type 1} → statement M
-put-reply-spec =
+pub put_reply_spec : {M : Type 1} → statement M
+put_reply_spec =
     tie.close
     (tie.spec
-    write-turn-requires
-    enum-known-n
-    enum_told
-    same_length
-    returns
-    same-length-2
-    returns-2)
+    write_turn-requires
+    enum_known-n
+    enum_told-1
+    shape_of-out-in-At
+    returns-in-At
+    shape_of-out-in-NoRoom
+    returns-in-NoRoom)

@@ -6,23 +6,29 @@ use borrow.Author.Rules.{rules}
 use Rattle.call_words.proofs.trims.put_used.Statement.{statement}
 use Rattle.call_words.proofs.trims.put_used.Tie as tie
 
-enum-known-r : tie.Need-enum-known-r
-enum-known-r c = search rules
+enum_known-r : tie.Need-enum_known-r
+enum_known-r c = search rules
 
-enum-known-r-2 : tie.Need-enum-known-r-2
-enum-known-r-2 c = search rules
+enum_known-r-in-Refused-1 : tie.Need-enum_known-r-in-Refused-1
+enum_known-r-in-Refused-1 c = search rules
 
-refusal-number-requires : tie.Need-refusal-number-requires
-refusal-number-requires c κs = search rules
+refusal_number-requires : tie.Need-refusal_number-requires
+refusal_number-requires c κs = search rules
 
-returns : tie.Need-returns
+returns-in-Used : tie.Need-returns-in-Used
 unfolding copied_number copied_used
-returns c = (sym (ap copied_number c.before.r.given.1), sym (ap (λ (x : Copied). copied_used x c.before.before.before.args.used.now) c.before.r.given.1))
+returns-in-Used c = (sym (ap copied_number c.in-Used.is), sym (ap (λ (x : Copied). copied_used x c.args.used.now) c.in-Used.is))
 
-returns-2 : tie.Need-returns-2
+returns-in-Refused : tie.Need-returns-in-Refused
 unfolding copied_number copied_used
-returns-2 c = (c.refusal-number.ensures ∙ sym (ap copied_number c.before.before.r2.given.1), sym (ap (λ (x : Copied). copied_used x c.before.before.before.before.args.used.now) c.before.before.r2.given.1))
+returns-in-Refused c = (c.refusal_number.ensures ∙ sym (ap copied_number c.in-Refused.is), sym (ap (λ (x : Copied). copied_used x c.args.used.now) c.in-Refused.is))
 
-pub put-used-spec : {M : Type 1} → statement M
-put-used-spec =
-    tie.close (tie.spec enum-known-r enum-known-r-2 refusal-number-requires returns returns-2)
+pub put_used_spec : {M : Type 1} → statement M
+put_used_spec =
+    tie.close
+    (tie.spec
+    enum_known-r
+    enum_known-r-in-Refused-1
+    refusal_number-requires
+    returns-in-Used
+    returns-in-Refused)

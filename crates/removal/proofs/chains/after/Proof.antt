@@ -5,35 +5,35 @@ use borrow.Author.Rules.{rules}
 use Rattle.removal.proofs.chains.after.Statement.{statement}
 use Rattle.removal.proofs.chains.after.Tie as tie
 
-add-result : tie.Need-overflow-add-result
-add-result c = search rules
+overflow_add-result : tie.Need-overflow_add-result
+overflow_add-result c = search rules
 
-mul-result : tie.Need-overflow-mul-result
-mul-result c = search rules
+offset_bounds-chains-p : tie.Need-offset_bounds-chains-p
+offset_bounds-chains-p c = search rules
 
-element-copy-out-result : tie.Need-element-copy-out-result
-element-copy-out-result c = search rules
+bounds-chains-p : tie.Need-bounds-chains-p
+bounds-chains-p c = search rules
 
-cast-result : tie.Need-overflow-cast-result
-cast-result c = record { fits = omega (arith, c.before.before.requires.small c.before.if1.true) }
+overflow_cast-result : tie.Need-overflow_cast-result
+overflow_cast-result c = record { fits = omega (arith, c.requires.small c.if-p-lt-CHAINED.true) }
+
+returns-then-p-lt-CHAINED : tie.Need-returns-then-p-lt-CHAINED
+returns-then-p-lt-CHAINED c = after_links c.args.chains.now c.args.p c.if-p-lt-CHAINED.true
+
+overflow_add-result-2 : tie.Need-overflow_add-result-2
+overflow_add-result-2 c = search rules
 
 returns : tie.Need-returns
-returns c = after_links c.before.before.args.chains.now c.before.before.args.p c.before.if1.true
+returns c = after_walks_on c.args.chains.now c.args.p c.if-p-lt-CHAINED.false
 
-add-result-2 : tie.Need-overflow-add-result-2
-add-result-2 c = search rules
-
-returns-2 : tie.Need-returns-2
-returns-2 c = after_walks_on c.before.args.chains.now c.before.args.p c.if1.false
-
-pub after-spec : {M : Type 1} → statement M
-after-spec =
+pub after_spec : {M : Type 1} → statement M
+after_spec =
     tie.close
     (tie.spec
-    add-result
-    mul-result
-    element-copy-out-result
-    cast-result
-    returns
-    add-result-2
-    returns-2)
+    overflow_add-result
+    offset_bounds-chains-p
+    bounds-chains-p
+    overflow_cast-result
+    returns-then-p-lt-CHAINED
+    overflow_add-result-2
+    returns)

@@ -6,99 +6,99 @@ use borrow.Author.Rules.{rules}
 use Rattle.removal.proofs.chains.chain.Statement.{statement}
 use Rattle.removal.proofs.chains.chain.Tie as tie
 
-abbrev invariant-loop : tie.invariant-loop
-invariant-loop words c m chains₀ p₀ chains p = ChainedFrom words c p chains
+abbrev invariant-loop-p : tie.invariant-loop-p
+invariant-loop-p words c m chains₀ p₀ chains p = ChainedFrom words c p chains
 
-abbrev decreases-loop : tie.decreases-loop
-decreases-loop words c m chains₀ p₀ chains p = p
+abbrev decreases-loop-p : tie.decreases-loop-p
+decreases-loop-p words c m chains₀ p₀ chains p = p
 
-chained-requires : tie.Need-chained-requires invariant-loop decreases-loop
-chained-requires c κs = search rules
+chained-m-requires : tie.Need-chained-m-requires invariant-loop-p decreases-loop-p
+chained-m-requires c κs = search rules
 
-blank-requires : tie.Need-blank-requires invariant-loop decreases-loop
-blank-requires c κs = search rules
+blank-chains-requires : tie.Need-blank-chains-requires invariant-loop-p decreases-loop-p
+blank-chains-requires c κs = search rules
 
-cast-fill : tie.Need-overflow-cast-fill invariant-loop decreases-loop
-cast-fill c = record { fits = omega (arith, c.before.before.chained.ensures.within) }
+overflow_cast-m : tie.Need-overflow_cast-m invariant-loop-p decreases-loop-p
+overflow_cast-m c = record { fits = omega (arith, c.chained-m.ensures.within) }
 
-fill-requires : tie.Need-fill-requires invariant-loop decreases-loop
-fill-requires c κs = c.before.blank.ensures
+fill-requires : tie.Need-fill-requires invariant-loop-p decreases-loop-p
+fill-requires c κs = c.blank-chains.ensures
 
-loop-holds : tie.Need-loop-init invariant-loop decreases-loop
-loop-holds c = chained_start c.before.before.before.before.before.args.words.now c.before.before.before.before.before.args.c c.before.before.before.chained.result c.fill.new.0 c.before.before.before.chained.ensures c.fill.ensures
+loop-p-init : tie.Need-loop-p-init invariant-loop-p decreases-loop-p
+loop-p-init c = chained_start c.args.words.now c.args.c c.chained-m.result c.fill.new.chains c.chained-m.ensures c.fill.ensures
 
-sub-p : tie.Need-overflow-sub-p invariant-loop decreases-loop
-sub-p c = omega (arith, c.loop-test.true)
+overflow_sub-p : tie.Need-overflow_sub-p invariant-loop-p decreases-loop-p
+overflow_sub-p c = omega (arith, c.loop-p-test.true)
 
-mul-b : tie.Need-overflow-mul-b invariant-loop decreases-loop
-mul-b c = search rules
+overflow_mul-b : tie.Need-overflow_mul-b invariant-loop-p decreases-loop-p
+overflow_mul-b c = search rules
 
-add-b : tie.Need-overflow-add-b invariant-loop decreases-loop
-add-b c = search rules
+overflow_add-b : tie.Need-overflow_add-b invariant-loop-p decreases-loop-p
+overflow_add-b c = search rules
 
-mul-b-2 : tie.Need-overflow-mul-b-2 invariant-loop decreases-loop
-mul-b-2 c = search rules
+offset_bounds-words-p : tie.Need-offset_bounds-words-p invariant-loop-p decreases-loop-p
+offset_bounds-words-p c = search rules
 
-shared-slice-read-b : tie.Need-shared-slice-read-b invariant-loop decreases-loop
-shared-slice-read-b c = omega (arith, c.before.loop-test.true, c.before.before.loop.invariant.most, c.before.before.before.before.before.before.before.before.requires)
+bounds-words-p : tie.Need-bounds-words-p invariant-loop-p decreases-loop-p
+bounds-words-p c = omega (arith, c.loop-p-test.true, c.loop-p.invariant.most, c.requires)
 
-mul-chains : tie.Need-overflow-mul-chains invariant-loop decreases-loop
-mul-chains c = search rules
+offset_bounds-chains-b : tie.Need-offset_bounds-chains-b invariant-loop-p decreases-loop-p
+offset_bounds-chains-b c = search rules
 
-array-read-chains : tie.Need-array-read-chains invariant-loop decreases-loop
-array-read-chains c = search rules
+bounds-chains-b : tie.Need-bounds-chains-b invariant-loop-p decreases-loop-p
+bounds-chains-b c = search rules
 
-add-chains : tie.Need-overflow-add-chains invariant-loop decreases-loop
-add-chains c = search rules
+overflow_add-chains : tie.Need-overflow_add-chains invariant-loop-p decreases-loop-p
+overflow_add-chains c = search rules
 
-mul-chains-2 : tie.Need-overflow-mul-chains-2 invariant-loop decreases-loop
-mul-chains-2 c = search rules
+offset_bounds-chains-p : tie.Need-offset_bounds-chains-p invariant-loop-p decreases-loop-p
+offset_bounds-chains-p c = search rules
 
-array-write-chains : tie.Need-array-write-chains invariant-loop decreases-loop
-array-write-chains c = omega (arith, c.before.before.loop.invariant.within, c.before.loop-test.true)
+bounds-chains-p : tie.Need-bounds-chains-p invariant-loop-p decreases-loop-p
+bounds-chains-p c = omega (arith, c.loop-p.invariant.within, c.loop-p-test.true)
 
-cast-chains : tie.Need-overflow-cast-chains invariant-loop decreases-loop
-cast-chains c = record { fits = omega (arith, c.before.before.loop.invariant.within) }
+overflow_cast-chains : tie.Need-overflow_cast-chains invariant-loop-p decreases-loop-p
+overflow_cast-chains c = record { fits = omega (arith, c.loop-p.invariant.within) }
 
-mul-chains-3 : tie.Need-overflow-mul-chains-3 invariant-loop decreases-loop
-mul-chains-3 c = search rules
+offset_bounds-chains-b-in-loop-p : tie.Need-offset_bounds-chains-b-in-loop-p invariant-loop-p decreases-loop-p
+offset_bounds-chains-b-in-loop-p c = search rules
 
-array-write-chains-2 : tie.Need-array-write-chains-2 invariant-loop decreases-loop
-array-write-chains-2 c = search rules
+bounds-chains-b-in-loop-p : tie.Need-bounds-chains-b-in-loop-p invariant-loop-p decreases-loop-p
+bounds-chains-b-in-loop-p c = search rules
 
-loop-less : tie.Need-loop-smaller invariant-loop decreases-loop
-loop-less c = omega (arith, c.before.loop-test.true)
+loop-p-smaller : tie.Need-loop-p-smaller invariant-loop-p decreases-loop-p
+loop-p-smaller c = omega (arith, c.loop-p-test.true)
 
-loop-again : tie.Need-loop-preserved invariant-loop decreases-loop
-loop-again c = chained_next c.before.before.before.before.before.before.before.before.args.words.now c.before.before.before.before.before.before.before.before.args.c c.before.before.loop.p c.before.before.loop.chains c.before.before.loop.invariant c.before.loop-test.true
+loop-p-preserved : tie.Need-loop-p-preserved invariant-loop-p decreases-loop-p
+loop-p-preserved c = chained_next c.args.words.now c.args.c c.loop-p.p c.loop-p.chains c.loop-p.invariant c.loop-p-test.true
 
-returns : tie.Need-returns invariant-loop decreases-loop
-returns c = chained_done c.before.before.before.before.before.before.before.args.words.now c.before.before.before.before.before.before.before.args.c c.before.loop.p c.before.loop.chains c.before.loop.invariant (omega (arith, c.loop-test.false))
+returns : tie.Need-returns invariant-loop-p decreases-loop-p
+returns c = chained_done c.args.words.now c.args.c c.loop-p.p c.loop-p.chains c.loop-p.invariant (omega (arith, c.loop-p-test.false))
 
-pub chain-spec : {M : Type 1} → statement M
-chain-spec =
+pub chain_spec : {M : Type 1} → statement M
+chain_spec =
     tie.close
     (tie.spec
-    invariant-loop
-    decreases-loop
-    chained-requires
-    blank-requires
-    cast-fill
+    invariant-loop-p
+    decreases-loop-p
+    chained-m-requires
+    blank-chains-requires
+    overflow_cast-m
     fill-requires
-    loop-holds
-    sub-p
-    mul-b
-    add-b
-    mul-b-2
-    shared-slice-read-b
-    mul-chains
-    array-read-chains
-    add-chains
-    mul-chains-2
-    array-write-chains
-    cast-chains
-    mul-chains-3
-    array-write-chains-2
-    loop-less
-    loop-again
+    loop-p-init
+    overflow_sub-p
+    overflow_mul-b
+    overflow_add-b
+    offset_bounds-words-p
+    bounds-words-p
+    offset_bounds-chains-b
+    bounds-chains-b
+    overflow_add-chains
+    offset_bounds-chains-p
+    bounds-chains-p
+    overflow_cast-chains
+    offset_bounds-chains-b-in-loop-p
+    bounds-chains-b-in-loop-p
+    loop-p-smaller
+    loop-p-preserved
     returns)

@@ -7,47 +7,47 @@ use borrow.Author.Rules.{rules}
 use Rattle.removal.proofs.chains.fill.Statement.{statement}
 use Rattle.removal.proofs.chains.fill.Tie as tie
 
-abbrev invariant-loop : tie.invariant-loop
-invariant-loop chains₀ m b₀ chains b = Filled m b chains × (b ≤ 4096)
+abbrev invariant-loop-b : tie.invariant-loop-b
+invariant-loop-b chains₀ m b₀ chains b = Filled m b chains × (b ≤ 4096)
 
-abbrev decreases-loop : tie.decreases-loop
-decreases-loop chains₀ m b₀ chains b = 4096 - b
+abbrev decreases-loop-b : tie.decreases-loop-b
+decreases-loop-b chains₀ m b₀ chains b = 4096 - b
 
-loop-holds : tie.Need-loop-init invariant-loop decreases-loop
-loop-holds c = (record { size = c.requires; heads = λ k l. absurd (omega (arith, l)) }, omega arith)
+loop-b-init : tie.Need-loop-b-init invariant-loop-b decreases-loop-b
+loop-b-init c = (record { size = c.requires; heads = λ k l. absurd (omega (arith, l)) }, omega arith)
 
-mul-chains : tie.Need-overflow-mul-chains invariant-loop decreases-loop
-mul-chains c = search rules
+offset_bounds-chains-b : tie.Need-offset_bounds-chains-b invariant-loop-b decreases-loop-b
+offset_bounds-chains-b c = search rules
 
-element-write-chains : tie.Need-element-write-chains invariant-loop decreases-loop
-element-write-chains c = search rules
+bounds-chains-b : tie.Need-bounds-chains-b invariant-loop-b decreases-loop-b
+bounds-chains-b c = search rules
 
-add-b : tie.Need-overflow-add-b invariant-loop decreases-loop
-add-b c = search rules
+overflow_add-b : tie.Need-overflow_add-b invariant-loop-b decreases-loop-b
+overflow_add-b c = search rules
 
-loop-less : tie.Need-loop-smaller invariant-loop decreases-loop
-loop-less c = search rules
+loop-b-smaller : tie.Need-loop-b-smaller invariant-loop-b decreases-loop-b
+loop-b-smaller c = search rules
 
-loop-again : tie.Need-loop-preserved invariant-loop decreases-loop
-loop-again c =
-    let l = c.before.loop in
-    (filled_next c.before.before.args.m l.b l.chains c.loop-test.true l.invariant.0, omega (arith, c.loop-test.true))
+loop-b-preserved : tie.Need-loop-b-preserved invariant-loop-b decreases-loop-b
+loop-b-preserved c =
+    let l = c.loop-b in
+    (filled_next c.args.m l.b l.chains c.loop-b-test.true l.invariant.0, omega (arith, c.loop-b-test.true))
 
-returns : tie.Need-returns invariant-loop decreases-loop
+returns : tie.Need-returns invariant-loop-b decreases-loop-b
 returns c =
-    let l = c.before.loop in
-    record { size = l.invariant.0.size; heads = λ k h. l.invariant.0.heads k (omega (arith, h, c.loop-test.false)) }
+    let l = c.loop-b in
+    record { size = l.invariant.0.size; heads = λ k h. l.invariant.0.heads k (omega (arith, h, c.loop-b-test.false)) }
 
 pub fill_spec : {M : Type 1} → statement M
 fill_spec =
     tie.close
     (tie.spec
-    invariant-loop
-    decreases-loop
-    loop-holds
-    mul-chains
-    element-write-chains
-    add-b
-    loop-less
-    loop-again
+    invariant-loop-b
+    decreases-loop-b
+    loop-b-init
+    offset_bounds-chains-b
+    bounds-chains-b
+    overflow_add-b
+    loop-b-smaller
+    loop-b-preserved
     returns)

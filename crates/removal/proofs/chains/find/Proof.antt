@@ -8,70 +8,70 @@ use borrow.Author.Rules.{rules}
 use Rattle.removal.proofs.chains.find.Statement.{statement}
 use Rattle.removal.proofs.chains.find.Tie as tie
 
-abbrev invariant-loop : tie.invariant-loop
-invariant-loop words chains c key from count q₀ q = FindsTo words c key from q
+abbrev invariant-loop-q : tie.invariant-loop-q
+invariant-loop-q words chains c key from count q₀ q = FindsTo words c key from q
 
-abbrev decreases-loop : tie.decreases-loop
-decreases-loop words chains c key from count q₀ q = count - q
+abbrev decreases-loop-q : tie.decreases-loop-q
+decreases-loop-q words chains c key from count q₀ q = count - q
 
-loop-holds : tie.Need-loop-init invariant-loop decreases-loop
-loop-holds c = finds_start c.before.args.words.now c.before.args.c c.before.args.key c.before.args.from c.before.requires.2
+loop-q-init : tie.Need-loop-q-init invariant-loop-q decreases-loop-q
+loop-q-init c = finds_start c.args.words.now c.args.c c.args.key c.args.from c.requires.2
 
-mul-if1 : tie.Need-overflow-mul-if1 invariant-loop decreases-loop
-mul-if1 c = search rules
+overflow_mul-q : tie.Need-overflow_mul-q invariant-loop-q decreases-loop-q
+overflow_mul-q c = search rules
 
-add-if1 : tie.Need-overflow-add-if1 invariant-loop decreases-loop
-add-if1 c = search rules
+overflow_add-q : tie.Need-overflow_add-q invariant-loop-q decreases-loop-q
+overflow_add-q c = search rules
 
-mul-if1-2 : tie.Need-overflow-mul-if1-2 invariant-loop decreases-loop
-mul-if1-2 c = search rules
+offset_bounds-words-q : tie.Need-offset_bounds-words-q invariant-loop-q decreases-loop-q
+offset_bounds-words-q c = search rules
 
-shared-slice-read-if1 : tie.Need-shared-slice-read-if1 invariant-loop decreases-loop
-shared-slice-read-if1 c = omega (arith, c.before.loop-test.true, c.before.before.before.before.requires.1)
+bounds-words-q : tie.Need-bounds-words-q invariant-loop-q decreases-loop-q
+bounds-words-q c = omega (arith, c.loop-q-test.true, c.requires.1)
 
-returns : tie.Need-returns invariant-loop decreases-loop
-returns c =
-    finds_here c.before.before.before.before.before.args.words.now c.before.before.before.before.before.args.c c.before.before.before.before.before.args.key c.before.before.before.before.before.args.from c.before.before.before.loop.q c.before.before.before.loop.invariant
-    c.before.before.loop-test.true c.if1.true
+returns-then-words-q : tie.Need-returns-then-words-q invariant-loop-q decreases-loop-q
+returns-then-words-q c =
+    finds_here c.args.words.now c.args.c c.args.key c.args.from c.loop-q.q c.loop-q.invariant
+    c.loop-q-test.true c.if-words-q.true
 
-after-requires : tie.Need-after-requires invariant-loop decreases-loop
-after-requires c κs =
+after-q-requires : tie.Need-after-q-requires invariant-loop-q decreases-loop-q
+after-q-requires c κs =
     record {
-      low = (let l = c.before.before.loop-test.true in search rules);
-      small = λ h. c.before.before.before.before.before.requires.0.links_small c.before.before.before.loop.q c.before.before.loop-test.true h;
+      low = (let l = c.loop-q-test.true in search rules);
+      small = λ h. c.requires.0.links_small c.loop-q.q c.loop-q-test.true h;
     }
 
-loop-less : tie.Need-loop-smaller invariant-loop decreases-loop
-loop-less c =
-    let l = c.before.before.before.before.loop in
-    let m = after_more c.before.before.before.before.before.before.args.words.now c.before.before.before.before.before.before.args.c l.q c.before.before.before.before.before.before.args.chains.now c.before.before.before.before.before.before.requires.0 c.before.before.before.loop-test.true in
-    omega (arith, m.0, m.1, c.after.ensures, c.before.before.before.loop-test.true)
+loop-q-smaller : tie.Need-loop-q-smaller invariant-loop-q decreases-loop-q
+loop-q-smaller c =
+    let l = c.loop-q in
+    let m = after_more c.args.words.now c.args.c l.q c.args.chains.now c.requires.0 c.loop-q-test.true in
+    omega (arith, m.0, m.1, c.after-q.ensures, c.loop-q-test.true)
 
-loop-again : tie.Need-loop-preserved invariant-loop decreases-loop
-loop-again c =
-    let l = c.before.before.before.before.loop in
-    subst (λ (x : ℕ). FindsTo c.before.before.before.before.before.before.args.words.now c.before.before.before.before.before.before.args.c c.before.before.before.before.before.before.args.key c.before.before.before.before.before.before.args.from x) (sym c.after.ensures)
-    (finds_next c.before.before.before.before.before.before.args.words.now c.before.before.before.before.before.before.args.c c.before.before.before.before.before.before.args.key c.before.before.before.before.before.before.args.from l.q c.before.before.before.before.before.before.args.chains.now
-    c.before.before.before.before.before.before.requires.0 l.invariant c.before.before.before.loop-test.true c.before.if1.false)
+loop-q-preserved : tie.Need-loop-q-preserved invariant-loop-q decreases-loop-q
+loop-q-preserved c =
+    let l = c.loop-q in
+    subst (λ (x : ℕ). FindsTo c.args.words.now c.args.c c.args.key c.args.from x) (sym c.after-q.ensures)
+    (finds_next c.args.words.now c.args.c c.args.key c.args.from l.q c.args.chains.now
+    c.requires.0 l.invariant c.loop-q-test.true c.if-words-q.false)
 
-returns-2 : tie.Need-returns-2 invariant-loop decreases-loop
-returns-2 c =
-    finds_none c.before.before.before.args.words.now c.before.before.before.args.c c.before.before.before.args.key c.before.before.before.args.from c.before.loop.q c.before.loop.invariant
-    c.loop-test.false
+returns : tie.Need-returns invariant-loop-q decreases-loop-q
+returns c =
+    finds_none c.args.words.now c.args.c c.args.key c.args.from c.loop-q.q c.loop-q.invariant
+    c.loop-q-test.false
 
 pub find_spec : {M : Type 1} → statement M
 find_spec =
     tie.close
     (tie.spec
-    invariant-loop
-    decreases-loop
-    loop-holds
-    mul-if1
-    add-if1
-    mul-if1-2
-    shared-slice-read-if1
-    returns
-    after-requires
-    loop-less
-    loop-again
-    returns-2)
+    invariant-loop-q
+    decreases-loop-q
+    loop-q-init
+    overflow_mul-q
+    overflow_add-q
+    offset_bounds-words-q
+    bounds-words-q
+    returns-then-words-q
+    after-q-requires
+    loop-q-smaller
+    loop-q-preserved
+    returns)

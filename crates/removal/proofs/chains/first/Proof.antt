@@ -6,22 +6,29 @@ use borrow.Author.Rules.{rules}
 use Rattle.removal.proofs.chains.first.Statement.{statement}
 use Rattle.removal.proofs.chains.first.Tie as tie
 
-mul-from : tie.Need-overflow-mul-from
-mul-from c = search rules
+offset_bounds-chains-b : tie.Need-offset_bounds-chains-b
+offset_bounds-chains-b c = search rules
 
-element-copy-out-from : tie.Need-element-copy-out-from
-element-copy-out-from c = search rules
+bounds-chains-b : tie.Need-bounds-chains-b
+bounds-chains-b c = search rules
 
-cast-from : tie.Need-overflow-cast-from
-cast-from c = record { fits = omega (arith, c.before.before.requires.0.small (c.before.before.args.key % 4096) (omega arith)) }
+overflow_cast-from : tie.Need-overflow_cast-from
+overflow_cast-from c = record { fits = omega (arith, c.requires.0.small (c.args.key % 4096) (omega arith)) }
 
 find-requires : tie.Need-find-requires
-find-requires c κs = (c.before.before.requires.0, c.before.before.requires.1, starts_first c.before.before.args.words.now c.before.before.args.c c.before.before.args.key c.before.before.args.chains.now c.before.before.requires.0)
+find-requires c κs = (c.requires.0, c.requires.1, starts_first c.args.words.now c.args.c c.args.key c.args.chains.now c.requires.0)
 
 returns : tie.Need-returns
 returns c =
-    found_first c.before.before.before.args.words.now c.before.before.before.args.c c.before.before.before.args.key c.find.result c.before.before.before.args.chains.now c.before.before.before.requires.0
+    found_first c.args.words.now c.args.c c.args.key c.find.result c.args.chains.now c.requires.0
     c.find.ensures
 
 pub first_spec : {M : Type 1} → statement M
-first_spec = tie.close (tie.spec mul-from element-copy-out-from cast-from find-requires returns)
+first_spec =
+    tie.close
+    (tie.spec
+    offset_bounds-chains-b
+    bounds-chains-b
+    overflow_cast-from
+    find-requires
+    returns)

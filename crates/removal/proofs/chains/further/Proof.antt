@@ -7,39 +7,43 @@ use borrow.Author.Rules.{rules}
 use Rattle.removal.proofs.chains.further.Statement.{statement}
 use Rattle.removal.proofs.chains.further.Tie as tie
 
-mul-key : tie.Need-overflow-mul-key
-mul-key c = search rules
+overflow_mul-key : tie.Need-overflow_mul-key
+overflow_mul-key c = search rules
 
-add-key : tie.Need-overflow-add-key
-add-key c = search rules
+overflow_add-key : tie.Need-overflow_add-key
+overflow_add-key c = search rules
 
-mul-key-2 : tie.Need-overflow-mul-key-2
-mul-key-2 c = search rules
+offset_bounds-words-p : tie.Need-offset_bounds-words-p
+offset_bounds-words-p c = search rules
 
-shared-slice-read-key : tie.Need-shared-slice-read-key
-shared-slice-read-key c = search rules
+bounds-words-p : tie.Need-bounds-words-p
+bounds-words-p c = search rules
 
-after-requires : tie.Need-after-requires
-after-requires c κs =
-    let p = c.before.before in record { low = search rules; small = λ h. p.requires.0.links_small p.args.p p.requires.2 h }
+after-from-requires : tie.Need-after-from-requires
+after-from-requires c κs = record { low = search rules; small = λ h. c.requires.0.links_small c.args.p c.requires.2 h }
 
 find-requires : tie.Need-find-requires
-find-requires c κs =
-    let p = c.before.before.before in (
-      p.requires.0,
-      p.requires.1,
-      subst (λ (x : ℕ). Starts p.args.words.now p.args.c (key_at p.args.words.now p.args.c p.args.p) x) (sym c.after.ensures)
-          (starts_further p.args.words.now p.args.c p.args.p p.args.chains.now p.requires.0 p.requires.2),
-    )
+find-requires c κs = (
+  c.requires.0,
+  c.requires.1,
+  subst (λ (x : ℕ). Starts c.args.words.now c.args.c (key_at c.args.words.now c.args.c c.args.p) x) (sym c.after-from.ensures)
+      (starts_further c.args.words.now c.args.c c.args.p c.args.chains.now c.requires.0 c.requires.2),
+)
 
 returns : tie.Need-returns
 returns c =
-    let p = c.before.before.before.before in
-    found-further p.args.words.now p.args.c p.args.p c.find.result p.args.chains.now p.requires.0 p.requires.2
-    (subst (λ (x : ℕ). Found p.args.words.now p.args.c (key_at p.args.words.now p.args.c p.args.p) x c.find.result)
-    c.before.after.ensures c.find.ensures)
+    found-further c.args.words.now c.args.c c.args.p c.find.result c.args.chains.now c.requires.0 c.requires.2
+    (subst (λ (x : ℕ). Found c.args.words.now c.args.c (key_at c.args.words.now c.args.c c.args.p) x c.find.result)
+    c.after-from.ensures c.find.ensures)
 
-pub further-spec : {M : Type 1} → statement M
-further-spec =
+pub further_spec : {M : Type 1} → statement M
+further_spec =
     tie.close
-    (tie.spec mul-key add-key mul-key-2 shared-slice-read-key after-requires find-requires returns)
+    (tie.spec
+    overflow_mul-key
+    overflow_add-key
+    offset_bounds-words-p
+    bounds-words-p
+    after-from-requires
+    find-requires
+    returns)

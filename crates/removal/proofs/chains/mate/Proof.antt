@@ -4,41 +4,41 @@ use borrow.Author.Rules.{rules}
 use Rattle.removal.proofs.chains.mate.Statement.{statement}
 use Rattle.removal.proofs.chains.mate.Tie as tie
 
-further-requires : tie.Need-further-requires
-further-requires c κs = search rules
+further-q-requires : tie.Need-further-q-requires
+further-q-requires c κs = search rules
 
-returns : tie.Need-returns
-returns c = ring_next c.before.before.before.args.pairs.now c.before.before.before.args.p c.before.further.result c.before.further.ensures c.if1.true
+returns-then-q-pairs : tie.Need-returns-then-q-pairs
+returns-then-q-pairs c = ring_next c.args.pairs.now c.args.p c.further-q.result c.further-q.ensures c.if-q-pairs.true
 
-mul-first : tie.Need-overflow-mul-first
-mul-first c = search rules
+overflow_mul-p : tie.Need-overflow_mul-p
+overflow_mul-p c = search rules
 
-add-first : tie.Need-overflow-add-first
-add-first c = search rules
+overflow_add-p : tie.Need-overflow_add-p
+overflow_add-p c = search rules
 
-mul-first-2 : tie.Need-overflow-mul-first-2
-mul-first-2 c = search rules
+offset_bounds-pairs-p : tie.Need-offset_bounds-pairs-p
+offset_bounds-pairs-p c = search rules
 
-shared-slice-read-first : tie.Need-shared-slice-read-first
-shared-slice-read-first c = search rules
+bounds-pairs-p : tie.Need-bounds-pairs-p
+bounds-pairs-p c = search rules
 
 first-requires : tie.Need-first-requires
 first-requires c κs = search rules
 
-returns-2 : tie.Need-returns-2
-returns-2 c =
-    ring_again c.before.before.before.before.before.args.pairs.now c.before.before.before.before.before.args.p c.before.before.before.further.result c.first.result c.before.before.before.before.before.requires.1 c.before.before.before.further.ensures
-    c.before.before.if1.false c.first.ensures
+returns : tie.Need-returns
+returns c =
+    ring_again c.args.pairs.now c.args.p c.further-q.result c.first.result c.requires.1 c.further-q.ensures
+    c.if-q-pairs.false c.first.ensures
 
-pub mate-spec : {M : Type 1} → statement M
-mate-spec =
+pub mate_spec : {M : Type 1} → statement M
+mate_spec =
     tie.close
     (tie.spec
-    further-requires
-    returns
-    mul-first
-    add-first
-    mul-first-2
-    shared-slice-read-first
+    further-q-requires
+    returns-then-q-pairs
+    overflow_mul-p
+    overflow_add-p
+    offset_bounds-pairs-p
+    bounds-pairs-p
     first-requires
-    returns-2)
+    returns)

@@ -8,81 +8,80 @@ use borrow.Author.Rules.{rules}
 use Rattle.removal.proofs.fall.mark.Statement.{statement}
 use Rattle.removal.proofs.fall.mark.Tie as tie
 
-abbrev invariant-loop : tie.invariant-loop
-invariant-loop slots pairs lost base low histories lines transactions gone₀ k₀ gone k = MarksTo (net slots pairs low) lost gone k
+abbrev invariant-loop-k : tie.invariant-loop-k
+invariant-loop-k slots pairs lost base low histories lines transactions gone₀ k₀ gone k = MarksTo (net slots pairs low) lost gone k
 
-abbrev decreases-loop : tie.decreases-loop
-decreases-loop slots pairs lost base low histories lines transactions gone₀ k₀ gone k = length lost - k
+abbrev decreases-loop-k : tie.decreases-loop-k
+decreases-loop-k slots pairs lost base low histories lines transactions gone₀ k₀ gone k = length lost - k
 
-chain-requires : tie.Need-chain-requires invariant-loop decreases-loop
-chain-requires c κs = search rules
+chain-histories-requires : tie.Need-chain-histories-requires invariant-loop-k decreases-loop-k
+chain-histories-requires c κs = search rules
 
-chain-requires-2 : tie.Need-chain-requires-2 invariant-loop decreases-loop
-chain-requires-2 c κs = search rules
+chain-lines-requires : tie.Need-chain-lines-requires invariant-loop-k decreases-loop-k
+chain-lines-requires c κs = search rules
 
-chain-requires-3 : tie.Need-chain-requires-3 invariant-loop decreases-loop
-chain-requires-3 c κs = search rules
+chain-transactions-requires : tie.Need-chain-transactions-requires invariant-loop-k decreases-loop-k
+chain-transactions-requires c κs = search rules
 
-no-marks-requires : tie.Need-no-marks-requires invariant-loop decreases-loop
-no-marks-requires c κs = search rules
+no_marks-gone-requires : tie.Need-no_marks-gone-requires invariant-loop-k decreases-loop-k
+no_marks-gone-requires c κs = search rules
 
-loop-holds : tie.Need-loop-init invariant-loop decreases-loop
-loop-holds c = marks_none (net c.before.before.before.before.before.before.before.args.slots.now c.before.before.before.before.before.before.before.args.pairs.now c.before.before.before.before.before.before.before.args.base.0) c.before.before.before.before.before.before.before.args.lost.now c.no-marks.result c.no-marks.ensures
+loop-k-init : tie.Need-loop-k-init invariant-loop-k decreases-loop-k
+loop-k-init c = marks_none (net c.args.slots.now c.args.pairs.now c.args.base.0) c.args.lost.now c.no_marks-gone.result c.no_marks-gone.ensures
 
-mul-line : tie.Need-overflow-mul-line invariant-loop decreases-loop
-mul-line c = search rules
+offset_bounds-lost-k : tie.Need-offset_bounds-lost-k invariant-loop-k decreases-loop-k
+offset_bounds-lost-k c = search rules
 
-shared-slice-read-line : tie.Need-shared-slice-read-line invariant-loop decreases-loop
-shared-slice-read-line c = omega (arith, c.before.loop-test.true)
+bounds-lost-k : tie.Need-bounds-lost-k invariant-loop-k decreases-loop-k
+bounds-lost-k c = omega (arith, c.loop-k-test.true)
 
-sub-line : tie.Need-overflow-sub-line invariant-loop decreases-loop
-sub-line c = let l = c.before.before.before.before.before.before.before.before.before.before.requires.1.above c.before.before.loop.k c.before.loop-test.true in omega (arith, l)
+overflow_sub-line : tie.Need-overflow_sub-line invariant-loop-k decreases-loop-k
+overflow_sub-line c = let l = c.requires.1.above c.loop-k.k c.loop-k-test.true in omega (arith, l)
 
-sub-line-2 : tie.Need-overflow-sub-line-2 invariant-loop decreases-loop
-sub-line-2 c = let l = c.before.before.before.before.before.before.before.before.before.before.requires.1.above c.before.before.loop.k c.before.loop-test.true in omega (arith, l)
+overflow_sub-line-in-loop-k : tie.Need-overflow_sub-line-in-loop-k invariant-loop-k decreases-loop-k
+overflow_sub-line-in-loop-k c = let l = c.requires.1.above c.loop-k.k c.loop-k-test.true in omega (arith, l)
 
-by-history-requires : tie.Need-by-history-requires invariant-loop decreases-loop
-by-history-requires c κs =
-    let p = c.before.before.before.before.before.before.before.before.before.before.before.before.before.before in (
-      record {
-        placed = p.requires.0;
-        histories = c.before.before.before.before.before.before.before.before.before.before.chain.ensures;
-        lines = c.before.before.before.before.before.before.before.before.before.chain2.ensures;
-        transactions = c.before.before.before.before.before.before.before.before.chain3.ensures;
-        size = c.before.before.before.before.before.before.loop.invariant.size;
-      },
-      p.requires.1.there c.before.before.before.before.before.before.loop.k c.before.before.before.before.before.loop-test.true,
-    )
+by_history-requires : tie.Need-by_history-requires invariant-loop-k decreases-loop-k
+by_history-requires c κs = (
+  record {
+    placed = c.requires.0;
+    histories = c.chain-histories.ensures;
+    lines = c.chain-lines.ensures;
+    transactions = c.chain-transactions.ensures;
+    size = c.loop-k.invariant.size;
+  },
+  c.requires.1.there c.loop-k.k c.loop-k-test.true,
+)
 
-add-k : tie.Need-overflow-add-k invariant-loop decreases-loop
-add-k c = let l = c.before.before.before.before.before.before.loop-test.true in search rules
+overflow_add-k : tie.Need-overflow_add-k invariant-loop-k decreases-loop-k
+overflow_add-k c = let l = c.loop-k-test.true in search rules
 
-loop-less : tie.Need-loop-smaller invariant-loop decreases-loop
-loop-less c = omega (arith, c.before.before.before.before.before.before.loop-test.true)
+loop-k-smaller : tie.Need-loop-k-smaller invariant-loop-k decreases-loop-k
+loop-k-smaller c = omega (arith, c.loop-k-test.true)
 
-loop-again : tie.Need-loop-preserved invariant-loop decreases-loop
-loop-again c = marks_next _ _ _ _ c.before.before.before.before.before.before.before.loop.k c.before.before.before.before.before.before.before.loop.invariant c.before.before.before.before.before.before.loop-test.true c.by-history.ensures
+loop-k-preserved : tie.Need-loop-k-preserved invariant-loop-k decreases-loop-k
+loop-k-preserved c = marks_next _ _ _ _ c.loop-k.k c.loop-k.invariant c.loop-k-test.true c.by_history.ensures
 
-returns : tie.Need-returns invariant-loop decreases-loop
-returns c = marks_done _ _ _ _ c.before.loop.invariant c.loop-test.false
+returns : tie.Need-returns invariant-loop-k decreases-loop-k
+returns c = marks_done _ _ _ _ c.loop-k.invariant c.loop-k-test.false
 
 pub mark_spec : {M : Type 1} → statement M
 mark_spec =
     tie.close
     (tie.spec
-    invariant-loop
-    decreases-loop
-    chain-requires
-    chain-requires-2
-    chain-requires-3
-    no-marks-requires
-    loop-holds
-    mul-line
-    shared-slice-read-line
-    sub-line
-    sub-line-2
-    by-history-requires
-    add-k
-    loop-less
-    loop-again
+    invariant-loop-k
+    decreases-loop-k
+    chain-histories-requires
+    chain-lines-requires
+    chain-transactions-requires
+    no_marks-gone-requires
+    loop-k-init
+    offset_bounds-lost-k
+    bounds-lost-k
+    overflow_sub-line
+    overflow_sub-line-in-loop-k
+    by_history-requires
+    overflow_add-k
+    loop-k-smaller
+    loop-k-preserved
     returns)

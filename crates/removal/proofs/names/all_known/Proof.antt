@@ -5,23 +5,29 @@ use borrow.Author.Rules.{rules}
 use Rattle.removal.proofs.names.all_known.Statement.{statement}
 use Rattle.removal.proofs.names.all_known.Tie as tie
 
-pairs-known-requires : tie.Need-pairs-known-requires
-pairs-known-requires c κs = search rules
+pairs_known-requires : tie.Need-pairs_known-requires
+pairs_known-requires c κs = search rules
 
-lost-known-requires : tie.Need-lost-known-requires
-lost-known-requires c κs = search rules
+lost_known-requires : tie.Need-lost_known-requires
+lost_known-requires c κs = search rules
+
+returns-then-pairs_known : tie.Need-returns-then-pairs_known
+returns-then-pairs_known c =
+    let a = c.args in
+    both-known (PairsKnown a.pairs.now a.base.0 a.done.0) (LostKnown a.lost.now a.base.0 a.done.0)
+    c.pairs_known.result c.pairs_known.ensures c.if-pairs_known.true c.lost_known.result c.lost_known.ensures
 
 returns : tie.Need-returns
 returns c =
-    let a = c.before.before.before.before.before.args in
-    both-known (PairsKnown a.pairs.now a.base.0 a.done.0) (LostKnown a.lost.now a.base.0 a.done.0)
-    c.before.before.pairs-known.result c.before.before.pairs-known.ensures c.before.if1.true c.lost-known.result c.lost-known.ensures
-
-returns-2 : tie.Need-returns-2
-returns-2 c =
-    let a = c.before.before.before.before.args in
+    let a = c.args in
     first_unknown (PairsKnown a.pairs.now a.base.0 a.done.0) (LostKnown a.lost.now a.base.0 a.done.0)
-    c.before.pairs-known.result c.before.pairs-known.ensures c.if1.false
+    c.pairs_known.result c.pairs_known.ensures c.if-pairs_known.false
 
-pub all-known-spec : {M : Type 1} → statement M
-all-known-spec = tie.close (tie.spec pairs-known-requires lost-known-requires returns returns-2)
+pub all_known_spec : {M : Type 1} → statement M
+all_known_spec =
+    tie.close
+    (tie.spec
+    pairs_known-requires
+    lost_known-requires
+    returns-then-pairs_known
+    returns)

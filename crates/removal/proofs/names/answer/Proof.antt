@@ -6,26 +6,32 @@ use borrow.Author.Rules.{rules}
 use Rattle.removal.proofs.names.answer.Statement.{statement}
 use Rattle.removal.proofs.names.answer.Tie as tie
 
-count-marks-requires : tie.Need-count-marks-requires
-count-marks-requires c κs = search rules
+count_marks-count-requires : tie.Need-count_marks-count-requires
+count_marks-count-requires c κs = search rules
+
+returns-then-out-count : tie.Need-returns-then-out-count
+returns-then-out-count c =
+    let a = c.args in
+    answers-nothing (names a.base.0 a.gone.now a.n) a.out.now (omega (arith, c.count_marks-count.ensures, c.if-out-count.true))
+
+write_names-requires : tie.Need-write_names-requires
+write_names-requires c κs = search rules
+
+shape_of-out : tie.Need-shape_of-out
+shape_of-out c = search rules
 
 returns : tie.Need-returns
 returns c =
-    let a = c.before.before.before.before.args in
-    answers-nothing (names a.base.0 a.gone.now a.n) a.out.now (omega (arith, c.before.count-marks.ensures, c.if1.true))
+    let a = c.args in
+    answers-names (names a.base.0 a.gone.now a.n) a.out.now c.write_names.new.out c.count_marks-count.result (omega (arith, c.count_marks-count.ensures, c.if-out-count.false)) c.count_marks-count.ensures
+    c.write_names.ensures
 
-write-names-requires : tie.Need-write-names-requires
-write-names-requires c κs = search rules
-
-same_length : tie.Need-same-length
-same_length c = search rules
-
-returns-2 : tie.Need-returns-2
-returns-2 c =
-    let a = c.before.before.before.before.before.before.before.before.args in
-    answers-names (names a.base.0 a.gone.now a.n) a.out.now c.before.before.write-names.new.1.1.1.0 c.before.before.before.before.before.count-marks.result (omega (arith, c.before.before.before.before.before.count-marks.ensures, c.before.before.before.before.if1.false)) c.before.before.before.before.before.count-marks.ensures
-    c.before.before.write-names.ensures
-
-pub answer-spec : {M : Type 1} → statement M
-answer-spec =
-    tie.close (tie.spec count-marks-requires returns write-names-requires same_length returns-2)
+pub answer_spec : {M : Type 1} → statement M
+answer_spec =
+    tie.close
+    (tie.spec
+    count_marks-count-requires
+    returns-then-out-count
+    write_names-requires
+    shape_of-out
+    returns)

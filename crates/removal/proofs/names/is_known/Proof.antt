@@ -3,11 +3,15 @@ use Rattle.removal.specs.NameLaws.{known-above, known-below}
 use Rattle.removal.proofs.names.is_known.Statement.{statement}
 use Rattle.removal.proofs.names.is_known.Tie as tie
 
+returns-then-low-number : tie.Need-returns-then-low-number
+returns-then-low-number c = known-above c.args.base.0 c.args.done.0 c.args.k.0 c.if-low-number.true
+
 returns : tie.Need-returns
-returns c = known-above c.before.args.base.0 c.before.args.done.0 c.before.args.k.0 c.if1.true
+returns c = known-below c.args.base.0 c.args.done.0 c.args.k.0 c.if-low-number.false
 
-returns-2 : tie.Need-returns-2
-returns-2 c = known-below c.before.args.base.0 c.before.args.done.0 c.before.args.k.0 c.if1.false
-
-pub is-known-spec : {M : Type 1} → statement M
-is-known-spec = tie.close (tie.spec returns returns-2)
+pub is_known_spec : {M : Type 1} → statement M
+is_known_spec =
+    tie.close
+    (tie.spec
+    returns-then-low-number
+    returns)

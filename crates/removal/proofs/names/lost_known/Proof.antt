@@ -9,57 +9,57 @@ use borrow.Author.Rules.{rules}
 use Rattle.removal.proofs.names.lost_known.Statement.{statement}
 use Rattle.removal.proofs.names.lost_known.Tie as tie
 
-abbrev invariant-loop : tie.invariant-loop
-invariant-loop lost base done k₀ k = (n : ℕ) → n < k → T (known base.0 done.0 (get_or lost n 0))
+abbrev invariant-loop-k : tie.invariant-loop-k
+invariant-loop-k lost base done k₀ k = (n : ℕ) → n < k → T (known base.0 done.0 (get_or lost n 0))
 
-abbrev decreases-loop : tie.decreases-loop
-decreases-loop lost base done k₀ k = length lost - k
+abbrev decreases-loop-k : tie.decreases-loop-k
+decreases-loop-k lost base done k₀ k = length lost - k
 
-loop-holds : tie.Need-loop-init invariant-loop decreases-loop
-loop-holds c = λ n l. absurd (omega (arith, l))
+loop-k-init : tie.Need-loop-k-init invariant-loop-k decreases-loop-k
+loop-k-init c = λ n l. absurd (omega (arith, l))
 
-mul-number : tie.Need-overflow-mul-number invariant-loop decreases-loop
-mul-number c = search rules
+offset_bounds-lost-k : tie.Need-offset_bounds-lost-k invariant-loop-k decreases-loop-k
+offset_bounds-lost-k c = search rules
 
-shared-slice-read-number : tie.Need-shared-slice-read-number invariant-loop decreases-loop
-shared-slice-read-number c = omega (arith, c.before.loop-test.true)
+bounds-lost-k : tie.Need-bounds-lost-k invariant-loop-k decreases-loop-k
+bounds-lost-k c = omega (arith, c.loop-k-test.true)
 
-is-known-requires : tie.Need-is-known-requires invariant-loop decreases-loop
-is-known-requires c κs = search rules
+is_known-requires : tie.Need-is_known-requires invariant-loop-k decreases-loop-k
+is_known-requires c κs = search rules
 
-add-k : tie.Need-overflow-add-k invariant-loop decreases-loop
-add-k c = let l = c.before.before.before.loop-test.true in search rules
+overflow_add-k : tie.Need-overflow_add-k invariant-loop-k decreases-loop-k
+overflow_add-k c = let l = c.loop-k-test.true in search rules
 
-loop-less : tie.Need-loop-smaller invariant-loop decreases-loop
-loop-less c = omega (arith, c.before.before.before.loop-test.true)
+loop-k-smaller : tie.Need-loop-k-smaller invariant-loop-k decreases-loop-k
+loop-k-smaller c = omega (arith, c.loop-k-test.true)
 
-loop-again : tie.Need-loop-preserved invariant-loop decreases-loop
-loop-again c =
-    let a = c.before.before.before.before.before.before.args in
-    known_next a.base.0 a.done.0 (λ (i : ℕ). get_or a.lost.now i 0) c.before.before.before.before.loop.k c.before.before.before.before.loop.invariant
-    (known_said c.before.is_Known.result _ c.before.is_Known.ensures c.if1.true)
+loop-k-preserved : tie.Need-loop-k-preserved invariant-loop-k decreases-loop-k
+loop-k-preserved c =
+    let a = c.args in
+    known_next a.base.0 a.done.0 (λ (i : ℕ). get_or a.lost.now i 0) c.loop-k.k c.loop-k.invariant
+    (known_said c.is_known.result _ c.is_known.ensures c.if-is_known.true)
 
-returns : tie.Need-returns invariant-loop decreases-loop
-returns c =
-    let a = c.before.before.before.before.before.before.args in
-    λ all. known_unsaid c.before.is_Known.result _ c.before.is_Known.ensures c.if1.false
-    (all c.before.before.before.before.loop.k c.before.before.before.loop-test.true)
+returns-in-loop-k : tie.Need-returns-in-loop-k invariant-loop-k decreases-loop-k
+returns-in-loop-k c =
+    let a = c.args in
+    λ all. known_unsaid c.is_known.result _ c.is_known.ensures c.if-is_known.false
+    (all c.loop-k.k c.loop-k-test.true)
 
-returns-2 : tie.Need-returns-2 invariant-loop decreases-loop
-returns-2 c = λ n l. c.before.loop.invariant n (omega (arith, l, c.loop-test.false))
+returns : tie.Need-returns invariant-loop-k decreases-loop-k
+returns c = λ n l. c.loop-k.invariant n (omega (arith, l, c.loop-k-test.false))
 
-pub lost-known-spec : {M : Type 1} → statement M
-lost-known-spec =
+pub lost_known_spec : {M : Type 1} → statement M
+lost_known_spec =
     tie.close
     (tie.spec
-    invariant-loop
-    decreases-loop
-    loop-holds
-    mul-number
-    shared-slice-read-number
-    is-known-requires
-    add-k
-    loop-less
-    loop-again
-    returns
-    returns-2)
+    invariant-loop-k
+    decreases-loop-k
+    loop-k-init
+    offset_bounds-lost-k
+    bounds-lost-k
+    is_known-requires
+    overflow_add-k
+    loop-k-smaller
+    loop-k-preserved
+    returns-in-loop-k
+    returns)

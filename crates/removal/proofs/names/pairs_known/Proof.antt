@@ -9,61 +9,61 @@ use borrow.Author.Rules.{rules}
 use Rattle.removal.proofs.names.pairs_known.Statement.{statement}
 use Rattle.removal.proofs.names.pairs_known.Tie as tie
 
-abbrev invariant-loop : tie.invariant-loop
-invariant-loop pairs base done p₀ p = (n : ℕ) → n < p → T (known base.0 done.0 (key_at pairs 0 n))
+abbrev invariant-loop-p : tie.invariant-loop-p
+invariant-loop-p pairs base done p₀ p = (n : ℕ) → n < p → T (known base.0 done.0 (key_at pairs 0 n))
 
-abbrev decreases-loop : tie.decreases-loop
-decreases-loop pairs base done p₀ p = count_of pairs - p
+abbrev decreases-loop-p : tie.decreases-loop-p
+decreases-loop-p pairs base done p₀ p = count_of pairs - p
 
-loop-holds : tie.Need-loop-init invariant-loop decreases-loop
-loop-holds c = λ n l. absurd (omega (arith, l))
+loop-p-init : tie.Need-loop-p-init invariant-loop-p decreases-loop-p
+loop-p-init c = λ n l. absurd (omega (arith, l))
 
-mul-number : tie.Need-overflow-mul-number invariant-loop decreases-loop
-mul-number c = search rules
+overflow_mul-number : tie.Need-overflow_mul-number invariant-loop-p decreases-loop-p
+overflow_mul-number c = search rules
 
-mul-number-2 : tie.Need-overflow-mul-number-2 invariant-loop decreases-loop
-mul-number-2 c = search rules
+offset_bounds-pairs-p : tie.Need-offset_bounds-pairs-p invariant-loop-p decreases-loop-p
+offset_bounds-pairs-p c = search rules
 
-shared-slice-read-number : tie.Need-shared-slice-read-number invariant-loop decreases-loop
-shared-slice-read-number c = omega (arith, c.before.loop-test.true)
+bounds-pairs-p : tie.Need-bounds-pairs-p invariant-loop-p decreases-loop-p
+bounds-pairs-p c = omega (arith, c.loop-p-test.true)
 
-is-known-requires : tie.Need-is-known-requires invariant-loop decreases-loop
-is-known-requires c κs = search rules
+is_known-requires : tie.Need-is_known-requires invariant-loop-p decreases-loop-p
+is_known-requires c κs = search rules
 
-add-p : tie.Need-overflow-add-p invariant-loop decreases-loop
-add-p c = let l = c.before.before.before.loop-test.true in search rules
+overflow_add-p : tie.Need-overflow_add-p invariant-loop-p decreases-loop-p
+overflow_add-p c = let l = c.loop-p-test.true in search rules
 
-loop-less : tie.Need-loop-smaller invariant-loop decreases-loop
-loop-less c = omega (arith, c.before.before.before.loop-test.true)
+loop-p-smaller : tie.Need-loop-p-smaller invariant-loop-p decreases-loop-p
+loop-p-smaller c = omega (arith, c.loop-p-test.true)
 
-loop-again : tie.Need-loop-preserved invariant-loop decreases-loop
-loop-again c =
-    let a = c.before.before.before.before.before.before.args in
-    known_next a.base.0 a.done.0 (key_at a.pairs.now 0) c.before.before.before.before.loop.p c.before.before.before.before.loop.invariant
-    (known_pair a.base.0 a.done.0 a.pairs.now c.before.before.before.before.loop.p c.before.is_Known.result c.before.is_Known.ensures c.if1.true)
+loop-p-preserved : tie.Need-loop-p-preserved invariant-loop-p decreases-loop-p
+loop-p-preserved c =
+    let a = c.args in
+    known_next a.base.0 a.done.0 (key_at a.pairs.now 0) c.loop-p.p c.loop-p.invariant
+    (known_pair a.base.0 a.done.0 a.pairs.now c.loop-p.p c.is_known.result c.is_known.ensures c.if-is_known.true)
 
-returns : tie.Need-returns invariant-loop decreases-loop
-returns c =
-    let a = c.before.before.before.before.before.before.args in
-    λ all. known-not a.base.0 a.done.0 a.pairs.now c.before.before.before.before.loop.p c.before.is_Known.result c.before.is_Known.ensures c.if1.false
-    (all c.before.before.before.before.loop.p c.before.before.before.loop-test.true)
+returns-in-loop-p : tie.Need-returns-in-loop-p invariant-loop-p decreases-loop-p
+returns-in-loop-p c =
+    let a = c.args in
+    λ all. known-not a.base.0 a.done.0 a.pairs.now c.loop-p.p c.is_known.result c.is_known.ensures c.if-is_known.false
+    (all c.loop-p.p c.loop-p-test.true)
 
-returns-2 : tie.Need-returns-2 invariant-loop decreases-loop
-returns-2 c = λ n l. c.before.loop.invariant n (omega (arith, l, c.loop-test.false))
+returns : tie.Need-returns invariant-loop-p decreases-loop-p
+returns c = λ n l. c.loop-p.invariant n (omega (arith, l, c.loop-p-test.false))
 
-pub pairs-known-spec : {M : Type 1} → statement M
-pairs-known-spec =
+pub pairs_known_spec : {M : Type 1} → statement M
+pairs_known_spec =
     tie.close
     (tie.spec
-    invariant-loop
-    decreases-loop
-    loop-holds
-    mul-number
-    mul-number-2
-    shared-slice-read-number
-    is-known-requires
-    add-p
-    loop-less
-    loop-again
-    returns
-    returns-2)
+    invariant-loop-p
+    decreases-loop-p
+    loop-p-init
+    overflow_mul-number
+    offset_bounds-pairs-p
+    bounds-pairs-p
+    is_known-requires
+    overflow_add-p
+    loop-p-smaller
+    loop-p-preserved
+    returns-in-loop-p
+    returns)
