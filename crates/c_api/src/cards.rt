@@ -73,7 +73,7 @@ pub extern "C" fn log_card(
     w: u64,
     counts: &mut Counts,
 ) -> u64
-    ensures { CardsAfter w (restart log.old begun) (restart log.old kept) counts.old result counts.new }
+    ensures { CardsAfter w (restart log.now begun) (restart log.now kept) counts.old result counts.new }
 {
     let a = match take_up(log, begun) {
         Taken::Refused(q) => return refusal_number(q),

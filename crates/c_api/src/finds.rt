@@ -14,7 +14,7 @@ use table::rows::ROW;
 // number of a refusal, of the restart or 21, or 1,000 more than that number.
 #[unsafe(no_mangle)]
 pub extern "C" fn log_find_cut(log: &[u8], kept: usize, places: &[u64]) -> u64
-    ensures { result ≡ find_after places.old (restart log.old kept) }
+    ensures { result ≡ find_after places.now (restart log.now kept) }
 {
     let mut rows = [0u64; Site::LIVE * ROW];
     let mut order = [0u8; Site::LIVE];

@@ -44,7 +44,7 @@ pub extern "C" fn session_polls(
     out: &mut [u8],
     histories: &mut [u64],
 ) -> usize
-    ensures { PlaysPolls input.old log.old result log.new out.old out.new histories.old histories.new }
+    ensures { PlaysPolls input.now log.old result log.new out.old out.new histories.old histories.new }
 {
     let mut rows = [0u64; Site::LIVE * ROW];
     let mut order = [0u8; Site::LIVE];

@@ -26,7 +26,7 @@ fn copied_number(r: Copied) -> u64
 // operations: the number of a refusal, of the restart or of the trim, or 1,000 more than the bytes used there.
 #[unsafe(no_mangle)]
 pub extern "C" fn log_trim(log: &[u8], kept: usize, n: u64, fresh: &mut [u8]) -> u64
-    ensures { Trims (trim_after n fresh.old (restart log.old kept)) fresh.old result fresh.new }
+    ensures { Trims (trim_after n fresh.old (restart log.now kept)) fresh.old result fresh.new }
 {
     let mut rows = [0u64; Site::LIVE * ROW];
     let mut order = [0u8; Site::LIVE];

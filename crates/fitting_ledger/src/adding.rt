@@ -28,7 +28,7 @@ pub extern "C" fn fl_add_parts(
     count: usize,
 ) -> u64
     requires { ValidState counters.old (received log.now rows.old order.now book.old) }
-    ensures { PerformsAdd counters.old (lent log.now rows.old order.now book.old numbers.old) id count updates.old result counters.new
+    ensures { PerformsAdd counters.old (lent log.now rows.old order.now book.old numbers.old) id count updates.now result counters.new
         (lent log.now rows.new order.now book.new numbers.new) answer.old answer.new }
 {
     if rules_known(updates) {

@@ -44,7 +44,7 @@ pub extern "C" fn fl_card_parts(
     lines: &mut usize,
 ) -> u64
     requires { ValidState counters.now (received log.now rows.now order.now book.now) }
-    ensures { CardsState w (state_at counters.old (lent log.now rows.now order.now book.now [])) counts.old lines.old result
+    ensures { CardsState w (state_at counters.now (lent log.now rows.now order.now book.now [])) counts.old lines.old result
         counts.new lines.new }
 {
     let s = session_at(counters);

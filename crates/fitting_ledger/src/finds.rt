@@ -38,7 +38,7 @@ pub extern "C" fn fl_find_cut_parts(
     kept: &mut usize,
 ) -> u64
     requires { ValidState counters.now (received log.now rows.now order.now book.now) }
-    ensures { FindsState counters.old (lent log.now rows.now order.now book.now []) places.old result kept.old kept.new }
+    ensures { FindsState counters.now (lent log.now rows.now order.now book.now []) places.now result kept.old kept.new }
 {
     let s = session_at(counters);
     if s.opened {

@@ -26,7 +26,7 @@ pub extern "C" fn fl_line_parts(
 ) -> usize
     requires { ValidState counters.old (received log.old rows.old order.old book.old) }
     ensures { AnswersIfRoom counters.old (lent log.old rows.old order.old book.old [])
-        (turn (length log.old) line.old (state_at counters.old (lent log.old rows.old order.old book.old [])))
+        (turn (length log.old) line.now (state_at counters.old (lent log.old rows.old order.old book.old [])))
         result counters.new (lent log.new rows.new order.new book.new []) out.old out.new }
 {
     if out.len() < REPLY_BYTES {
@@ -51,7 +51,7 @@ pub extern "C" fn fl_log_used_parts(
     book: &BookWords,
 ) -> usize
     requires { ValidState counters.now (received log.now rows.now order.now book.now) }
-    ensures { result ≡ used_by (state_at counters.old (lent log.now rows.now order.now book.now [])) }
+    ensures { result ≡ used_by (state_at counters.now (lent log.now rows.now order.now book.now [])) }
 {
     let s = session_at(counters);
     let site = s.site;

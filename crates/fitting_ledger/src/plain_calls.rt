@@ -49,7 +49,7 @@ pub extern "C" fn fl_cut_parts(
     k: u64,
 ) -> u64
     requires { ValidState counters.old (received log.now rows.old order.now book.old) }
-    ensures { PerformsCall counters.old (lent log.now rows.old order.now book.old []) (Call.Cut k (length log.old)) result counters.new
+    ensures { PerformsCall counters.old (lent log.now rows.old order.now book.old []) (Call.Cut k (length log.now)) result counters.new
         (lent log.now rows.new order.now book.new []) answer.old answer.new }
 {
     let s = session_at(counters);
@@ -73,7 +73,7 @@ pub extern "C" fn fl_redo_parts(
     line: &[u8],
 ) -> u64
     requires { ValidState counters.old (received log.old rows.old order.old book.old) }
-    ensures { PerformsCall counters.old (lent log.old rows.old order.old book.old []) (Call.Redo line.old) result counters.new
+    ensures { PerformsCall counters.old (lent log.old rows.old order.old book.old []) (Call.Redo line.now) result counters.new
         (lent log.new rows.new order.new book.new []) answer.old answer.new }
 {
     let s = session_at(counters);

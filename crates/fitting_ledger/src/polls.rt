@@ -22,7 +22,7 @@ pub extern "C" fn fl_poll_parts(
     history: u64,
 ) -> u64
     requires { ValidState counters.now (received log.now rows.now order.now book.now) }
-    ensures { result ≡ poll_of (state_at counters.old (lent log.now rows.now order.now book.now [])) history }
+    ensures { result ≡ poll_of (state_at counters.now (lent log.now rows.now order.now book.now [])) history }
 {
     let s = session_at(counters);
     if s.opened {

@@ -59,7 +59,7 @@ pub extern "C" fn fl_restart_parts(
     book: &mut BookWords,
     kept: usize,
 ) -> u64
-    ensures { Begins (lent log.now rows.old order.old book.old []) (restart log.old kept) result counters.new
+    ensures { Begins (lent log.now rows.old order.old book.old []) (restart log.now kept) result counters.new
         (lent log.now rows.new order.new book.new []) }
 {
     let c = Site::restart(log, rows, order, book, kept);

@@ -27,7 +27,7 @@ pub extern "C" fn fl_trim_parts(
     used: &mut usize,
 ) -> u64
     requires { ValidState counters.now (received log.now rows.now order.now book.now) }
-    ensures { TrimsState counters.old (lent log.now rows.now order.now book.now []) n fresh.old result fresh.new
+    ensures { TrimsState counters.now (lent log.now rows.now order.now book.now []) n fresh.old result fresh.new
         used.old used.new }
 {
     let s = session_at(counters);

@@ -132,7 +132,7 @@ pub extern "C" fn fm_line_parts(
     out: &mut [u8],
 ) -> usize
     requires { ValidState (words first.old second.old third.old fourth.old) slot (received log.old rows.old numbers.old book.old) }
-    ensures { AnswersLine slot (words first.old second.old third.old fourth.old) (lent log.old rows.old numbers.old book.old []) line.old result
+    ensures { AnswersLine slot (words first.old second.old third.old fourth.old) (lent log.old rows.old numbers.old book.old []) line.now result
         (words first.new second.new third.new fourth.new) (lent log.new rows.new numbers.new book.new []) out.old out.new }
 {
     if out.len() < REPLY_BYTES {

@@ -53,7 +53,7 @@ pub extern "C" fn fm_cut_parts(
 ) -> u64
     requires { ValidState (words first.old second.old third.old fourth.old) slot (received log.now rows.old numbers.old book.old) }
     ensures { PerformsCall slot (words first.old second.old third.old fourth.old) (lent log.now rows.old numbers.old book.old [])
-        (Call.Cut k (length log.old)) result
+        (Call.Cut k (length log.now)) result
         (words first.new second.new third.new fourth.new) (lent log.now rows.new numbers.new book.new []) answer.old answer.new }
 {
     let m = module_at(first, second, third, fourth);
@@ -77,7 +77,7 @@ pub extern "C" fn fm_redo_parts(
     line: &[u8],
 ) -> u64
     requires { ValidState (words first.old second.old third.old fourth.old) slot (received log.old rows.old numbers.old book.old) }
-    ensures { PerformsCall slot (words first.old second.old third.old fourth.old) (lent log.old rows.old numbers.old book.old []) (Call.Redo line.old) result
+    ensures { PerformsCall slot (words first.old second.old third.old fourth.old) (lent log.old rows.old numbers.old book.old []) (Call.Redo line.now) result
         (words first.new second.new third.new fourth.new) (lent log.new rows.new numbers.new book.new []) answer.old answer.new }
 {
     let m = module_at(first, second, third, fourth);

@@ -24,7 +24,7 @@ pub extern "C" fn fm_start_parts(
     rows: &TableRows,
     numbers: &mut EntryNumbers,
 )
-    ensures { Starts (words first.new second.new third.new fourth.new) rows.new numbers.new }
+    ensures { Starts (words first.new second.new third.new fourth.new) rows.now numbers.new }
 {
     known_length(rows);
     let m = Module::new(numbers);

@@ -1,7 +1,6 @@
 // A module's counters in words: from call to call they stand in arrays that are lent, one for each slot.
 ghost use Rattle.std.specs.Prelude.{◌≡◌, length};
-ghost use Rattle.fitting_module.specs.Words.{slot_at, words_of, module_at, words_in};
-ghost use Rattle.fitting_module.specs.Words.{words};
+ghost use Rattle.fitting_module.specs.Words.{words, slot_at, words_of, module_at, words_in};
 
 use call_words::bit;
 use forms::LogNumber;
@@ -103,7 +102,7 @@ pub(crate) fn put_module(
     m: Module,
 )
     requires { length m.slots ≡ 4 }
-    ensures { new_counters first second third fourth ≡ words_in m.slots }
+    ensures { words first.new second.new third.new fourth.new ≡ words_in m.slots }
 {
     let slots = m.slots;
     *first = words_of(slots[0]);

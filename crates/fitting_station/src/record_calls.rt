@@ -36,7 +36,7 @@ fn answer_number(a: Answer) -> u64
 // Begins without records, in numbers of any contents.
 #[unsafe(no_mangle)]
 pub extern "C" fn fl_records_start_parts(count: &mut usize, words: &RecordWords)
-    ensures { StartsRecords count.new words.old }
+    ensures { StartsRecords count.new words.now }
 {
     known_length(words);
     let s = Records::empty();
@@ -50,7 +50,7 @@ pub extern "C" fn fl_records_resume_parts(
     words: &RecordWords,
     kept: usize,
 ) -> u64
-    ensures { ResumesRecords kept words.old result count.new }
+    ensures { ResumesRecords kept words.now result count.new }
 {
     known_length(words);
     if Records::LIMIT < kept {
@@ -107,7 +107,7 @@ pub extern "C" fn fl_records_report_parts(
 #[unsafe(no_mangle)]
 pub extern "C" fn fl_records_question_parts(count: &usize, words: &RecordWords, id: u64) -> u64
     requires { ValidRecords (records_at count.now) words.now }
-    ensures { result ≡ records_code (question id (records_in count.old words.old)) }
+    ensures { result ≡ records_code (question id (records_in count.now words.now)) }
 {
     let s = Records { count: *count };
     let a = s.question(words, id);

@@ -33,7 +33,7 @@ pub extern "C" fn fl_removals(
     out: &mut [u64],
     count: &mut usize,
 ) -> u64
-    ensures { RepliesRemovals (report log.old (pairs_of pairs.old) lost.old (length out.old)) out.old count.old result
+    ensures { RepliesRemovals (report log.now (pairs_of pairs.now) lost.now (length out.old)) out.old count.old result
         count.new out.new }
 {
     let r = report(log, pairs, lost, out);
