@@ -10,65 +10,60 @@ use borrow.Author.Rules.{rules}
 use Rattle.c_api.proofs.cards.card_afresh.Statement.{statement}
 use Rattle.c_api.proofs.cards.card_afresh.Tie as tie
 
-slice-aggregate-afresh : tie.Need-slice-aggregate-afresh
-slice-aggregate-afresh c =
-    let p = c.before.before in
-    sym (length-take-le p.args.site.used p.args.log.now (up_used p.args.site p.args.log.now p.requires.after p.requires.up))
+slice_bounds-afresh-end : tie.Need-slice_bounds-afresh-end
+slice_bounds-afresh-end c =
+    sym (length-take-le c.args.site.used c.args.log.now (up_used c.args.site c.args.log.now c.requires.after c.requires.up))
 
 afresh-requires : tie.Need-afresh-requires
 afresh-requires c κs =
-    let p = c.before.before.before in
-    record { state = p.requires.after; log = up_log p.args.site p.args.log.now p.requires.after p.requires.up }
+    record { state = c.requires.after; log = up_log c.args.site c.args.log.now c.requires.after c.requires.up }
 
-enum-known-c : tie.Need-enum-known-c
-enum-known-c c = search rules
+enum_known-c : tie.Need-enum_known-c
+enum_known-c c = search rules
 
-add-result : tie.Need-overflow-add-result
-add-result c =
-    let p = c.before.before.before.before.before.before.before in
-    let st = p.requires.after in
-    let r = c.before.before.before.afresh in
-    let K = made-card p.args.w st p.args.counts.now r.result r.new.1.1.1.1.0 c.before.c.given.0.0
-    (r.ensures st (up_log p.args.site p.args.log.now st p.requires.up)) c.before.c.given.1 in
+overflow_add-result : tie.Need-overflow_add-result
+overflow_add-result c =
+    let st = c.requires.after in
+    let r = c.afresh in
+    let K = made-card c.args.w st c.args.counts.now r.result r.new.counts c.in-Counted.c
+    (r.ensures st (up_log c.args.site c.args.log.now st c.requires.up)) c.in-Counted.is in
     omega (
       arith,
-      lines_few p.args.w st c.before.c.given.0.0 r.new.1.1.1.1.0
-          (drop (row_width * st.histories) p.args.counts.now) K,
+      lines_few c.args.w st c.in-Counted.c r.new.counts
+          (drop (row_width * st.histories) c.args.counts.now) K,
     )
 
-enum-known-q : tie.Need-enum-known-q
-enum-known-q c = search rules
+enum_known-q : tie.Need-enum_known-q
+enum_known-q c = search rules
 
-refusal-number-requires : tie.Need-refusal-number-requires
-refusal-number-requires c κs = search rules
+refusal_number-requires : tie.Need-refusal_number-requires
+refusal_number-requires c κs = search rules
 
-returns : tie.Need-returns
-returns c =
-    let p = c.before.before.before.before.before.before.before in
-    let r = c.before.before.before.afresh in
+returns-in-Counted : tie.Need-returns-in-Counted
+returns-in-Counted c =
+    let r = c.afresh in
     λ st U.
-    card-told p.args.w st c.before.c.given.0.0 p.args.counts.now r.new.1.1.1.1.0 _
-    (made-card p.args.w st p.args.counts.now r.result r.new.1.1.1.1.0 c.before.c.given.0.0
-    (r.ensures st (up_log p.args.site p.args.log.now st U)) c.before.c.given.1) refl
+    card-told c.args.w st c.in-Counted.c c.args.counts.now r.new.counts _
+    (made-card c.args.w st c.args.counts.now r.result r.new.counts c.in-Counted.c
+    (r.ensures st (up_log c.args.site c.args.log.now st U)) c.in-Counted.is) refl
 
-returns-2 : tie.Need-returns-2
-returns-2 c =
-    let p = c.before.before.before.before.before.before.before.before in
-    let r = c.before.before.before.before.afresh in
+returns-in-Refused : tie.Need-returns-in-Refused
+returns-in-Refused c =
+    let r = c.afresh in
     λ st U.
-    made_refused p.args.w st p.args.counts.now r.result r.new.1.1.1.1.0 c.before.before.q.given.0.0
-    (r.ensures st (up_log p.args.site p.args.log.now st U)) c.before.before.q.given.1 c.refusal-number.result
-    c.refusal-number.ensures st
+    made_refused c.args.w st c.args.counts.now r.result r.new.counts c.in-Refused.q
+    (r.ensures st (up_log c.args.site c.args.log.now st U)) c.in-Refused.is c.refusal_number.result
+    c.refusal_number.ensures st
 
-pub card-afresh-spec : {M : Type 1} → statement M
-card-afresh-spec =
+pub card_afresh_spec : {M : Type 1} → statement M
+card_afresh_spec =
     tie.close
     (tie.spec
-    slice-aggregate-afresh
+    slice_bounds-afresh-end
     afresh-requires
-    enum-known-c
-    add-result
-    enum-known-q
-    refusal-number-requires
-    returns
-    returns-2)
+    enum_known-c
+    overflow_add-result
+    enum_known-q
+    refusal_number-requires
+    returns-in-Counted
+    returns-in-Refused)

@@ -12,102 +12,94 @@ use borrow.Author.Rules.{rules}
 use Rattle.c_api.proofs.cards.card_on.Statement.{statement}
 use Rattle.c_api.proofs.cards.card_on.Tie as tie
 
-slice-aggregate-afresh : tie.Need-slice-aggregate-afresh
-slice-aggregate-afresh c =
-    let p = c.before.before in
-    sym (length-take-le p.args.first.used p.args.log.now
-    (up_used p.args.first p.args.log.now p.requires.before p.requires.both.begun))
+slice_bounds-afresh-end : tie.Need-slice_bounds-afresh-end
+slice_bounds-afresh-end c =
+    sym (length-take-le c.args.first.used c.args.log.now
+    (up_used c.args.first c.args.log.now c.requires.before c.requires.both.begun))
 
 afresh-requires : tie.Need-afresh-requires
 afresh-requires c κs =
-    let p = c.before.before.before in
-    record { state = p.requires.before; log = up_log p.args.first p.args.log.now p.requires.before p.requires.both.begun }
+    record { state = c.requires.before; log = up_log c.args.first c.args.log.now c.requires.before c.requires.both.begun }
 
-enum-known-c : tie.Need-enum-known-c
-enum-known-c c = search rules
+enum_known-c : tie.Need-enum_known-c
+enum_known-c c = search rules
 
-slice-aggregate-follow : tie.Need-slice-aggregate-follow
-slice-aggregate-follow c =
-    let p = c.before.before.before.before.before.before.before.before in
-    sym (length-take-le p.args.site.used p.args.log.now
-    (up_used p.args.site p.args.log.now p.requires.after p.requires.both.now))
+slice_bounds-follow-end : tie.Need-slice_bounds-follow-end
+slice_bounds-follow-end c =
+    sym (length-take-le c.args.site.used c.args.log.now
+    (up_used c.args.site c.args.log.now c.requires.after c.requires.both.now))
 
-follow-requires : tie.Need-follow-requires
-follow-requires c κs =
-    let p = c.before.before.before.before.before.before.before.before.before in
-    let P = p.requires in
-    let old = p.args.counts.now in
-    let r = c.before.before.before.before.before.afresh in
-    let k = c.before.before.before.c.given.0.0 in
-    let K = made-card p.args.w P.before old r.result r.new.1.1.1.1.0 k
-    (r.ensures P.before (up_log p.args.first p.args.log.now P.before P.both.begun)) c.before.before.before.c.given.1 in
+follow-d-requires : tie.Need-follow-d-requires
+follow-d-requires c κs =
+    let P = c.requires in
+    let old = c.args.counts.now in
+    let r = c.afresh in
+    let k = c.in-Counted.c in
+    let K = made-card c.args.w P.before old r.result r.new.counts k
+    (r.ensures P.before (up_log c.args.first c.args.log.now P.before P.both.begun)) c.in-Counted.is in
     record {
-      window = p.args.w;
+      window = c.args.w;
       before = P.before;
       state = P.after;
       past = drop (row_width * P.before.histories) old;
       card =
-          can_follow p.args.first p.args.site p.args.log.now P.before P.after P.both p.args.w old
-          r.new.1.1.1.1.0 k K;
+          can_follow c.args.first c.args.site c.args.log.now P.before P.after P.both c.args.w old
+          r.new.counts k K;
     }
 
 -- the card behind the later log
-followed : (c : tie.After-follow) (before st : State) → GoesOn c.before.before.before.before.before.before.before.before.before.before.args.first c.before.before.before.before.before.before.before.before.before.before.args.site c.before.before.before.before.before.before.before.before.before.before.args.log.now before st →
-    IsCard c.before.before.before.before.before.before.before.before.before.before.args.w st c.follow.result c.follow.new.1.1.0
-    (drop (row_width * st.histories) c.before.before.before.before.before.before.before.before.before.before.args.counts.now)
+followed : (c : tie.After-follow-d) (before st : State) → GoesOn c.args.first c.args.site c.args.log.now before st →
+    IsCard c.args.w st c.follow-d.result c.follow-d.new.counts
+    (drop (row_width * st.histories) c.args.counts.now)
 followed c before st G =
-    let p = c.before.before.before.before.before.before.before.before.before.before in
-    let old = p.args.counts.now in
-    let r = c.before.before.before.before.before.before.afresh in
-    let k = c.before.before.before.before.c.given.0.0 in
-    let K = made-card p.args.w before old r.result r.new.1.1.1.1.0 k
-    (r.ensures before (up_log p.args.first p.args.log.now before G.begun)) c.before.before.before.before.c.given.1 in
-    followed-card p.args.first p.args.site p.args.log.now before st G p.args.w old r.new.1.1.1.1.0 k K
-    c.follow.result c.follow.new.1.1.0 c.follow.ensures
+    let old = c.args.counts.now in
+    let r = c.afresh in
+    let k = c.in-Counted.c in
+    let K = made-card c.args.w before old r.result r.new.counts k
+    (r.ensures before (up_log c.args.first c.args.log.now before G.begun)) c.in-Counted.is in
+    followed-card c.args.first c.args.site c.args.log.now before st G c.args.w old r.new.counts k K
+    c.follow-d.result c.follow-d.new.counts c.follow-d.ensures
 
-add-result : tie.Need-overflow-add-result
-add-result c =
-    let p = c.before.before.before.before.before.before.before.before.before.before in
-    let P = p.requires in
+overflow_add-result : tie.Need-overflow_add-result
+overflow_add-result c =
+    let P = c.requires in
     let K = followed c P.before P.after P.both in
     omega (
       arith,
-      lines_few p.args.w P.after c.follow.result c.follow.new.1.1.0
-          (drop (row_width * P.after.histories) p.args.counts.now) K,
+      lines_few c.args.w P.after c.follow-d.result c.follow-d.new.counts
+          (drop (row_width * P.after.histories) c.args.counts.now) K,
     )
 
-enum-known-q : tie.Need-enum-known-q
-enum-known-q c = search rules
+enum_known-q : tie.Need-enum_known-q
+enum_known-q c = search rules
 
-refusal-number-requires : tie.Need-refusal-number-requires
-refusal-number-requires c κs = search rules
+refusal_number-requires : tie.Need-refusal_number-requires
+refusal_number-requires c κs = search rules
 
-returns : tie.Need-returns
-returns c =
-    let p = c.before.before.before.before.before.before.before.before.before.before in
+returns-in-Counted : tie.Need-returns-in-Counted
+returns-in-Counted c =
     λ before st G.
-    card-told p.args.w st c.follow.result p.args.counts.now c.follow.new.1.1.0 _ (followed c before st G) refl
+    card-told c.args.w st c.follow-d.result c.args.counts.now c.follow-d.new.counts _ (followed c before st G) refl
 
-returns-2 : tie.Need-returns-2
-returns-2 c =
-    let p = c.before.before.before.before.before.before.before.before in
-    let r = c.before.before.before.before.afresh in
+returns-in-Refused : tie.Need-returns-in-Refused
+returns-in-Refused c =
+    let r = c.afresh in
     λ before st G.
-    made_refused p.args.w before p.args.counts.now r.result r.new.1.1.1.1.0 c.before.before.q.given.0.0
-    (r.ensures before (up_log p.args.first p.args.log.now before G.begun)) c.before.before.q.given.1 c.refusal-number.result
-    c.refusal-number.ensures st
+    made_refused c.args.w before c.args.counts.now r.result r.new.counts c.in-Refused.q
+    (r.ensures before (up_log c.args.first c.args.log.now before G.begun)) c.in-Refused.is c.refusal_number.result
+    c.refusal_number.ensures st
 
-pub card-on-spec : {M : Type 1} → statement M
-card-on-spec =
+pub card_on_spec : {M : Type 1} → statement M
+card_on_spec =
     tie.close
     (tie.spec
-    slice-aggregate-afresh
+    slice_bounds-afresh-end
     afresh-requires
-    enum-known-c
-    slice-aggregate-follow
-    follow-requires
-    add-result
-    enum-known-q
-    refusal-number-requires
-    returns
-    returns-2)
+    enum_known-c
+    slice_bounds-follow-end
+    follow-d-requires
+    overflow_add-result
+    enum_known-q
+    refusal_number-requires
+    returns-in-Counted
+    returns-in-Refused)

@@ -6,119 +6,115 @@ use borrow.Author.Rules.{rules}
 use Rattle.c_api.proofs.cards.log_card.Statement.{statement}
 use Rattle.c_api.proofs.cards.log_card.Tie as tie
 
-take-up-requires : tie.Need-take-up-requires
-take-up-requires c κs = search rules
+take_up-requires : tie.Need-take_up-requires
+take_up-requires c κs = search rules
 
-enum-known-q : tie.Need-enum-known-q
-enum-known-q c = search rules
+enum_known-q : tie.Need-enum_known-q
+enum_known-q c = search rules
 
-refusal-number-requires : tie.Need-refusal-number-requires
-refusal-number-requires c κs = search rules
+refusal_number-requires : tie.Need-refusal_number-requires
+refusal_number-requires c κs = search rules
 
-returns : tie.Need-returns
-returns c =
-    let a = c.before.before.before.before.before.before.args in
-    let t = c.before.before.before.before.take-up in
+returns-in-Refused : tie.Need-returns-in-Refused
+returns-in-Refused c =
+    let a = c.args in
+    let t = c.take_up in
     first_refused a.w (restart a.log.now a.begun) (restart a.log.now a.kept) a.log.now a.counts.now t.result
-    c.before.before.q.given.0.0 c.refusal-number.result t.ensures c.before.before.q.given.1 c.refusal-number.ensures
+    c.in-Refused.q c.refusal_number.result t.ensures c.in-Refused.is c.refusal_number.ensures
 
-enum-known-s : tie.Need-enum-known-s
-enum-known-s c = search rules
+enum_known-s : tie.Need-enum_known-s
+enum_known-s c = search rules
 
-take-up-requires-2 : tie.Need-take-up-requires-2
-take-up-requires-2 c κs = search rules
+take_up-requires-2 : tie.Need-take_up-requires-2
+take_up-requires-2 c κs = search rules
 
-enum-known-q-2 : tie.Need-enum-known-q-2
-enum-known-q-2 c = search rules
+enum_known-q-in-Refused-take_up-2 : tie.Need-enum_known-q-in-Refused-take_up-2
+enum_known-q-in-Refused-take_up-2 c = search rules
 
-refusal-number-requires-2 : tie.Need-refusal-number-requires-2
-refusal-number-requires-2 c κs = search rules
+refusal_number-requires-in-Refused-take_up : tie.Need-refusal_number-requires-in-Refused-take_up
+refusal_number-requires-in-Refused-take_up c κs = search rules
 
-returns-2 : tie.Need-returns-2
-returns-2 c =
-    let a = c.before.before.before.before.before.before.before.before.before.before.args in
-    let t = c.before.before.before.before.before.before.before.before.take-up in
-    let v = c.before.before.before.before.take-up2 in
+returns-in-Refused-take_up : tie.Need-returns-in-Refused-take_up
+returns-in-Refused-take_up c =
+    let a = c.args in
+    let t = c.take_up in
+    let v = c.take_up-2 in
     second_refused a.w (restart a.log.now a.begun) (restart a.log.now a.kept) a.log.now a.counts.now t.result
-    v.result c.before.before.before.before.before.before.s.given.0.0 c.before.before.q2.given.0.0 c.refusal-number2.result t.ensures c.before.before.before.before.before.before.s.given.1 v.ensures
-    c.before.before.q2.given.1 c.refusal-number2.ensures
+    v.result c.in-Up.s c.in-Refused-take_up.q c.refusal_number-in-Refused-take_up.result t.ensures c.in-Up.is v.ensures
+    c.in-Refused-take_up.is c.refusal_number-in-Refused-take_up.ensures
 
-enum-known-s-2 : tie.Need-enum-known-s-2
-enum-known-s-2 c = search rules
+enum_known-s-in-Up-take_up-2 : tie.Need-enum_known-s-in-Up-take_up-2
+enum_known-s-in-Up-take_up-2 c = search rules
 
 -- the two sites
-first-up : (c : tie.After-known-told4) → TakenUp (restart c.before.before.before.before.before.before.before.before.before.args.log.now c.before.before.before.before.before.before.before.before.before.args.begun) c.before.before.before.before.before.before.before.before.before.args.log.now
-    c.before.before.before.before.before.s.given.0.0
+first-up : (c : tie.In-Up-take_up) → TakenUp (restart c.args.log.now c.args.begun) c.args.log.now
+    c.in-Up.s
 first-up c =
-    let a = c.before.before.before.before.before.before.before.before.before.args in
-    let t = c.before.before.before.before.before.before.before.take-up in
-    taken_up (restart a.log.now a.begun) a.log.now t.result c.before.before.before.before.before.s.given.0.0 t.ensures c.before.before.before.before.before.s.given.1
+    let a = c.args in
+    let t = c.take_up in
+    taken_up (restart a.log.now a.begun) a.log.now t.result c.in-Up.s t.ensures c.in-Up.is
 
-second-up : (c : tie.After-known-told4) → TakenUp (restart c.before.before.before.before.before.before.before.before.before.args.log.now c.before.before.before.before.before.before.before.before.before.args.kept) c.before.before.before.before.before.before.before.before.before.args.log.now
-    c.before.s2.given.0.0
+second-up : (c : tie.In-Up-take_up) → TakenUp (restart c.args.log.now c.args.kept) c.args.log.now
+    c.in-Up-take_up.s
 second-up c =
-    let a = c.before.before.before.before.before.before.before.before.before.args in
-    let t = c.before.before.before.take-up2 in
-    taken_up (restart a.log.now a.kept) a.log.now t.result c.before.s2.given.0.0 t.ensures c.before.s2.given.1
+    let a = c.args in
+    let t = c.take_up-2 in
+    taken_up (restart a.log.now a.kept) a.log.now t.result c.in-Up-take_up.s t.ensures c.in-Up-take_up.is
 
 -- the later log goes on where the earlier ends
-goes : (c : tie.After-card-on-arg) → GoesOn c.before.before.before.before.before.before.before.before.before.before.s.given.0.0 c.before.before.before.before.before.before.s2.given.0.0 c.before.before.before.before.before.before.before.before.before.before.before.before.before.before.args.log.now
+goes : (c : tie.After-card_on-arg-1) → GoesOn c.in-Up.s c.in-Up-take_up.s c.args.log.now
     (first-up c.before.before.before.before.before).after (second-up c.before.before.before.before.before).after
 goes c =
-    let a = c.before.before.before.before.before.before.before.before.before.before.before.before.before.before.args in
+    let a = c.args in
     let A = first-up c.before.before.before.before.before in
     let B = second-up c.before.before.before.before.before in
     record {
       begun = A.up;
       now = B.up;
       on =
-          up_continues c.before.before.before.before.before.before.s2.given.0.0 a.log.now B.after B.up a.begun A.after A.answer A.is
-          c.before.before.before.if1.true c.before.if2.true;
+          up_continues c.in-Up-take_up.s a.log.now B.after B.up a.begun A.after A.answer A.is
+          c.if-b-begun.true c.if-begun-b.true;
     }
 
-card-on-requires : tie.Need-card-on-requires
-card-on-requires c κs =
-    let k = c.before.before.before.before.before in
-    record { before = (first-up k).after; after = (second-up k).after; both = goes c }
+card_on-requires : tie.Need-card_on-requires
+card_on-requires c κs =
+    record { before = (first-up c.before.before.before.before.before).after; after = (second-up c.before.before.before.before.before).after; both = goes c }
 
-returns-3 : tie.Need-returns-3
-returns-3 c =
-    let a = c.before.before.before.before.before.before.before.before.before.before.before.before.before.before.before.args in
-    let k = c.before.before.before.before.before.before in
-    let r = c.card-on in
+returns-then-begun-b : tie.Need-returns-then-begun-b
+returns-then-begun-b c =
+    let a = c.args in
+    let r = c.card_on in
     both_up a.w (restart a.log.now a.begun) (restart a.log.now a.kept) a.log.now a.counts.now
-    k.before.before.before.before.before.s.given.0.0 k.before.s2.given.0.0 r.result r.new.1.1.1.1.0 (first-up k) (second-up k)
-    (r.ensures (first-up k).after (second-up k).after (goes c.before))
+    c.in-Up.s c.in-Up-take_up.s r.result r.new.counts (first-up c.before.before.before.before.before.before) (second-up c.before.before.before.before.before.before)
+    (r.ensures (first-up c.before.before.before.before.before.before).after (second-up c.before.before.before.before.before.before).after (goes c.before))
 
-card-afresh-requires : tie.Need-card-afresh-requires
-card-afresh-requires c κs =
-    let k = c.before.before.before in
-    record { after = (second-up k).after; up = (second-up k).up }
+card_afresh-requires : tie.Need-card_afresh-requires
+card_afresh-requires c κs =
+    record { after = (second-up c.before.before.before).after; up = (second-up c.before.before.before).up }
 
-returns-4 : tie.Need-returns-4
-returns-4 c =
-    let a = c.before.before.before.before.before.before.before.before.before.before.before.before.before.args in
-    let k = c.before.before.before.before in
-    let r = c.card-afresh in
+returns : tie.Need-returns
+returns c =
+    let a = c.args in
+    let r = c.card_afresh in
     both_up a.w (restart a.log.now a.begun) (restart a.log.now a.kept) a.log.now a.counts.now
-    k.before.before.before.before.before.s.given.0.0 k.before.s2.given.0.0 r.result r.new.1.1.1.0 (first-up k) (second-up k)
-    (r.ensures (second-up k).after (second-up k).up)
+    c.in-Up.s c.in-Up-take_up.s r.result r.new.counts (first-up c.before.before.before.before) (second-up c.before.before.before.before)
+    (r.ensures (second-up c.before.before.before.before).after (second-up c.before.before.before.before).up)
 
-pub log-card-spec : {M : Type 1} → statement M
-log-card-spec =
+pub log_card_spec : {M : Type 1} → statement M
+log_card_spec =
     tie.close
     (tie.spec
-    take-up-requires
-    enum-known-q
-    refusal-number-requires
-    returns
-    enum-known-s
-    take-up-requires-2
-    enum-known-q-2
-    refusal-number-requires-2
-    returns-2
-    enum-known-s-2
-    card-on-requires
-    returns-3
-    card-afresh-requires
-    returns-4)
+    take_up-requires
+    enum_known-q
+    refusal_number-requires
+    returns-in-Refused
+    enum_known-s
+    take_up-requires-2
+    enum_known-q-in-Refused-take_up-2
+    refusal_number-requires-in-Refused-take_up
+    returns-in-Refused-take_up
+    enum_known-s-in-Up-take_up-2
+    card_on-requires
+    returns-then-begun-b
+    card_afresh-requires
+    returns)

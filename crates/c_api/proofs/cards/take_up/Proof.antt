@@ -45,26 +45,32 @@ accepted (ReplyForm.Restarted lines used) o xs ys r e = let z : ◌≡◌ {A = �
 accepted (ReplyForm.Redone ran examined) o xs ys r e = let z : ◌≡◌ {A = ℕ} 0 1 = cc in omega arith
 accepted ReplyForm.Ended o xs ys r e = let z : ◌≡◌ {A = ℕ} 0 1 = cc in omega arith
 
-restart-requires : tie.Need-restart-requires
-restart-requires c κs = search rules
+restart-c-requires : tie.Need-restart-c-requires
+restart-c-requires c κs = search rules
 
-enum-known-form : tie.Need-enum-known-form
-enum-known-form c = search rules
+enum_known-form : tie.Need-enum_known-form
+enum_known-form c = search rules
 
-returns : tie.Need-returns
-returns c =
-    let a = c.before.before.before.before.before.before.before.before.before.before.args in
-    let r = c.before.before.before.before.before.restart in
-    let m = lent a.log.now r.new.1.0 r.new.1.1.0 r.new.1.1.1.0 [] in
+returns-in-Refused : tie.Need-returns-in-Refused
+returns-in-Refused c =
+    let a = c.args in
+    let r = c.restart-c in
+    let m = lent a.log.now r.new.rows r.new.order r.new.book [] in
     up_refused blank_site (lent a.log.now rs os bs []) r.result m (restart a.log.now a.kept) a.log.now
-    c.before.form.given.0.0 (r.ensures []) c.before.form.given.1
+    c.in-Refused.q (r.ensures []) c.in-Refused.is
 
-returns-2 : tie.Need-returns-2
-returns-2 c =
-    let a = c.before.before.before.before.before.before.before.before.args in
-    let r = c.before.before.before.restart in
-    up_taken blank_site (lent a.log.now rs os bs []) r.result a.log.now r.new.1.0 r.new.1.1.0
-    r.new.1.1.1.0 (restart a.log.now a.kept) (r.ensures []) (accepted r.result.reply.form c.match.keys2)
+returns-in_default : tie.Need-returns-in_default
+returns-in_default c =
+    let a = c.args in
+    let r = c.restart-c in
+    up_taken blank_site (lent a.log.now rs os bs []) r.result a.log.now r.new.rows r.new.order
+    r.new.book (restart a.log.now a.kept) (r.ensures []) (accepted r.result.reply.form c.in_default.in_default-own.keys2)
 
-pub take-up-spec : {M : Type 1} → statement M
-take-up-spec = tie.close (tie.spec restart-requires enum-known-form returns returns-2)
+pub take_up_spec : {M : Type 1} → statement M
+take_up_spec =
+    tie.close
+    (tie.spec
+    restart-c-requires
+    enum_known-form
+    returns-in-Refused
+    returns-in_default)

@@ -11,46 +11,46 @@ use borrow.Author.Rules.{rules}
 use Rattle.c_api.proofs.finds.log_find_cut.Statement.{statement}
 use Rattle.c_api.proofs.finds.log_find_cut.Tie as tie
 
-restart-requires : tie.Need-restart-requires
-restart-requires c κs = search rules
+restart-c-requires : tie.Need-restart-c-requires
+restart-c-requires c κs = search rules
 
-enum-known-form : tie.Need-enum-known-form
-enum-known-form c = search rules
+enum_known-form : tie.Need-enum_known-form
+enum_known-form c = search rules
 
-refusal-number-requires : tie.Need-refusal-number-requires
-refusal-number-requires c κs = search rules
+refusal_number-requires : tie.Need-refusal_number-requires
+refusal_number-requires c κs = search rules
 
-cut-number-requires : tie.Need-cut-number-requires
-cut-number-requires c κs =
-    let a = c.before.before.before.before.before.before.before.before.before.args in
-    let r = c.before.before.before.restart in
-    let m = (lent a.log.now r.new.1.0 r.new.1.1.0 r.new.1.1.1.0 []) in
-    (r.new.1.0, r.new.1.1.0, r.new.1.1.1.0, restart_valid blank_site (lent a.log.now rs os bs []) r.result m (restart a.log.now a.kept) (r.ensures []) (accepted r.result.reply.form c.match.keys2))
+cut_number-requires : tie.Need-cut_number-requires
+cut_number-requires c κs =
+    let a = c.args in
+    let r = c.restart-c in
+    let m = (lent a.log.now r.new.rows r.new.order r.new.book []) in
+    (r.new.rows, r.new.order, r.new.book, restart_valid blank_site (lent a.log.now rs os bs []) r.result m (restart a.log.now a.kept) (r.ensures []) (accepted r.result.reply.form c.in_default.in_default-own.keys2))
 
-returns : tie.Need-returns
-returns c =
-    let a = c.before.before.before.before.before.before.before.before.before.before.before.before.args in
-    let r = c.before.before.before.before.before.before.restart in
-    let m = (lent a.log.now r.new.1.0 r.new.1.1.0 r.new.1.1.1.0 []) in
-    find_refused blank_site (lent a.log.now rs os bs []) r.result m a.places.now c.refusal-number.result (restart a.log.now a.kept) c.before.before.form.given.0.0 (r.ensures [])
-    c.before.before.form.given.1 c.refusal-number.ensures
+returns-in-Refused : tie.Need-returns-in-Refused
+returns-in-Refused c =
+    let a = c.args in
+    let r = c.restart-c in
+    let m = (lent a.log.now r.new.rows r.new.order r.new.book []) in
+    find_refused blank_site (lent a.log.now rs os bs []) r.result m a.places.now c.refusal_number.result (restart a.log.now a.kept) c.in-Refused.q (r.ensures [])
+    c.in-Refused.is c.refusal_number.ensures
 
-returns-2 : tie.Need-returns-2
-returns-2 c =
-    let a = c.before.before.before.before.before.before.before.before.before.before.args in
-    let r = c.before.before.before.before.restart in
-    let m = (lent a.log.now r.new.1.0 r.new.1.1.0 r.new.1.1.1.0 []) in
-    let q = (accepted r.result.reply.form c.before.match.keys2) in
-    find_accepted blank_site (lent a.log.now rs os bs []) r.result m a.places.now c.cut-number.result (restart a.log.now a.kept) (r.ensures []) q
-    (c.cut-number.ensures r.new.1.0 r.new.1.1.0 r.new.1.1.1.0 (restart_valid blank_site (lent a.log.now rs os bs []) r.result m (restart a.log.now a.kept) (r.ensures []) q))
+returns-in_default : tie.Need-returns-in_default
+returns-in_default c =
+    let a = c.args in
+    let r = c.restart-c in
+    let m = (lent a.log.now r.new.rows r.new.order r.new.book []) in
+    let q = (accepted r.result.reply.form c.in_default.in_default-own.keys2) in
+    find_accepted blank_site (lent a.log.now rs os bs []) r.result m a.places.now c.cut_number.result (restart a.log.now a.kept) (r.ensures []) q
+    (c.cut_number.ensures r.new.rows r.new.order r.new.book (restart_valid blank_site (lent a.log.now rs os bs []) r.result m (restart a.log.now a.kept) (r.ensures []) q))
 
-pub log-find-cut-spec : {M : Type 1} → statement M
-log-find-cut-spec =
+pub log_find_cut_spec : {M : Type 1} → statement M
+log_find_cut_spec =
     tie.close
     (tie.spec
-    restart-requires
-    enum-known-form
-    refusal-number-requires
-    cut-number-requires
-    returns
-    returns-2)
+    restart-c-requires
+    enum_known-form
+    refusal_number-requires
+    cut_number-requires
+    returns-in-Refused
+    returns-in_default)

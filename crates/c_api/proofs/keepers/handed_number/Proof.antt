@@ -6,27 +6,33 @@ use borrow.Author.Rules.{rules}
 use Rattle.c_api.proofs.keepers.handed_number.Statement.{statement}
 use Rattle.c_api.proofs.keepers.handed_number.Tie as tie
 
-enum-known-r : tie.Need-enum-known-r
-enum-known-r c = search rules
+enum_known-r : tie.Need-enum_known-r
+enum_known-r c = search rules
 
-add-result : tie.Need-overflow-add-result
-add-result c = let z = c.before.before.before.requires c.before.r.given.0.0 c.before.r.given.1 in omega arith
+overflow_add-result : tie.Need-overflow_add-result
+overflow_add-result c = let z = c.requires c.in-Handed.n c.in-Handed.is in omega arith
 
-enum-known-r-2 : tie.Need-enum-known-r-2
-enum-known-r-2 c = search rules
+enum_known-r-in-Withheld-1 : tie.Need-enum_known-r-in-Withheld-1
+enum_known-r-in-Withheld-1 c = search rules
 
-refusal-number-requires : tie.Need-refusal-number-requires
-refusal-number-requires c κs = search rules
+refusal_number-requires : tie.Need-refusal_number-requires
+refusal_number-requires c κs = search rules
 
-returns : tie.Need-returns
+returns-in-Handed : tie.Need-returns-in-Handed
 unfolding hand_out_number
-returns c = sym (ap hand_out_number c.before.r.given.1)
+returns-in-Handed c = sym (ap hand_out_number c.in-Handed.is)
 
-returns-2 : tie.Need-returns-2
+returns-in-Withheld : tie.Need-returns-in-Withheld
 unfolding hand_out_number
-returns-2 c = c.refusal-number.ensures ∙ sym (ap hand_out_number c.before.before.r2.given.1)
+returns-in-Withheld c = c.refusal_number.ensures ∙ sym (ap hand_out_number c.in-Withheld.is)
 
-pub handed-number-spec : {M : Type 1} → statement M
-handed-number-spec =
+pub handed_number_spec : {M : Type 1} → statement M
+handed_number_spec =
     tie.close
-    (tie.spec enum-known-r add-result enum-known-r-2 refusal-number-requires returns returns-2)
+    (tie.spec
+    enum_known-r
+    overflow_add-result
+    enum_known-r-in-Withheld-1
+    refusal_number-requires
+    returns-in-Handed
+    returns-in-Withheld)

@@ -14,63 +14,63 @@ use Rattle.c_api.proofs.keepers.keeper_hand_out.Tie as tie
 resume-requires : tie.Need-resume-requires
 resume-requires c κs = tt
 
-enum-known-k : tie.Need-enum-known-k
-enum-known-k c = search rules
+enum_known-k : tie.Need-enum_known-k
+enum_known-k c = search rules
 
-enum_told : tie.Need-enum-told
-enum_told c = search rules
+enum_told-1 : tie.Need-enum_told-1
+enum_told-1 c = search rules
+
+returns-in_default : tie.Need-returns-in_default
+returns-in_default c =
+    let a = c.args in
+    hands_none a.used a.buf.now a.places.now a.out.now (not_taken_up a.used a.buf.now c.resume.result c.resume.ensures c.in_default.is)
+
+-- the keeper that was taken up
+up : (c : tie.In-Found) → TakenUp c.args.used c.args.buf.now c.in-Found.k
+up c =
+    let a = c.args in
+    taken_up a.used a.buf.now c.in-Found.k c.resume.result c.resume.ensures c.in-Found.is
+
+returns-then-places-ne-HISTORIES : tie.Need-returns-then-places-ne-HISTORIES
+returns-then-places-ne-HISTORIES c =
+    let a = c.args in
+    hands_not_sixteen a.used a.buf.now a.places.now a.out.now (up c.before).test c.if-places-ne-HISTORIES.true
+
+sixteen-requires : tie.Need-sixteen-requires
+sixteen-requires c κs = c.if-places-ne-HISTORIES.false
+
+hand_out-r-requires : tie.Need-hand_out-r-requires
+hand_out-r-requires c κs = (up c.before.before.before).valid
+
+handed_number-requires : tie.Need-handed_number-requires
+handed_number-requires c κs n e =
+    let w = handed_within _ _ _ c.hand_out-r.result n c.hand_out-r.new.out c.hand_out-r.ensures e in
+    omega arith
+
+shape_of-out : tie.Need-shape_of-out
+shape_of-out c = search rules
 
 returns : tie.Need-returns
 returns c =
-    let a = c.before.before.before.before.before.before.args in
-    hands_none a.used a.buf.now a.places.now a.out.now (not_taken_up a.used a.buf.now c.before.before.resume.result c.before.before.resume.ensures c.enum_told.given.1)
-
--- the keeper that was taken up
-up : (c : tie.After-known-told) → TakenUp c.before.before.before.before.before.before.before.args.used c.before.before.before.before.before.before.before.args.buf.now c.before.k.given.0.0
-up c =
-    let a = c.before.before.before.before.before.before.before.args in
-    taken_up a.used a.buf.now c.before.k.given.0.0 c.before.before.before.resume.result c.before.before.before.resume.ensures c.before.k.given.1
-
-returns-2 : tie.Need-returns-2
-returns-2 c =
-    let a = c.before.before.before.before.before.before.before.before.args in
-    hands_not_sixteen a.used a.buf.now a.places.now a.out.now (up c.before).test c.if1.true
-
-sixteen-requires : tie.Need-sixteen-requires
-sixteen-requires c κs = c.if1.false
-
-hand-out-requires : tie.Need-hand-out-requires
-hand-out-requires c κs = (up c.before.before.before).valid
-
-handed-number-requires : tie.Need-handed-number-requires
-handed-number-requires c κs n e =
-    let w = handed_within _ _ _ c.before.before.hand-out.result n c.before.before.hand-out.new.1.1.1.0 c.before.before.hand-out.ensures e in
-    omega arith
-
-same_length : tie.Need-same-length
-same_length c = search rules
-
-returns-3 : tie.Need-returns-3
-returns-3 c =
-    let a = c.before.before.before.before.before.before.before.before.before.before.before.before.before.before.args in
-    let k = c.before.before.before.before.before.before.before.before.k.given.0.0 in
-    let h : HandsOut (keeper_view k a.buf.now) a.places.now a.out.now c.before.before.before.hand-out.result c.before.before.before.hand-out.new.1.1.1.0 =
-    subst (λ (x : List ℕ). HandsOut (keeper_view k a.buf.now) x a.out.now c.before.before.before.hand-out.result c.before.before.before.hand-out.new.1.1.1.0) c.before.before.before.before.before.sixteen.ensures c.before.before.before.hand-out.ensures
+    let a = c.args in
+    let k = c.in-Found.k in
+    let h : HandsOut (keeper_view k a.buf.now) a.places.now a.out.now c.hand_out-r.result c.hand_out-r.new.out =
+    subst (λ (x : List ℕ). HandsOut (keeper_view k a.buf.now) x a.out.now c.hand_out-r.result c.hand_out-r.new.out) c.sixteen.ensures c.hand_out-r.ensures
     in
-    hands_over a.used a.buf.now a.places.now a.out.now k (up c.before.before.before.before.before.before.before) c.before.before.before.before.before.before.if1.false c.before.before.before.hand-out.result c.before.before.before.hand-out.new.1.1.1.0 h
-    c.handed-number.result c.handed-number.ensures
+    hands_over a.used a.buf.now a.places.now a.out.now k (up c.before.before.before.before.before.before.before) c.if-places-ne-HISTORIES.false c.hand_out-r.result c.hand_out-r.new.out h
+    c.handed_number.result c.handed_number.ensures
 
-pub keeper-hand-out-spec : {M : Type 1} → statement M
-keeper-hand-out-spec =
+pub keeper_hand_out_spec : {M : Type 1} → statement M
+keeper_hand_out_spec =
     tie.close
     (tie.spec
     resume-requires
-    enum-known-k
-    enum_told
-    returns
-    returns-2
+    enum_known-k
+    enum_told-1
+    returns-in_default
+    returns-then-places-ne-HISTORIES
     sixteen-requires
-    hand-out-requires
-    handed-number-requires
-    same_length
-    returns-3)
+    hand_out-r-requires
+    handed_number-requires
+    shape_of-out
+    returns)

@@ -10,51 +10,51 @@ use Rattle.c_api.proofs.keepers.keeper_keep.Tie as tie
 resume-requires : tie.Need-resume-requires
 resume-requires c κs = search rules
 
-enum-known-k : tie.Need-enum-known-k
-enum-known-k c = search rules
+enum_known-k : tie.Need-enum_known-k
+enum_known-k c = search rules
 
-enum_told : tie.Need-enum-told
-enum_told c = search rules
+enum_told-1 : tie.Need-enum_told-1
+enum_told-1 c = search rules
 
-same_length : tie.Need-same-length
-same_length c = search rules
+shape_of-buf-in_default : tie.Need-shape_of-buf-in_default
+shape_of-buf-in_default c = search rules
+
+returns-in_default : tie.Need-returns-in_default
+returns-in_default c =
+    let a = c.args in
+    replies_none a.used a.buf.now _ (not_taken_up a.used a.buf.now c.resume.result c.resume.ensures c.in_default.is)
+
+-- the keeper that was taken up
+up : (c : tie.After-keep-arg-1) → TakenUp c.args.used c.args.buf.now c.in-Found.k
+up c =
+    let a = c.args in
+    taken_up a.used a.buf.now c.in-Found.k c.resume.result c.resume.ensures c.in-Found.is
+
+keep-r-requires : tie.Need-keep-r-requires
+keep-r-requires c κs = (up c).valid
+
+kept_number-requires : tie.Need-kept_number-requires
+kept_number-requires c κs = let w = does_within _ _ _ (up c.before.before.before) _ _ _ c.keep-r.ensures in omega arith
+
+shape_of-buf : tie.Need-shape_of-buf
+shape_of-buf c = search rules
 
 returns : tie.Need-returns
 returns c =
-    let a = c.before.before.before.before.before.before.args in
-    replies_none a.used a.buf.now _ (not_taken_up a.used a.buf.now c.before.before.resume.result c.before.before.resume.ensures c.enum_told.given.1)
+    let a = c.args in
+    replies_does a.used a.buf.now c.in-Found.k (up c.before.before.before.before) (keep_line a.line.now) c.keep-r.result c.keep-r.new.buf c.keep-r.ensures
+    c.kept_number.result c.kept_number.ensures
 
--- the keeper that was taken up
-up : (c : tie.After-keep-arg) → TakenUp c.before.before.before.before.before.before.before.before.args.used c.before.before.before.before.before.before.before.before.args.buf.now c.before.before.k.given.0.0
-up c =
-    let a = c.before.before.before.before.before.before.before.before.args in
-    taken_up a.used a.buf.now c.before.before.k.given.0.0 c.before.before.before.before.resume.result c.before.before.before.before.resume.ensures c.before.before.k.given.1
-
-keep-requires : tie.Need-keep-requires
-keep-requires c κs = (up c).valid
-
-kept-number-requires : tie.Need-kept-number-requires
-kept-number-requires c κs = let w = does_within _ _ _ (up c.before.before.before) _ _ _ c.before.before.keep.ensures in omega arith
-
-same-length-2 : tie.Need-same-length-2
-same-length-2 c = search rules
-
-returns-2 : tie.Need-returns-2
-returns-2 c =
-    let a = c.before.before.before.before.before.before.before.before.before.before.before.before.args in
-    replies_does a.used a.buf.now c.before.before.before.before.before.before.k.given.0.0 (up c.before.before.before.before) (keep_line a.line.now) c.before.before.before.keep.result c.before.before.before.keep.new.1.0 c.before.before.before.keep.ensures
-    c.kept-number.result c.kept-number.ensures
-
-pub keeper-keep-spec : {M : Type 1} → statement M
-keeper-keep-spec =
+pub keeper_keep_spec : {M : Type 1} → statement M
+keeper_keep_spec =
     tie.close
     (tie.spec
     resume-requires
-    enum-known-k
-    enum_told
-    same_length
-    returns
-    keep-requires
-    kept-number-requires
-    same-length-2
-    returns-2)
+    enum_known-k
+    enum_told-1
+    shape_of-buf-in_default
+    returns-in_default
+    keep-r-requires
+    kept_number-requires
+    shape_of-buf
+    returns)

@@ -6,27 +6,33 @@ use borrow.Author.Rules.{rules}
 use Rattle.c_api.proofs.keepers.kept_number.Statement.{statement}
 use Rattle.c_api.proofs.keepers.kept_number.Tie as tie
 
-enum_told : tie.Need-enum-told
-enum_told c = search rules
+enum_told-1 : tie.Need-enum_told-1
+enum_told-1 c = search rules
 
-add-result : tie.Need-overflow-add-result
-add-result c = search rules
+overflow_add-result : tie.Need-overflow_add-result
+overflow_add-result c = search rules
 
-enum-known-v : tie.Need-enum-known-v
-enum-known-v c = search rules
+enum_known-v : tie.Need-enum_known-v
+enum_known-v c = search rules
 
-refusal-number-requires : tie.Need-refusal-number-requires
-refusal-number-requires c κs = search rules
+refusal_number-requires : tie.Need-refusal_number-requires
+refusal_number-requires c κs = search rules
 
-returns : tie.Need-returns
+returns-in-Passes : tie.Need-returns-in-Passes
 unfolding verdict_number
-returns c = let a = c.before.before.before.args in sym (ap (λ (v : Verdict). verdict_number v a.r.keeper.used) c.enum_told.given.1)
+returns-in-Passes c = let a = c.args in sym (ap (λ (v : Verdict). verdict_number v a.r.keeper.used) c.in-Passes.is)
 
-returns-2 : tie.Need-returns-2
+returns-in-Refused : tie.Need-returns-in-Refused
 unfolding verdict_number
-returns-2 c = let a = c.before.before.before.before.before.args in c.refusal-number.ensures ∙ sym (ap (λ (v : Verdict). verdict_number v a.r.keeper.used) c.before.before.v.given.1)
+returns-in-Refused c = let a = c.args in c.refusal_number.ensures ∙ sym (ap (λ (v : Verdict). verdict_number v a.r.keeper.used) c.in-Refused.is)
 
-pub kept-number-spec : {M : Type 1} → statement M
-kept-number-spec =
+pub kept_number_spec : {M : Type 1} → statement M
+kept_number_spec =
     tie.close
-    (tie.spec enum_told add-result enum-known-v refusal-number-requires returns returns-2)
+    (tie.spec
+    enum_told-1
+    overflow_add-result
+    enum_known-v
+    refusal_number-requires
+    returns-in-Passes
+    returns-in-Refused)

@@ -8,56 +8,56 @@ use Rattle.c_api.specs.ArrayLaws.{copied_next}
 use Rattle.c_api.proofs.keepers.sixteen.Statement.{statement}
 use Rattle.c_api.proofs.keepers.sixteen.Tie as tie
 
-abbrev invariant-loop : tie.invariant-loop
-invariant-loop s a₀ i₀ a i = (i ≤ 16) × (length a ≡ 16) × (take i a ≡ take i s)
+abbrev invariant-loop-i : tie.invariant-loop-i
+invariant-loop-i s a₀ i₀ a i = (i ≤ 16) × (length a ≡ 16) × (take i a ≡ take i s)
 
-abbrev decreases-loop : tie.decreases-loop
-decreases-loop s a₀ i₀ a i = 16 - i
+abbrev decreases-loop-i : tie.decreases-loop-i
+decreases-loop-i s a₀ i₀ a i = 16 - i
 
-loop-holds : tie.Need-loop-init invariant-loop decreases-loop
-loop-holds c = (omega arith, refl, refl)
+loop-i-init : tie.Need-loop-i-init invariant-loop-i decreases-loop-i
+loop-i-init c = (omega arith, refl, refl)
 
-mul-a : tie.Need-overflow-mul-a invariant-loop decreases-loop
-mul-a c = omega arith
+offset_bounds-s-i : tie.Need-offset_bounds-s-i invariant-loop-i decreases-loop-i
+offset_bounds-s-i c = omega arith
 
-shared-slice-read-a : tie.Need-shared-slice-read-a invariant-loop decreases-loop
-shared-slice-read-a c = let p = c.before.before.before.requires in omega arith
+bounds-s-i : tie.Need-bounds-s-i invariant-loop-i decreases-loop-i
+bounds-s-i c = let p = c.requires in omega arith
 
-mul-a-2 : tie.Need-overflow-mul-a-2 invariant-loop decreases-loop
-mul-a-2 c = omega arith
+offset_bounds-a-i : tie.Need-offset_bounds-a-i invariant-loop-i decreases-loop-i
+offset_bounds-a-i c = omega arith
 
-array-write-a : tie.Need-array-write-a invariant-loop decreases-loop
-array-write-a c = c.before.loop-test.true
+bounds-a-i : tie.Need-bounds-a-i invariant-loop-i decreases-loop-i
+bounds-a-i c = c.loop-i-test.true
 
-add-i : tie.Need-overflow-add-i invariant-loop decreases-loop
-add-i c = omega arith
+overflow_add-i : tie.Need-overflow_add-i invariant-loop-i decreases-loop-i
+overflow_add-i c = omega arith
 
-loop-less : tie.Need-loop-smaller invariant-loop decreases-loop
-loop-less c = omega arith
+loop-i-smaller : tie.Need-loop-i-smaller invariant-loop-i decreases-loop-i
+loop-i-smaller c = omega arith
 
-loop-again : tie.Need-loop-preserved invariant-loop decreases-loop
-loop-again c =
-    let l = c.before.before.loop in
-    (omega arith, simp length-set l.invariant.1, copied_next c.before.before.before.args.s.now l.a l.i (omega (arith, c.before.before.before.requires)) (omega (arith, l.invariant.1)) l.invariant.2)
+loop-i-preserved : tie.Need-loop-i-preserved invariant-loop-i decreases-loop-i
+loop-i-preserved c =
+    let l = c.loop-i in
+    (omega arith, simp length-set l.invariant.1, copied_next c.args.s.now l.a l.i (omega (arith, c.requires)) (omega (arith, l.invariant.1)) l.invariant.2)
 
-returns : tie.Need-returns invariant-loop decreases-loop
+returns : tie.Need-returns invariant-loop-i decreases-loop-i
 returns c =
-    let l = c.before.loop in
-    let s = c.before.before.args.s.now in
-    sym (take_all l.i l.a (omega (arith, l.invariant.1))) ∙ l.invariant.2 ∙ take_all l.i s (omega (arith, c.before.before.requires))
+    let l = c.loop-i in
+    let s = c.args.s.now in
+    sym (take_all l.i l.a (omega (arith, l.invariant.1))) ∙ l.invariant.2 ∙ take_all l.i s (omega (arith, c.requires))
 
-pub sixteen-spec : {M : Type 1} → statement M
-sixteen-spec =
+pub sixteen_spec : {M : Type 1} → statement M
+sixteen_spec =
     tie.close
     (tie.spec
-    invariant-loop
-    decreases-loop
-    loop-holds
-    mul-a
-    shared-slice-read-a
-    mul-a-2
-    array-write-a
-    add-i
-    loop-less
-    loop-again
+    invariant-loop-i
+    decreases-loop-i
+    loop-i-init
+    offset_bounds-s-i
+    bounds-s-i
+    offset_bounds-a-i
+    bounds-a-i
+    overflow_add-i
+    loop-i-smaller
+    loop-i-preserved
     returns)

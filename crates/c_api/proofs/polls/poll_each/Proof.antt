@@ -12,70 +12,70 @@ use Rattle.c_api.specs.PollCallLaws.{MappedTo, mapped_none, mapped_next, mapped_
 use Rattle.c_api.proofs.polls.poll_each.Statement.{statement}
 use Rattle.c_api.proofs.polls.poll_each.Tie as tie
 
-abbrev invariant-loop : tie.invariant-loop
-invariant-loop session book histories₀ i₀ histories i =
+abbrev invariant-loop-i : tie.invariant-loop-i
+invariant-loop-i session book histories₀ i₀ histories i =
     (length histories ≡ length histories₀)
     × ((log rows order lists : List ℕ) → ValidSession session (lent log rows order book lists)
     → MappedTo (session_poll (session_view session (lent log rows order book lists))) i histories₀ histories)
 
-abbrev decreases-loop : tie.decreases-loop
-decreases-loop session book histories₀ i₀ histories i = length histories - i
+abbrev decreases-loop-i : tie.decreases-loop-i
+decreases-loop-i session book histories₀ i₀ histories i = length histories - i
 
-loop-holds : tie.Need-loop-init invariant-loop decreases-loop
-loop-holds c = (refl, λ log rows order lists v. mapped_none _ _)
+loop-i-init : tie.Need-loop-i-init invariant-loop-i decreases-loop-i
+loop-i-init c = (refl, λ log rows order lists v. mapped_none _ _)
 
-mul-h : tie.Need-overflow-mul-h invariant-loop decreases-loop
-mul-h c = search rules
+offset_bounds-histories-i : tie.Need-offset_bounds-histories-i invariant-loop-i decreases-loop-i
+offset_bounds-histories-i c = search rules
 
-slice-read-h : tie.Need-slice-read-h invariant-loop decreases-loop
-slice-read-h c = c.before.loop-test.true
+bounds-histories-i : tie.Need-bounds-histories-i invariant-loop-i decreases-loop-i
+bounds-histories-i c = c.loop-i-test.true
 
-session-poll-requires : tie.Need-session-poll-requires invariant-loop decreases-loop
-session-poll-requires c κs = c.before.before.before.before.requires
+session_poll-requires : tie.Need-session_poll-requires invariant-loop-i decreases-loop-i
+session_poll-requires c κs = c.requires
 
-mul-histories : tie.Need-overflow-mul-histories invariant-loop decreases-loop
-mul-histories c = search rules
+offset_bounds-histories-i-in-loop-i : tie.Need-offset_bounds-histories-i-in-loop-i invariant-loop-i decreases-loop-i
+offset_bounds-histories-i-in-loop-i c = search rules
 
-slice-write-histories : tie.Need-slice-write-histories invariant-loop decreases-loop
-slice-write-histories c = c.before.before.loop-test.true
+bounds-histories-i-in-loop-i : tie.Need-bounds-histories-i-in-loop-i invariant-loop-i decreases-loop-i
+bounds-histories-i-in-loop-i c = c.loop-i-test.true
 
-add-i : tie.Need-overflow-add-i invariant-loop decreases-loop
-add-i c = search rules
+overflow_add-i : tie.Need-overflow_add-i invariant-loop-i decreases-loop-i
+overflow_add-i c = search rules
 
-loop-less : tie.Need-loop-smaller invariant-loop decreases-loop
-loop-less c = simp length-set (omega (arith, c.before.before.loop-test.true))
+loop-i-smaller : tie.Need-loop-i-smaller invariant-loop-i decreases-loop-i
+loop-i-smaller c = simp length-set (omega (arith, c.loop-i-test.true))
 
-loop-again : tie.Need-loop-preserved invariant-loop decreases-loop
-loop-again c =
-    let l = c.before.before.before.loop in (
+loop-i-preserved : tie.Need-loop-i-preserved invariant-loop-i decreases-loop-i
+loop-i-preserved c =
+    let l = c.loop-i in (
       simp length-set l.invariant.0,
       λ log rows order lists v.
-          mapped_next _ l.i _ l.histories _ (l.invariant.1 log rows order lists v) c.before.before.loop-test.true
-          (c.session-poll.ensures log rows order lists v),
+          mapped_next _ l.i _ l.histories _ (l.invariant.1 log rows order lists v) c.loop-i-test.true
+          (c.session_poll.ensures log rows order lists v),
     )
 
-same_length : tie.Need-same-length invariant-loop decreases-loop
-same_length c = c.before.loop.invariant.0
+shape_of-histories : tie.Need-shape_of-histories invariant-loop-i decreases-loop-i
+shape_of-histories c = c.loop-i.invariant.0
 
-returns : tie.Need-returns invariant-loop decreases-loop
+returns : tie.Need-returns invariant-loop-i decreases-loop-i
 returns c = λ log rows order lists v.
-    let l = c.before.loop in
-    mapped_all _ l.i _ l.histories (l.invariant.1 log rows order lists v) (omega (arith, c.loop-test.false))
+    let l = c.loop-i in
+    mapped_all _ l.i _ l.histories (l.invariant.1 log rows order lists v) (omega (arith, c.loop-i-test.false))
 
-pub poll-each-spec : {M : Type 1} → statement M
-poll-each-spec =
+pub poll_each_spec : {M : Type 1} → statement M
+poll_each_spec =
     tie.close
     (tie.spec
-    invariant-loop
-    decreases-loop
-    loop-holds
-    mul-h
-    slice-read-h
-    session-poll-requires
-    mul-histories
-    slice-write-histories
-    add-i
-    loop-less
-    loop-again
-    same_length
+    invariant-loop-i
+    decreases-loop-i
+    loop-i-init
+    offset_bounds-histories-i
+    bounds-histories-i
+    session_poll-requires
+    offset_bounds-histories-i-in-loop-i
+    bounds-histories-i-in-loop-i
+    overflow_add-i
+    loop-i-smaller
+    loop-i-preserved
+    shape_of-histories
     returns)

@@ -7,22 +7,28 @@ use Rattle.c_api.proofs.polls.session_poll.Statement.{statement}
 use Rattle.c_api.proofs.polls.session_poll.Tie as tie
 
 poll-requires : tie.Need-poll-requires
-poll-requires c κs = c.before.before.requires c.if1.true
+poll-requires c κs = c.requires c.if-session.true
 
-poll-number-requires : tie.Need-poll-number-requires
-poll-number-requires c κs = search rules
+poll_number-requires : tie.Need-poll_number-requires
+poll_number-requires c κs = search rules
+
+returns-then-session : tie.Need-returns-then-session
+returns-then-session c = λ log rows order lists v.
+    let a = c.args in
+    let asked = c.poll in
+    poll-opened a.session (lent log rows order a.book.now lists) a.h c.poll_number.result (polled_of asked.result)
+    c.if-session.true c.poll_number.ensures (asked.ensures log rows order (v.site c.if-session.true))
 
 returns : tie.Need-returns
 returns c = λ log rows order lists v.
-    let a = c.before.before.before.before.args in
-    let asked = c.before.poll in
-    poll-opened a.session (lent log rows order a.book.now lists) a.h c.poll-number.result (polled_of asked.result)
-    c.before.before.if1.true c.poll-number.ensures (asked.ensures log rows order (v.site c.before.before.if1.true))
+    let a = c.args in
+    poll-before a.session (lent log rows order a.book.now lists) a.h c.if-session.false
 
-returns-2 : tie.Need-returns-2
-returns-2 c = λ log rows order lists v.
-    let a = c.before.before.args in
-    poll-before a.session (lent log rows order a.book.now lists) a.h c.if1.false
-
-pub session-poll-spec : {M : Type 1} → statement M
-session-poll-spec = tie.close (tie.spec poll-requires poll-number-requires returns returns-2)
+pub session_poll_spec : {M : Type 1} → statement M
+session_poll_spec =
+    tie.close
+    (tie.spec
+    poll-requires
+    poll_number-requires
+    returns-then-session
+    returns)

@@ -14,57 +14,57 @@ use Rattle.c_api.proofs.polls.session_polls.Tie as tie
 abbrev blank : List ℕ → Lent
 blank log = lent log (replicate (64 * row_width) 0) (replicate 64 0) (replicate (16 * width) 0) (replicate 68 0)
 
-run-session-requires : tie.Need-run-session-requires
-run-session-requires c κs = search rules
+run_session-r-requires : tie.Need-run_session-r-requires
+run_session-r-requires c κs = search rules
 
-poll-each-requires : tie.Need-poll-each-requires
-poll-each-requires c κs =
-    let r = c.before.before.before.before.before.before.before.before.run-session in
-    λ o. (r.new.1.0, r.new.1.1.0, r.new.1.1.1.0, r.ensures.valid.site o)
+poll_each-requires : tie.Need-poll_each-requires
+poll_each-requires c κs =
+    let r = c.run_session-r in
+    λ o. (r.new.log, r.new.rows, r.new.order, r.ensures.valid.site o)
 
-same_length : tie.Need-same-length
-same_length c = search rules
+shape_of-log-then-r : tie.Need-shape_of-log-then-r
+shape_of-log-then-r c = search rules
 
-same-length-2 : tie.Need-same-length-2
-same-length-2 c = search rules
+shape_of-out-then-r : tie.Need-shape_of-out-then-r
+shape_of-out-then-r c = search rules
 
-same-length-3 : tie.Need-same-length-3
-same-length-3 c = search rules
+shape_of-histories-then-r : tie.Need-shape_of-histories-then-r
+shape_of-histories-then-r c = search rules
+
+returns-then-r : tie.Need-returns-then-r
+returns-then-r c =
+    let a = c.args in
+    let r = c.run_session-r in
+    let new = lent r.new.log r.new.rows r.new.order r.new.book r.new.lists in
+    let page = r.new.out in
+    let p = c.poll_each in
+    polls-whole a.input.now (blank a.log.now) r.result new a.out.now page a.histories.now r.ensures p.new.histories
+    c.if-r.true (p.ensures new.log new.rows new.order new.lists r.ensures.valid)
+
+shape_of-log : tie.Need-shape_of-log
+shape_of-log c = search rules
+
+shape_of-out : tie.Need-shape_of-out
+shape_of-out c = search rules
 
 returns : tie.Need-returns
 returns c =
-    let a = c.before.before.before.before.before.before.before.before.before.before.before.before.before.before.before.before.before.before.before.before.before.before.args in
-    let r = c.before.before.before.before.before.before.before.before.before.before.before.run-session in
-    let new = lent r.new.1.0 r.new.1.1.0 r.new.1.1.1.0 r.new.1.1.1.1.0 r.new.1.1.1.1.1.0 in
-    let page = r.new.1.1.1.1.1.1.0 in
-    let p = c.before.before.poll-each in
-    polls-whole a.input.now (blank a.log.now) r.result new a.out.now page a.histories.now r.ensures p.new.1.1.0
-    c.before.before.before.before.before.if1.true (p.ensures new.log new.rows new.order new.lists r.ensures.valid)
+    let a = c.args in
+    let r = c.run_session-r in
+    let new = lent r.new.log r.new.rows r.new.order r.new.book r.new.lists in
+    let page = r.new.out in
+    polls-part a.input.now (blank a.log.now) r.result new a.out.now page a.histories.now r.ensures c.if-r.false
 
-same-length-4 : tie.Need-same-length-4
-same-length-4 c = search rules
-
-same-length-5 : tie.Need-same-length-5
-same-length-5 c = search rules
-
-returns-2 : tie.Need-returns-2
-returns-2 c =
-    let a = c.before.before.before.before.before.before.before.before.before.before.before.before.before.before.before.before.before.args in
-    let r = c.before.before.before.before.before.before.run-session in
-    let new = lent r.new.1.0 r.new.1.1.0 r.new.1.1.1.0 r.new.1.1.1.1.0 r.new.1.1.1.1.1.0 in
-    let page = r.new.1.1.1.1.1.1.0 in
-    polls-part a.input.now (blank a.log.now) r.result new a.out.now page a.histories.now r.ensures c.if1.false
-
-pub session-polls-spec : {M : Type 1} → statement M
-session-polls-spec =
+pub session_polls_spec : {M : Type 1} → statement M
+session_polls_spec =
     tie.close
     (tie.spec
-    run-session-requires
-    poll-each-requires
-    same_length
-    same-length-2
-    same-length-3
-    returns
-    same-length-4
-    same-length-5
-    returns-2)
+    run_session-r-requires
+    poll_each-requires
+    shape_of-log-then-r
+    shape_of-out-then-r
+    shape_of-histories-then-r
+    returns-then-r
+    shape_of-log
+    shape_of-out
+    returns)

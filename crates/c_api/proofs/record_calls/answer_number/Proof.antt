@@ -6,53 +6,52 @@ use borrow.Author.Rules.{rules}
 use Rattle.c_api.proofs.record_calls.answer_number.Statement.{statement}
 use Rattle.c_api.proofs.record_calls.answer_number.Tie as tie
 
-enum-known-a : tie.Need-enum-known-a
-enum-known-a c = search rules
+enum_known-a : tie.Need-enum_known-a
+enum_known-a c = search rules
 
-refusal-number-requires : tie.Need-refusal-number-requires
-refusal-number-requires c κs = search rules
+refusal_number-requires : tie.Need-refusal_number-requires
+refusal_number-requires c κs = search rules
 
-enum_told : tie.Need-enum-told
-enum_told c = search rules
+enum_told-1 : tie.Need-enum_told-1
+enum_told-1 c = search rules
 
-add-result : tie.Need-overflow-add-result
-add-result c = search rules
+overflow_add-result : tie.Need-overflow_add-result
+overflow_add-result c = search rules
 
-enum-told-2 : tie.Need-enum-told-2
-enum-told-2 c = search rules
+enum_told-in-Persistent : tie.Need-enum_told-in-Persistent
+enum_told-in-Persistent c = search rules
 
-enum-told-3 : tie.Need-enum-told-3
-enum-told-3 c = search rules
+enum_told-in-NotPersistent : tie.Need-enum_told-in-NotPersistent
+enum_told-in-NotPersistent c = search rules
 
-returns : tie.Need-returns
+returns-in-Refused : tie.Need-returns-in-Refused
 unfolding answer_number
-returns c =
-    let s = c.before.before.before.before in
-    c.refusal-number.ensures ∙ sym (ap (λ (x : Answer). answer_number x s.args.count) c.before.before.a.given.1)
+returns-in-Refused c =
+    c.refusal_number.ensures ∙ sym (ap (λ (x : Answer). answer_number x c.args.count) c.in-Refused.is)
 
-returns-2 : tie.Need-returns-2
+returns-in-Done : tie.Need-returns-in-Done
 unfolding answer_number
-returns-2 c = sym (ap (λ (x : Answer). answer_number x c.before.before.args.count) c.enum_told.given.1)
+returns-in-Done c = sym (ap (λ (x : Answer). answer_number x c.args.count) c.in-Done.is)
 
-returns-3 : tie.Need-returns-3
+returns-in-Persistent : tie.Need-returns-in-Persistent
 unfolding answer_number
-returns-3 c = sym (ap (λ (x : Answer). answer_number x c.before.before.args.count) c.enum-told2.given.1)
+returns-in-Persistent c = sym (ap (λ (x : Answer). answer_number x c.args.count) c.in-Persistent.is)
 
-returns-4 : tie.Need-returns-4
+returns-in-NotPersistent : tie.Need-returns-in-NotPersistent
 unfolding answer_number
-returns-4 c = sym (ap (λ (x : Answer). answer_number x c.before.before.args.count) c.enum-told3.given.1)
+returns-in-NotPersistent c = sym (ap (λ (x : Answer). answer_number x c.args.count) c.in-NotPersistent.is)
 
-pub answer-number-spec : {M : Type 1} → statement M
-answer-number-spec =
+pub answer_number_spec : {M : Type 1} → statement M
+answer_number_spec =
     tie.close
     (tie.spec
-    enum-known-a
-    refusal-number-requires
-    enum_told
-    add-result
-    enum-told-2
-    enum-told-3
-    returns
-    returns-2
-    returns-3
-    returns-4)
+    enum_known-a
+    refusal_number-requires
+    enum_told-1
+    overflow_add-result
+    enum_told-in-Persistent
+    enum_told-in-NotPersistent
+    returns-in-Refused
+    returns-in-Done
+    returns-in-Persistent
+    returns-in-NotPersistent)

@@ -4,11 +4,15 @@ use Rattle.c_api.specs.RecordCallLaws.{few_are, many_are_not}
 use Rattle.c_api.proofs.record_calls.are_records.Statement.{statement}
 use Rattle.c_api.proofs.record_calls.are_records.Tie as tie
 
-returns : tie.Need-returns
-returns c = few_are c.before.args.count c.before.args.words.now c.if1.true
+returns-then-count-le-LIMIT : tie.Need-returns-then-count-le-LIMIT
+returns-then-count-le-LIMIT c = few_are c.args.count c.args.words.now c.if-count-le-LIMIT.true
 
-returns-2 : tie.Need-returns-2
-returns-2 c = many_are_not c.before.args.count c.before.args.words.now (omega (arith, c.if1.false))
+returns-else-count-le-LIMIT : tie.Need-returns-else-count-le-LIMIT
+returns-else-count-le-LIMIT c = many_are_not c.args.count c.args.words.now (omega (arith, c.if-count-le-LIMIT.false))
 
-pub are-records-spec : {M : Type 1} → statement M
-are-records-spec = tie.close (tie.spec returns returns-2)
+pub are_records_spec : {M : Type 1} → statement M
+are_records_spec =
+    tie.close
+    (tie.spec
+    returns-then-count-le-LIMIT
+    returns-else-count-le-LIMIT)

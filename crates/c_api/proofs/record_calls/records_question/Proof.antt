@@ -7,33 +7,37 @@ use borrow.Author.Rules.{rules}
 use Rattle.c_api.proofs.record_calls.records_question.Statement.{statement}
 use Rattle.c_api.proofs.record_calls.records_question.Tie as tie
 
-are-records-requires : tie.Need-are-records-requires
-are-records-requires c κs = search rules
+are_records-requires : tie.Need-are_records-requires
+are_records-requires c κs = search rules
 
-question-requires : tie.Need-question-requires
-question-requires c κs =
-    let a = c.before.before.before.args in
-    are_valid a.count a.words.now (sym c.before.are-records.ensures ∙ c.if1.true)
+question-a-requires : tie.Need-question-a-requires
+question-a-requires c κs =
+    let a = c.args in
+    are_valid a.count a.words.now (sym c.are_records.ensures ∙ c.if-are_records.true)
 
-answer-number-requires : tie.Need-answer-number-requires
-answer-number-requires c κs =
-    let a = c.before.before.before.before.args in
-    (are_valid a.count a.words.now (sym c.before.before.are-records.ensures ∙ c.before.if1.true)).few
+answer_number-requires : tie.Need-answer_number-requires
+answer_number-requires c κs =
+    let a = c.args in
+    (are_valid a.count a.words.now (sym c.are_records.ensures ∙ c.if-are_records.true)).few
+
+returns-then-are_records : tie.Need-returns-then-are_records
+returns-then-are_records c =
+    let a = c.args in
+    asked a.id a.count a.words.now c.question-a.result c.answer_number.result
+    (sym c.are_records.ensures ∙ c.if-are_records.true) c.question-a.ensures c.answer_number.ensures
 
 returns : tie.Need-returns
 returns c =
-    let tested = c.before.before in
-    let a = tested.before.before.before.args in
-    asked a.id a.count a.words.now c.before.question.result c.answer-number.result
-    (sym tested.before.are-records.ensures ∙ tested.if1.true) c.before.question.ensures c.answer-number.ensures
-
-returns-2 : tie.Need-returns-2
-returns-2 c =
-    let a = c.before.before.before.args in
+    let a = c.args in
     asked-not a.count a.words.now (question a.id (records_in a.count a.words.now))
-    (sym c.before.are-records.ensures ∙ c.if1.false)
+    (sym c.are_records.ensures ∙ c.if-are_records.false)
 
-pub records-question-spec : {M : Type 1} → statement M
-records-question-spec =
+pub records_question_spec : {M : Type 1} → statement M
+records_question_spec =
     tie.close
-    (tie.spec are-records-requires question-requires answer-number-requires returns returns-2)
+    (tie.spec
+    are_records-requires
+    question-a-requires
+    answer_number-requires
+    returns-then-are_records
+    returns)

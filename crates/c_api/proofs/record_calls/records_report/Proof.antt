@@ -7,48 +7,44 @@ use borrow.Author.Rules.{rules}
 use Rattle.c_api.proofs.record_calls.records_report.Statement.{statement}
 use Rattle.c_api.proofs.record_calls.records_report.Tie as tie
 
-are-records-requires : tie.Need-are-records-requires
-are-records-requires c κs = search rules
+are_records-requires : tie.Need-are_records-requires
+are_records-requires c κs = search rules
 
-report-requires : tie.Need-report-requires
-report-requires c κs =
-    let asked = c.before.before in
-    let a = asked.before.before.before.args in
-    are_valid a.count a.words.now (sym asked.are-records.ensures ∙ c.before.if1.true)
+report-r-requires : tie.Need-report-r-requires
+report-r-requires c κs =
+    let a = c.args in
+    are_valid a.count a.words.now (sym c.are_records.ensures ∙ c.if-are_records.true)
 
-result-number-requires : tie.Need-result-number-requires
-result-number-requires c κs = search rules
+result_number-requires : tie.Need-result_number-requires
+result_number-requires c κs = search rules
 
-same_length : tie.Need-same-length
-same_length c = search rules
+shape_of-words-then-are_records : tie.Need-shape_of-words-then-are_records
+shape_of-words-then-are_records c = search rules
+
+returns-then-are_records : tie.Need-returns-then-are_records
+returns-then-are_records c =
+    let a = c.args in
+    replies_does a.count a.words.now (sym c.are_records.ensures ∙ c.if-are_records.true) c.report-r.result
+    c.report-r.new.words (report a.id a.site (records_in a.count a.words.now)) c.report-r.ensures
+    c.result_number.result c.result_number.ensures
+
+shape_of-words : tie.Need-shape_of-words
+shape_of-words c = search rules
 
 returns : tie.Need-returns
 returns c =
-    let done = c.before.before.before in
-    let tested = done.before.before in
-    let asked = tested.before in
-    let a = asked.before.before.before.args in
-    replies_does a.count a.words.now (sym asked.are-records.ensures ∙ tested.if1.true) done.report.result
-    done.report.new.1.0 (report a.id a.site (records_in a.count a.words.now)) done.report.ensures
-    c.result-number.result c.result-number.ensures
-
-same-length-2 : tie.Need-same-length-2
-same-length-2 c = search rules
-
-returns-2 : tie.Need-returns-2
-returns-2 c =
-    let a = c.before.before.before.before.args in
+    let a = c.args in
     replies-not a.count a.words.now (report a.id a.site (records_in a.count a.words.now))
-    (sym c.before.are-records.ensures ∙ c.if1.false)
+    (sym c.are_records.ensures ∙ c.if-are_records.false)
 
-pub records-report-spec : {M : Type 1} → statement M
-records-report-spec =
+pub records_report_spec : {M : Type 1} → statement M
+records_report_spec =
     tie.close
     (tie.spec
-    are-records-requires
-    report-requires
-    result-number-requires
-    same_length
-    returns
-    same-length-2
-    returns-2)
+    are_records-requires
+    report-r-requires
+    result_number-requires
+    shape_of-words-then-are_records
+    returns-then-are_records
+    shape_of-words
+    returns)

@@ -6,27 +6,32 @@ use borrow.Author.Rules.{rules}
 use Rattle.c_api.proofs.removals.log_removals.Statement.{statement}
 use Rattle.c_api.proofs.removals.log_removals.Tie as tie
 
-report-requires : tie.Need-report-requires
-report-requires c κs = search rules
+report-r-requires : tie.Need-report-r-requires
+report-r-requires c κs = search rules
 
-removals-number-requires : tie.Need-removals-number-requires
-removals-number-requires c κs = λ k e.
-    let a = c.before.before.before.before.before.before.before.before.args in
-    let u = c.before.before.report in
-    let f = removals_few (report a.log.now (pairs_of a.pairs.now) a.lost.now (length a.out.now)) a.out.now u.result u.new.1.1.1.0 u.ensures k e in
+removals_number-requires : tie.Need-removals_number-requires
+removals_number-requires c κs = λ k e.
+    let a = c.args in
+    let u = c.report-r in
+    let f = removals_few (report a.log.now (pairs_of a.pairs.now) a.lost.now (length a.out.now)) a.out.now u.result u.new.out u.ensures k e in
     let h = u.auto in
     search rules
 
-same_length : tie.Need-same-length
-same_length c = search rules
+shape_of-out : tie.Need-shape_of-out
+shape_of-out c = search rules
 
 returns : tie.Need-returns
 returns c =
-    let a = c.before.before.before.before.before.before.before.before.before.args in
-    let u = c.before.before.before.report in
-    removals_number_lem (report a.log.now (pairs_of a.pairs.now) a.lost.now (length a.out.now)) a.out.now u.result u.new.1.1.1.0 c.removals_number_lem.result u.ensures
-    c.removals_number_lem.ensures
+    let a = c.args in
+    let u = c.report-r in
+    removals_number_lem (report a.log.now (pairs_of a.pairs.now) a.lost.now (length a.out.now)) a.out.now u.result u.new.out c.removals_number.result u.ensures
+    c.removals_number.ensures
 
-pub log-removals-spec : {M : Type 1} → statement M
-log-removals-spec =
-    tie.close (tie.spec report-requires removals-number-requires same_length returns)
+pub log_removals_spec : {M : Type 1} → statement M
+log_removals_spec =
+    tie.close
+    (tie.spec
+    report-r-requires
+    removals_number-requires
+    shape_of-out
+    returns)

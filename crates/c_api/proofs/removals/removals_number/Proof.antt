@@ -6,42 +6,42 @@ use borrow.Author.Rules.{rules}
 use Rattle.c_api.proofs.removals.removals_number.Statement.{statement}
 use Rattle.c_api.proofs.removals.removals_number.Tie as tie
 
-enum-known-r : tie.Need-enum-known-r
-enum-known-r c = search rules
+enum_known-r : tie.Need-enum_known-r
+enum_known-r c = search rules
 
-add-result : tie.Need-overflow-add-result
-add-result c = let z = c.before.before.before.requires c.before.r.given.0.0 c.before.r.given.1 in omega arith
+overflow_add-result : tie.Need-overflow_add-result
+overflow_add-result c = let z = c.requires c.in-Named.k c.in-Named.is in omega arith
 
-enum-known-r-2 : tie.Need-enum-known-r-2
-enum-known-r-2 c = search rules
+enum_known-r-in-Refused-1 : tie.Need-enum_known-r-in-Refused-1
+enum_known-r-in-Refused-1 c = search rules
 
-refusal-number-requires : tie.Need-refusal-number-requires
-refusal-number-requires c κs = search rules
+refusal_number-requires : tie.Need-refusal_number-requires
+refusal_number-requires c κs = search rules
 
-enum_told : tie.Need-enum-told
-enum_told c = search rules
+enum_told-1 : tie.Need-enum_told-1
+enum_told-1 c = search rules
 
-returns : tie.Need-returns
+returns-in-Named : tie.Need-returns-in-Named
 unfolding removals_number
-returns c = sym (ap removals_number c.before.r.given.1)
+returns-in-Named c = sym (ap removals_number c.in-Named.is)
 
-returns-2 : tie.Need-returns-2
+returns-in-Refused : tie.Need-returns-in-Refused
 unfolding removals_number
-returns-2 c = c.refusal-number.ensures ∙ sym (ap removals_number c.before.before.r2.given.1)
+returns-in-Refused c = c.refusal_number.ensures ∙ sym (ap removals_number c.in-Refused.is)
 
-returns-3 : tie.Need-returns-3
+returns-in-NotAmong : tie.Need-returns-in-NotAmong
 unfolding removals_number
-returns-3 c = sym (ap removals_number c.enum_told.given.1)
+returns-in-NotAmong c = sym (ap removals_number c.in-NotAmong.is)
 
-pub removals-number-spec : {M : Type 1} → statement M
-removals-number-spec =
+pub removals_number_spec : {M : Type 1} → statement M
+removals_number_spec =
     tie.close
     (tie.spec
-    enum-known-r
-    add-result
-    enum-known-r-2
-    refusal-number-requires
-    enum_told
-    returns
-    returns-2
-    returns-3)
+    enum_known-r
+    overflow_add-result
+    enum_known-r-in-Refused-1
+    refusal_number-requires
+    enum_told-1
+    returns-in-Named
+    returns-in-Refused
+    returns-in-NotAmong)

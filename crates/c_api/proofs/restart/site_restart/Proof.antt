@@ -23,33 +23,32 @@ os = replicate 64 0
 abbrev bs : List ℕ
 bs = replicate (16 * width) 0
 
-restart-requires : tie.Need-restart-requires
-restart-requires c κs = search rules
+restart-c-requires : tie.Need-restart-c-requires
+restart-c-requires c κs = search rules
 
-slice-aggregate-write-reply : tie.Need-slice-aggregate-write-reply
-slice-aggregate-write-reply c = search rules
-
-slice-aggregate-write-reply-2 : tie.Need-slice-aggregate-write-reply-2
-slice-aggregate-write-reply-2 c = search rules
-
-write-reply-requires : tie.Need-write-reply-requires
-write-reply-requires c κs = (omega arith, omega arith)
+write_reply-w-requires : tie.Need-write_reply-w-requires
+write_reply-w-requires c κs = (omega arith, omega arith)
 
 code-requires : tie.Need-code-requires
 code-requires c κs = search rules
 
-same_length : tie.Need-same-length
-same_length c = search rules
+shape_of-out : tie.Need-shape_of-out
+shape_of-out c = search rules
 
 returns : tie.Need-returns
 returns c =
-    let e = c.before.before.before.before.before.before.before.before.before.before.before.before.before.before in
-    let bytes = e.args.log.now in
-    let r = c.before.before.before.before.before.before.before.before.restart in
-    let w = c.before.before.before.write-reply in
-    puts_reply blank_site (lent bytes rs os bs []) (restart bytes e.args.k) r.result bytes r.new.1.0 r.new.1.1.0 r.new.1.1.1.0
-    e.args.out.now w.new.0 w.result c.code.result (r.ensures []) w.ensures.0 c.code.ensures
+    let bytes = c.args.log.now in
+    let r = c.restart-c in
+    let w = c.write_reply-w in
+    puts_reply blank_site (lent bytes rs os bs []) (restart bytes c.args.k) r.result bytes r.new.rows r.new.order r.new.book
+    c.args.out.now w.new.buf w.result c.code.result (r.ensures []) w.ensures.0 c.code.ensures
 
-pub site-restart-spec : {M : Type 1} → statement M
-site-restart-spec =
-    tie.close (tie.spec restart-requires slice-aggregate-write-reply slice-aggregate-write-reply-2 write-reply-requires code-requires same_length returns)
+pub site_restart_spec : {M : Type 1} → statement M
+site_restart_spec =
+    tie.close
+    (tie.spec
+    restart-c-requires
+    write_reply-w-requires
+    code-requires
+    shape_of-out
+    returns)

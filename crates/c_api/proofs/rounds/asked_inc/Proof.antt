@@ -11,5 +11,8 @@ returns c =
     let a = as_asked (inc_of c.args.history c.args.version) in
     held_one c.args.history c.args.version (a ∷ a ∷ a ∷ [])
 
-pub asked-inc-spec : {M : Type 1} → statement M
-asked-inc-spec = tie.close (tie.spec returns)
+pub asked_inc_spec : {M : Type 1} → statement M
+asked_inc_spec =
+    tie.close
+    (tie.spec
+    returns)

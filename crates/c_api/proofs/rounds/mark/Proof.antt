@@ -6,34 +6,34 @@ use borrow.Author.Rules.{rules}
 use Rattle.c_api.proofs.rounds.mark.Statement.{statement}
 use Rattle.c_api.proofs.rounds.mark.Tie as tie
 
-persistent-requires : tie.Need-persistent-requires
-persistent-requires c κs = c.before.before.before.before.before.before.requires
+persistent-p-requires : tie.Need-persistent-p-requires
+persistent-p-requires c κs = c.requires
 
-stable-requires : tie.Need-stable-requires
-stable-requires c κs =
-    let e = c.before.before.before.before.before.before.before.before.before.before.before.before.before.before in
-    let m = lent e.args.log.now e.args.rows.now e.args.order.now e.args.book.now e.args.lists.now in
-    let p = c.before.before.before.before.before.before.before.persistent in
-    let mid = lent e.args.log.now e.args.rows.now p.new.1.1.1.0 p.new.1.1.1.1.0 p.new.1.1.1.1.1.0 in
-    let valid = (call_reaches e.args.site m (Call.Persistent e.args.n) p.result mid e.requires p.ensures).valid in
+stable-s-requires : tie.Need-stable-s-requires
+stable-s-requires c κs =
+    let m = lent c.args.log.now c.args.rows.now c.args.order.now c.args.book.now c.args.lists.now in
+    let p = c.persistent-p in
+    let mid = lent c.args.log.now c.args.rows.now p.new.order p.new.book p.new.lists in
+    let valid = (call_reaches c.args.site m (Call.Persistent c.args.n) p.result mid c.requires p.ensures).valid in
     valid
 
-same_length : tie.Need-same-length
-same_length c = search rules
+shape_of-log : tie.Need-shape_of-log
+shape_of-log c = search rules
 
 returns : tie.Need-returns
 returns c =
-    let e = c.before.before.before.before.before.before.before.before.before.before.before.before.before.before.before.before.before.before in
-    let m = lent e.args.log.now e.args.rows.now e.args.order.now e.args.book.now e.args.lists.now in
-    let p = c.before.before.before.before.before.before.before.before.before.before.before.persistent in
-    let mid = lent e.args.log.now e.args.rows.now p.new.1.1.1.0 p.new.1.1.1.1.0 p.new.1.1.1.1.1.0 in
-    let s = c.before.before.before.stable in
-    two_reach e.args.site m (Call.Persistent e.args.n) p.result mid (Call.Stable e.args.n) s.result
-    (lent s.new.1.0 e.args.rows.now p.new.1.1.1.0 s.new.1.1.1.1.0 s.new.1.1.1.1.1.0) e.requires p.ensures s.ensures
+    let m = lent c.args.log.now c.args.rows.now c.args.order.now c.args.book.now c.args.lists.now in
+    let p = c.persistent-p in
+    let mid = lent c.args.log.now c.args.rows.now p.new.order p.new.book p.new.lists in
+    let s = c.stable-s in
+    two_reach c.args.site m (Call.Persistent c.args.n) p.result mid (Call.Stable c.args.n) s.result
+    (lent s.new.log c.args.rows.now p.new.order s.new.book s.new.lists) c.requires p.ensures s.ensures
 
 pub mark_spec : {M : Type 1} → statement M
-mark_spec = tie.close (tie.spec
-    persistent-requires
-    stable-requires
-    same_length
+mark_spec =
+    tie.close
+    (tie.spec
+    persistent-p-requires
+    stable-s-requires
+    shape_of-log
     returns)

@@ -8,49 +8,47 @@ use borrow.Author.Rules.{rules}
 use Rattle.c_api.proofs.rounds.one_operation.Statement.{statement}
 use Rattle.c_api.proofs.rounds.one_operation.Tie as tie
 
-add-asked-inc : tie.Need-overflow-add-asked-inc
-add-asked-inc c = search rules
+overflow_add-id : tie.Need-overflow_add-id
+overflow_add-id c = search rules
 
-asked-inc-requires : tie.Need-asked-inc-requires
-asked-inc-requires c κs = search rules
+asked_inc-asked-requires : tie.Need-asked_inc-asked-requires
+asked_inc-asked-requires c κs = search rules
 
-add-requires : tie.Need-add-requires
-add-requires c κs = c.before.before.before.before.before.before.before.before.requires
+add-a-requires : tie.Need-add-a-requires
+add-a-requires c κs = c.requires
 
-finish-requires : tie.Need-finish-requires
-finish-requires c κs =
-    let e = c.before.before.before.before.before.before.before.before.before.before.before.before.before.before.before in
-    let asked = c.before.before.before.before.before.before.before.before.before.before.before.before.before.asked-inc in
-    let add = c.before.before.before.before.before.before.add in
-    let m = lent e.args.log.now e.args.rows.now e.args.order.now e.args.book.now e.args.lists.now in
-    let mid = lent e.args.log.now add.new.1.1.0 e.args.order.now add.new.1.1.1.1.0 add.new.1.1.1.1.1.0 in
-    let valid = (call_reaches e.args.site m (Call.Add e.args.id (updates_held asked.result)) add.result mid e.requires
-    (steps_alone e.args.site m (Call.Add e.args.id (updates_held asked.result)) add.result mid c.before.before.before.before.before.before.before.before.before.add-arg4.given.0 add.ensures)).valid in
+finish-f-requires : tie.Need-finish-f-requires
+finish-f-requires c κs =
+    let asked = c.asked_inc-asked in
+    let add = c.add-a in
+    let m = lent c.args.log.now c.args.rows.now c.args.order.now c.args.book.now c.args.lists.now in
+    let mid = lent c.args.log.now add.new.rows c.args.order.now add.new.book add.new.lists in
+    let valid = (call_reaches c.args.site m (Call.Add c.args.id (updates_held asked.result)) add.result mid c.requires
+    (steps_alone c.args.site m (Call.Add c.args.id (updates_held asked.result)) add.result mid c.add-arg-4-1.given add.ensures)).valid in
     valid
 
-same_length : tie.Need-same-length
-same_length c = search rules
+shape_of-log : tie.Need-shape_of-log
+shape_of-log c = search rules
 
 returns : tie.Need-returns
 returns c =
-    let e = c.before.before.before.before.before.before.before.before.before.before.before.before.before.before.before.before.before.before.before in
-    let asked = c.before.before.before.before.before.before.before.before.before.before.before.before.before.before.before.before.before.asked-inc in
-    let add = c.before.before.before.before.before.before.before.before.before.before.add in
-    let finish = c.before.before.before.finish in
-    let m = lent e.args.log.now e.args.rows.now e.args.order.now e.args.book.now e.args.lists.now in
-    let mid = lent e.args.log.now add.new.1.1.0 e.args.order.now add.new.1.1.1.1.0 add.new.1.1.1.1.1.0 in
-    two_reach e.args.site m _ add.result mid (Call.Finish e.args.id) finish.result
-    (lent finish.new.1.0 finish.new.1.1.0 finish.new.1.1.1.0 finish.new.1.1.1.1.0 finish.new.1.1.1.1.1.0) e.requires
-    (adds_updates e.args.site m e.args.id (updates_held asked.result) _ add.result mid asked.ensures
-    (steps_alone e.args.site m (Call.Add e.args.id (updates_held asked.result)) add.result mid c.before.before.before.before.before.before.before.before.before.before.before.before.before.add-arg4.given.0 add.ensures)) finish.ensures
+    let asked = c.asked_inc-asked in
+    let add = c.add-a in
+    let finish = c.finish-f in
+    let m = lent c.args.log.now c.args.rows.now c.args.order.now c.args.book.now c.args.lists.now in
+    let mid = lent c.args.log.now add.new.rows c.args.order.now add.new.book add.new.lists in
+    two_reach c.args.site m _ add.result mid (Call.Finish c.args.id) finish.result
+    (lent finish.new.log finish.new.rows finish.new.order finish.new.book finish.new.lists) c.requires
+    (adds_updates c.args.site m c.args.id (updates_held asked.result) _ add.result mid asked.ensures
+    (steps_alone c.args.site m (Call.Add c.args.id (updates_held asked.result)) add.result mid c.add-arg-4-1.given add.ensures)) finish.ensures
 
-pub one-operation-spec : {M : Type 1} → statement M
-one-operation-spec =
+pub one_operation_spec : {M : Type 1} → statement M
+one_operation_spec =
     tie.close
     (tie.spec
-    add-asked-inc
-    asked-inc-requires
-    add-requires
-    finish-requires
-    same_length
+    overflow_add-id
+    asked_inc-asked-requires
+    add-a-requires
+    finish-f-requires
+    shape_of-log
     returns)

@@ -7,48 +7,46 @@ use borrow.Author.Rules.{rules}
 use Rattle.c_api.proofs.rounds.round.Statement.{statement}
 use Rattle.c_api.proofs.rounds.round.Tie as tie
 
-one-operation-requires : tie.Need-one-operation-requires
-one-operation-requires c κs = search rules
+one_operation-worked-requires : tie.Need-one_operation-worked-requires
+one_operation-worked-requires c κs = search rules
 
-add-mark : tie.Need-overflow-add-mark
-add-mark c = search rules
+overflow_add-id : tie.Need-overflow_add-id
+overflow_add-id c = search rules
 
 mark-requires : tie.Need-mark-requires
 mark-requires c κs = search rules
 
-same_length : tie.Need-same-length
-same_length c = search rules
+shape_of-log-then-id-eq31 : tie.Need-shape_of-log-then-id-eq31
+shape_of-log-then-id-eq31 c = search rules
+
+returns-then-id-eq31 : tie.Need-returns-then-id-eq31
+returns-then-id-eq31 c =
+    let o = c.one_operation-worked in
+    let k = c.mark in
+    let m = lent c.args.log.now c.args.rows.now c.args.order.now c.args.book.now c.args.lists.now in
+    let mid = lent o.new.log o.new.rows o.new.order o.new.book o.new.lists in
+    let new = lent k.new.log o.new.rows k.new.order k.new.book k.new.lists in
+    marked_reach c.args.site m c.args.id o.result mid k.result new _
+    (eq-eqb (c.args.id % 32) 31 c.if-id-eq31.true) o.ensures k.ensures
+
+shape_of-log : tie.Need-shape_of-log
+shape_of-log c = search rules
 
 returns : tie.Need-returns
 returns c =
-    let e = c.before.before.before.before.before.before.before.before.before.before.before.before.before.before.before.before.before.before in
-    let o = c.before.before.before.before.before.before.before.before.before.before.before.one-operation in
-    let k = c.before.before.mark in
-    let m = lent e.args.log.now e.args.rows.now e.args.order.now e.args.book.now e.args.lists.now in
-    let mid = lent o.new.1.0 o.new.1.1.0 o.new.1.1.1.0 o.new.1.1.1.1.0 o.new.1.1.1.1.1.0 in
-    let new = lent k.new.1.0 o.new.1.1.0 k.new.1.1.1.0 k.new.1.1.1.1.0 k.new.1.1.1.1.1.0 in
-    marked_reach e.args.site m e.args.id o.result mid k.result new _
-    (eq-eqb (e.args.id % 32) 31 c.before.before.before.before.before.before.before.before.if1.true) o.ensures k.ensures
+    let o = c.one_operation-worked in
+    let m = lent c.args.log.now c.args.rows.now c.args.order.now c.args.book.now c.args.lists.now in
+    unmarked_reach c.args.site m c.args.id o.result
+    (lent o.new.log o.new.rows o.new.order o.new.book o.new.lists) _ (ne_eqb (c.args.id % 32) 31 c.if-id-eq31.false) o.ensures
 
-same-length-2 : tie.Need-same-length-2
-same-length-2 c = search rules
-
-returns-2 : tie.Need-returns-2
-returns-2 c =
-    let e = c.before.before.before.before.before.before.before.before.before.before in
-    let o = c.before.before.before.one-operation in
-    let m = lent e.args.log.now e.args.rows.now e.args.order.now e.args.book.now e.args.lists.now in
-    unmarked_reach e.args.site m e.args.id o.result
-    (lent o.new.1.0 o.new.1.1.0 o.new.1.1.1.0 o.new.1.1.1.1.0 o.new.1.1.1.1.1.0) _ (ne_eqb (e.args.id % 32) 31 c.if1.false) o.ensures
-
-pub round-spec : {M : Type 1} → statement M
-round-spec =
+pub round_spec : {M : Type 1} → statement M
+round_spec =
     tie.close
     (tie.spec
-    one-operation-requires
-    add-mark
+    one_operation-worked-requires
+    overflow_add-id
     mark-requires
-    same_length
-    returns
-    same-length-2
-    returns-2)
+    shape_of-log-then-id-eq31
+    returns-then-id-eq31
+    shape_of-log
+    returns)

@@ -37,85 +37,82 @@ bs = replicate (16 * width) 0
 abbrev ws : List ℕ
 ws = replicate 68 0
 
-abbrev invariant-loop : tie.invariant-loop
-invariant-loop log₀ n rows₀ order₀ book₀ site₀ lists₀ id₀ log rows order book site lists id = Serving n site₀ (lent log₀ rows₀ order₀ book₀ lists₀) id site (lent log rows order book lists)
+abbrev invariant-loop-id : tie.invariant-loop-id
+invariant-loop-id log₀ n rows₀ order₀ book₀ site₀ lists₀ id₀ log rows order book site lists id = Serving n site₀ (lent log₀ rows₀ order₀ book₀ lists₀) id site (lent log rows order book lists)
 
-abbrev decreases-loop : tie.decreases-loop
-decreases-loop log₀ n rows₀ order₀ book₀ site₀ lists₀ id₀ log rows order book site lists id = n - id
+abbrev decreases-loop-id : tie.decreases-loop-id
+decreases-loop-id log₀ n rows₀ order₀ book₀ site₀ lists₀ id₀ log rows order book site lists id = n - id
 
-open-requires : tie.Need-open-requires invariant-loop decreases-loop
-open-requires c κs = search rules
+open-c-requires : tie.Need-open-c-requires invariant-loop-id decreases-loop-id
+open-c-requires c κs = search rules
 
-same_length : tie.Need-same-length invariant-loop decreases-loop
-same_length c = search rules
+shape_of-log-then-site-eq0 : tie.Need-shape_of-log-then-site-eq0 invariant-loop-id decreases-loop-id
+shape_of-log-then-site-eq0 c = search rules
 
-returns : tie.Need-returns invariant-loop decreases-loop
-returns c =
-    let log = c.before.before.before.before.before.before.before.before.before.before.before.args.log.now in
-    let o = c.before.before.before.before.before.«open» in
-    not_opened (open_site 4 (length log)) _ (lent log rs os bs []) o.result (lent o.new.0 rs o.new.1.1.0 o.new.1.1.1.0 []) (o.ensures []) c.if1.true
+returns-then-site-eq0 : tie.Need-returns-then-site-eq0 invariant-loop-id decreases-loop-id
+returns-then-site-eq0 c =
+    let log = c.args.log.now in
+    let o = c.open-c in
+    not_opened (open_site 4 (length log)) _ (lent log rs os bs []) o.result (lent o.new.log rs o.new.order o.new.book []) (o.ensures []) c.if-site-eq0.true
 
-loop-holds : tie.Need-loop-init invariant-loop decreases-loop
-loop-holds c =
-    let log = c.before.before.before.before.before.before.before.before.before.before.before.args.log.now in
-    let o = c.before.before.before.before.before.«open» in
-    let mid = lent o.new.0 rs o.new.1.1.0 o.new.1.1.1.0 ws in
-    let v = opened_valid (open_site 4 (length log)) (lent log rs os bs ws) o.result mid (o.ensures ws) c.if1.false in
+loop-id-init : tie.Need-loop-id-init invariant-loop-id decreases-loop-id
+loop-id-init c =
+    let log = c.args.log.now in
+    let o = c.open-c in
+    let mid = lent o.new.log rs o.new.order o.new.book ws in
+    let v = opened_valid (open_site 4 (length log)) (lent log rs os bs ws) o.result mid (o.ensures ws) c.if-site-eq0.false in
     record { reaches = no_round _ _ v; below = omega arith; room = refl }
 
-round-requires : tie.Need-round-requires invariant-loop decreases-loop
-round-requires c κs =
-    let l = c.before.before.before.before.before.before in (
-      l.loop.invariant.reaches.valid,
-      omega (arith, c.before.before.before.before.before.loop-test.true, c.before.before.before.before.before.before.before.before.before.before.before.before.before.before.before.before.before.before.ranges.n),
+round-site-requires : tie.Need-round-site-requires invariant-loop-id decreases-loop-id
+round-site-requires c κs = (
+      c.loop-id.invariant.reaches.valid,
+      omega (arith, c.loop-id-test.true, c.ranges.n),
     )
 
-add-id : tie.Need-overflow-add-id invariant-loop decreases-loop
-add-id c =
-    let l = c.before.before.before.before.before.before.before.before in
-    omega (arith, l.loop-test.true, l.before.before.before.before.before.before.before.before.before.before.before.before.before.ranges.n)
+overflow_add-id : tie.Need-overflow_add-id invariant-loop-id decreases-loop-id
+overflow_add-id c =
+    omega (arith, c.loop-id-test.true, c.ranges.n)
 
-loop-less : tie.Need-loop-smaller invariant-loop decreases-loop
-loop-less c = omega (arith, c.before.before.before.before.before.before.before.before.loop-test.true)
+loop-id-smaller : tie.Need-loop-id-smaller invariant-loop-id decreases-loop-id
+loop-id-smaller c = omega (arith, c.loop-id-test.true)
 
-loop-again : tie.Need-loop-preserved invariant-loop decreases-loop
-loop-again c =
-    let l = c.before.before.before.before.before.before.before.before.before.loop in
-    let r = c.before.before.round in
-    let a : length r.new.1.0 ≡ length l.log = search rules in
+loop-id-preserved : tie.Need-loop-id-preserved invariant-loop-id decreases-loop-id
+loop-id-preserved c =
+    let l = c.loop-id in
+    let r = c.round-site in
+    let a : length r.new.log ≡ length l.log = search rules in
     record {
       reaches = round_more _ _ l.id _ l.site (lent l.log l.rows l.order l.book l.lists) r.result _ (omega arith) l.invariant.reaches r.ensures;
-      below = omega (arith, c.before.before.before.before.before.before.before.before.loop-test.true);
+      below = omega (arith, c.loop-id-test.true);
       room = a ∙ l.invariant.room;
     }
 
-same-length-2 : tie.Need-same-length-2 invariant-loop decreases-loop
-same-length-2 c =
-    let o = c.before.before.before.before.before.before.before in
-    let a : length o.«open».new.0 ≡ length o.before.before.before.before.before.before.args.log.now = search rules in
-    c.before.loop.invariant.room ∙ a
+shape_of-log : tie.Need-shape_of-log invariant-loop-id decreases-loop-id
+shape_of-log c =
+    let a : length c.open-c.new.log ≡ length c.args.log.now = search rules in
+    c.loop-id.invariant.room ∙ a
 
-returns-2 : tie.Need-returns-2 invariant-loop decreases-loop
-returns-2 c =
-    let log = c.before.before.before.before.before.before.before.before.before.before.before.before.before.args.log.now in
-    let o = c.before.before.before.before.before.before.before.«open» in
-    let l = c.before.loop in
-    rounds_stand (open_site 4 (length log)) _ l.id (lent log rs os bs ws) o.result (lent o.new.0 rs o.new.1.1.0 o.new.1.1.1.0 ws) l.site
-    (lent l.log l.rows l.order l.book l.lists) (o.ensures ws) c.before.before.if1.false (omega (arith, l.invariant.below, c.loop-test.false)) l.invariant.reaches
+returns : tie.Need-returns invariant-loop-id decreases-loop-id
+returns c =
+    let log = c.args.log.now in
+    let o = c.open-c in
+    let l = c.loop-id in
+    rounds_stand (open_site 4 (length log)) _ l.id (lent log rs os bs ws) o.result (lent o.new.log rs o.new.order o.new.book ws) l.site
+    (lent l.log l.rows l.order l.book l.lists) (o.ensures ws) c.if-site-eq0.false (omega (arith, l.invariant.below, c.loop-id-test.false)) l.invariant.reaches
 
-pub site-add-and-finish-spec : {M : Type 1} → statement M
-site-add-and-finish-spec =
+pub site_add_and_finish_spec : {M : Type 1} → statement M
+site_add_and_finish_spec =
     tie.close
     (tie.spec
-    invariant-loop
-    decreases-loop
-    open-requires
-    same_length
-    returns
-    loop-holds
-    round-requires
-    add-id
-    loop-less
-    loop-again
-    same-length-2
-    returns-2)
+    invariant-loop-id
+    decreases-loop-id
+    open-c-requires
+    shape_of-log-then-site-eq0
+    returns-then-site-eq0
+    loop-id-init
+    round-site-requires
+    overflow_add-id
+    loop-id-smaller
+    loop-id-preserved
+    shape_of-log
+    returns)

@@ -23,94 +23,94 @@ bs = replicate (16 * width) 0
 rows_long : length rs ≡ 128 * row_width
 rows_long = length-replicate {A = ℕ} (128 * row_width) 0
 
-new-requires : tie.Need-new-requires
-new-requires c κs = search rules
+new-empty-requires : tie.Need-new-empty-requires
+new-empty-requires c κs = search rules
 
-open-requires : tie.Need-open-requires
-open-requires c κs =
-    let a = c.before.before.before.before.before.args in
-    let w = c.before.before.new in
-    (rs, w.new.0, nothing, nothing, made_valid a.slot w.result w.new.0 w.ensures a.log.now rs bs [] rows_long)
+open-c-requires : tie.Need-open-c-requires
+open-c-requires c κs =
+    let a = c.args in
+    let w = c.new-empty in
+    (rs, w.new.numbers, nothing, nothing, made_valid a.slot w.result w.new.numbers w.ensures a.log.now rs bs [] rows_long)
 
-mul-own : tie.Need-overflow-mul-own
-mul-own c = search rules
+offset_bounds-m-slot : tie.Need-offset_bounds-m-slot
+offset_bounds-m-slot c = search rules
 
-element-copy-out-own : tie.Need-element-copy-out-own
-element-copy-out-own c = search rules
+bounds-m-slot : tie.Need-bounds-m-slot
+bounds-m-slot c = search rules
 
-slice-aggregate-slot-serve : tie.Need-slice-aggregate-slot-serve
-slice-aggregate-slot-serve c = search rules
+slice_bounds-slot_serve-end : tie.Need-slice_bounds-slot_serve-end
+slice_bounds-slot_serve-end c = search rules
 
-slice-aggregate-slot-serve-2 : tie.Need-slice-aggregate-slot-serve-2
-slice-aggregate-slot-serve-2 c = sym (c.before.before.before.before.before.before.before.before.before.before.before.before.new.ensures rs nothing nothing rows_long).valid.shared.long
+slice_bounds-slot_serve-end-then-own : tie.Need-slice_bounds-slot_serve-end-then-own
+slice_bounds-slot_serve-end-then-own c = sym (c.new-empty.ensures rs nothing nothing rows_long).valid.shared.long
 
-slot-serve-requires : tie.Need-slot-serve-requires
-slot-serve-requires c κs =
-    let a = c.before.before.before.before.before.before.before.before.before.before.before.before.before.before.before.before.args in
-    let w = c.before.before.before.before.before.before.before.before.before.before.before.before.before.new in
-    let o = c.before.before.before.before.before.before.before.before.before.before.«open» in
-    slot_ready a.slot (length a.log.now) w.result (lent a.log.now rs w.new.0 bs [])
-    (made_valid a.slot w.result w.new.0 w.ensures a.log.now rs bs [] rows_long)
-    (made_state a.slot w.result w.new.0 w.ensures a.log.now rs bs [] rows_long)
-    o.result (lent o.new.1.1.0 rs w.new.0 o.new.1.1.1.0 []) (o.ensures rs w.new.0 []) c.before.before.before.before.before.before.if1.true c.before.before.before.before.if2.true
+slot_serve-requires : tie.Need-slot_serve-requires
+slot_serve-requires c κs =
+    let a = c.args in
+    let w = c.new-empty in
+    let o = c.open-c in
+    slot_ready a.slot (length a.log.now) w.result (lent a.log.now rs w.new.numbers bs [])
+    (made_valid a.slot w.result w.new.numbers w.ensures a.log.now rs bs [] rows_long)
+    (made_state a.slot w.result w.new.numbers w.ensures a.log.now rs bs [] rows_long)
+    o.result (lent o.new.log rs w.new.numbers o.new.book []) (o.ensures rs w.new.numbers []) c.if-slot-lt-SLOTS.true c.if-own.true
 
-same_length : tie.Need-same-length
-same_length c = search rules
+shape_of-log-then-own : tie.Need-shape_of-log-then-own
+shape_of-log-then-own c = search rules
+
+returns-then-own : tie.Need-returns-then-own
+returns-then-own c =
+    let a = c.args in
+    let w = c.new-empty in
+    let o = c.open-c in
+    let k = c.slot_serve in
+    slot_rounds a.slot (length a.log.now) w.result (lent a.log.now rs w.new.numbers bs [])
+    (made_valid a.slot w.result w.new.numbers w.ensures a.log.now rs bs [] rows_long)
+    (made_state a.slot w.result w.new.numbers w.ensures a.log.now rs bs [] rows_long)
+    o.result (lent o.new.log rs w.new.numbers o.new.book []) (o.ensures rs w.new.numbers []) c.if-slot-lt-SLOTS.true c.if-own.true
+    a.n k.result k.new.log k.ensures
+
+shape_of-log-then-slot-lt-SLOTS : tie.Need-shape_of-log-then-slot-lt-SLOTS
+shape_of-log-then-slot-lt-SLOTS c = search rules
+
+returns-then-slot-lt-SLOTS : tie.Need-returns-then-slot-lt-SLOTS
+returns-then-slot-lt-SLOTS c =
+    let a = c.args in
+    let w = c.new-empty in
+    let o = c.open-c in
+    slot_shut a.slot (length a.log.now) w.result (lent a.log.now rs w.new.numbers bs [])
+    (made_valid a.slot w.result w.new.numbers w.ensures a.log.now rs bs [] rows_long)
+    (made_state a.slot w.result w.new.numbers w.ensures a.log.now rs bs [] rows_long)
+    o.result (lent o.new.log rs w.new.numbers o.new.book []) (o.ensures rs w.new.numbers []) a.n
+    (inr (c.if-slot-lt-SLOTS.true, c.if-own.false))
+
+shape_of-log : tie.Need-shape_of-log
+shape_of-log c = search rules
 
 returns : tie.Need-returns
 returns c =
-    let a = c.before.before.before.before.before.before.before.before.before.before.before.before.before.before.before.before.before.before.before.before.before.args in
-    let w = c.before.before.before.before.before.before.before.before.before.before.before.before.before.before.before.before.before.before.new in
-    let o = c.before.before.before.before.before.before.before.before.before.before.before.before.before.before.before.«open» in
-    let k = c.before.before.before.before.slot-serve in
-    slot_rounds a.slot (length a.log.now) w.result (lent a.log.now rs w.new.0 bs [])
-    (made_valid a.slot w.result w.new.0 w.ensures a.log.now rs bs [] rows_long)
-    (made_state a.slot w.result w.new.0 w.ensures a.log.now rs bs [] rows_long)
-    o.result (lent o.new.1.1.0 rs w.new.0 o.new.1.1.1.0 []) (o.ensures rs w.new.0 []) c.before.before.before.before.before.before.before.before.before.before.before.if1.true c.before.before.before.before.before.before.before.before.before.if2.true
-    a.n k.result k.new.1.1.0 k.ensures
+    let a = c.args in
+    let w = c.new-empty in
+    let o = c.open-c in
+    slot_shut a.slot (length a.log.now) w.result (lent a.log.now rs w.new.numbers bs [])
+    (made_valid a.slot w.result w.new.numbers w.ensures a.log.now rs bs [] rows_long)
+    (made_state a.slot w.result w.new.numbers w.ensures a.log.now rs bs [] rows_long)
+    o.result (lent o.new.log rs w.new.numbers o.new.book []) (o.ensures rs w.new.numbers []) a.n
+    (inl c.if-slot-lt-SLOTS.false)
 
-same-length-2 : tie.Need-same-length-2
-same-length-2 c = search rules
-
-returns-2 : tie.Need-returns-2
-returns-2 c =
-    let a = c.before.before.before.before.before.before.before.before.before.before.before.before.args in
-    let w = c.before.before.before.before.before.before.before.before.before.new in
-    let o = c.before.before.before.before.before.before.«open» in
-    slot_shut a.slot (length a.log.now) w.result (lent a.log.now rs w.new.0 bs [])
-    (made_valid a.slot w.result w.new.0 w.ensures a.log.now rs bs [] rows_long)
-    (made_state a.slot w.result w.new.0 w.ensures a.log.now rs bs [] rows_long)
-    o.result (lent o.new.1.1.0 rs w.new.0 o.new.1.1.1.0 []) (o.ensures rs w.new.0 []) a.n
-    (inr (c.before.before.if1.true, c.if2.false))
-
-same-length-3 : tie.Need-same-length-3
-same-length-3 c = search rules
-
-returns-3 : tie.Need-returns-3
-returns-3 c =
-    let a = c.before.before.before.before.before.before.before.before.before.before.args in
-    let w = c.before.before.before.before.before.before.before.new in
-    let o = c.before.before.before.before.«open» in
-    slot_shut a.slot (length a.log.now) w.result (lent a.log.now rs w.new.0 bs [])
-    (made_valid a.slot w.result w.new.0 w.ensures a.log.now rs bs [] rows_long)
-    (made_state a.slot w.result w.new.0 w.ensures a.log.now rs bs [] rows_long)
-    o.result (lent o.new.1.1.0 rs w.new.0 o.new.1.1.1.0 []) (o.ensures rs w.new.0 []) a.n
-    (inl c.if1.false)
-
-pub slot-add-and-finish-spec : {M : Type 1} → statement M
-slot-add-and-finish-spec =
+pub slot_add_and_finish_spec : {M : Type 1} → statement M
+slot_add_and_finish_spec =
     tie.close
     (tie.spec
-    new-requires
-    open-requires
-    mul-own
-    element-copy-out-own
-    slice-aggregate-slot-serve
-    slice-aggregate-slot-serve-2
-    slot-serve-requires
-    same_length
-    returns
-    same-length-2
-    returns-2
-    same-length-3
-    returns-3)
+    new-empty-requires
+    open-c-requires
+    offset_bounds-m-slot
+    bounds-m-slot
+    slice_bounds-slot_serve-end
+    slice_bounds-slot_serve-end-then-own
+    slot_serve-requires
+    shape_of-log-then-own
+    returns-then-own
+    shape_of-log-then-slot-lt-SLOTS
+    returns-then-slot-lt-SLOTS
+    shape_of-log
+    returns)

@@ -15,54 +15,52 @@ use Rattle.c_api.proofs.slot_rounds.slot_operation.Tie as tie
 abbrev came : tie.Start → Lent
 came s = lent s.args.log.now s.args.rows.now s.args.numbers.now s.args.book.now s.args.lists.now
 
-add-asked-inc : tie.Need-overflow-add-asked-inc
-add-asked-inc c = search rules
+overflow_add-id : tie.Need-overflow_add-id
+overflow_add-id c = search rules
 
-asked-inc-requires : tie.Need-asked-inc-requires
-asked-inc-requires c κs = search rules
+asked_inc-asked-requires : tie.Need-asked_inc-asked-requires
+asked_inc-asked-requires c κs = search rules
 
-add-requires : tie.Need-add-requires
-add-requires c κs = search rules
+add-a-requires : tie.Need-add-a-requires
+add-a-requires c κs = search rules
 
-finish-requires : tie.Need-finish-requires
-finish-requires c κs =
-    let s = c.before.before.before.before.before.before.before.before.before.before.before.before.before.before.before.before.before.before.before.before in
-    let add = c.before.before.before.before.before.before.before.before.before.before.add in
-    let mid = lent s.args.log.now add.new.1.1.1.0 add.new.1.1.1.1.0 add.new.1.1.1.1.1.0 add.new.1.1.1.1.1.1.0 in
-    let there = slot_call s.args.slot s.args.m (came s) (Call.Add s.args.id (updates_held c.before.before.before.before.before.before.before.before.before.before.before.before.before.before.before.before.asked-inc.result)) add.result mid refl add.ensures s.requires.0 s.requires.1 in
+finish-f-requires : tie.Need-finish-f-requires
+finish-f-requires c κs =
+    let add = c.add-a in
+    let mid = lent c.args.log.now add.new.rows add.new.numbers add.new.book add.new.lists in
+    let there = slot_call c.args.slot c.args.m (came c.before.before.before.before.before.before.before.before.before.before.before.before.before.before.before.before.before.before.before) (Call.Add c.args.id (updates_held c.asked_inc-asked.result)) add.result mid refl add.ensures c.requires.0 c.requires.1 in
     (nothing, nothing, there.at.valid)
 
-same_length : tie.Need-same-length
-same_length c = search rules
+shape_of-log : tie.Need-shape_of-log
+shape_of-log c = search rules
 
-same-length-2 : tie.Need-same-length-2
-same-length-2 c = search rules
+shape_of-rows : tie.Need-shape_of-rows
+shape_of-rows c = search rules
 
-same-length-3 : tie.Need-same-length-3
-same-length-3 c = search rules
+shape_of-numbers : tie.Need-shape_of-numbers
+shape_of-numbers c = search rules
 
 returns : tie.Need-returns
 returns c =
-    let s = c.before.before.before.before.before.before.before.before.before.before.before.before.before.before.before.before.before.before.before.before.before.before.before.before.before.before.before.before in
-    let a = s.args in
-    let asked = c.before.before.before.before.before.before.before.before.before.before.before.before.before.before.before.before.before.before.before.before.before.before.before.before.asked-inc in
-    let add = c.before.before.before.before.before.before.before.before.before.before.before.before.before.before.before.before.before.before.add in
-    let finish = c.before.before.before.before.before.before.before.finish in
-    let mid = lent a.log.now add.new.1.1.1.0 add.new.1.1.1.1.0 add.new.1.1.1.1.1.0 add.new.1.1.1.1.1.1.0 in
-    let new = lent finish.new.1.1.0 finish.new.1.1.1.0 finish.new.1.1.1.1.0 finish.new.1.1.1.1.1.0 finish.new.1.1.1.1.1.1.0 in
-    slot_two a.slot a.m (came s) (Call.Add a.id (inc_of (a.id % 4) (a.id / 4 + 1) ∷ [])) add.result mid (Call.Finish a.id) finish.result new refl refl
-    (slot_adds a.slot a.m (came s) a.id (updates_held asked.result) (inc_of (a.id % 4) (a.id / 4 + 1) ∷ []) add.result mid asked.ensures add.ensures)
+    let a = c.args in
+    let asked = c.asked_inc-asked in
+    let add = c.add-a in
+    let finish = c.finish-f in
+    let mid = lent a.log.now add.new.rows add.new.numbers add.new.book add.new.lists in
+    let new = lent finish.new.log finish.new.rows finish.new.numbers finish.new.book finish.new.lists in
+    slot_two a.slot a.m (came c.before.before.before.before.before.before.before.before.before.before.before.before.before.before.before.before.before.before.before.before.before.before.before.before.before.before.before) (Call.Add a.id (inc_of (a.id % 4) (a.id / 4 + 1) ∷ [])) add.result mid (Call.Finish a.id) finish.result new refl refl
+    (slot_adds a.slot a.m (came c.before.before.before.before.before.before.before.before.before.before.before.before.before.before.before.before.before.before.before.before.before.before.before.before.before.before.before) a.id (updates_held asked.result) (inc_of (a.id % 4) (a.id / 4 + 1) ∷ []) add.result mid asked.ensures add.ensures)
     finish.ensures
 
-pub slot-operation-spec : {M : Type 1} → statement M
-slot-operation-spec =
+pub slot_operation_spec : {M : Type 1} → statement M
+slot_operation_spec =
     tie.close
     (tie.spec
-    add-asked-inc
-    asked-inc-requires
-    add-requires
-    finish-requires
-    same_length
-    same-length-2
-    same-length-3
+    overflow_add-id
+    asked_inc-asked-requires
+    add-a-requires
+    finish-f-requires
+    shape_of-log
+    shape_of-rows
+    shape_of-numbers
     returns)

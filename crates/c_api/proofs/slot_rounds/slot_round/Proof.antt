@@ -12,66 +12,63 @@ use Rattle.c_api.proofs.slot_rounds.slot_round.Tie as tie
 abbrev came : tie.Start → Lent
 came s = lent s.args.log.now s.args.rows.now s.args.numbers.now s.args.book.now s.args.lists.now
 
-slot-operation-requires : tie.Need-slot-operation-requires
-slot-operation-requires c κs = search rules
+slot_operation-worked-requires : tie.Need-slot_operation-worked-requires
+slot_operation-worked-requires c κs = search rules
 
-add-slot-mark : tie.Need-overflow-add-slot-mark
-add-slot-mark c = search rules
+overflow_add-id : tie.Need-overflow_add-id
+overflow_add-id c = search rules
 
-slot-mark-requires : tie.Need-slot-mark-requires
-slot-mark-requires c κs =
-    let s = c.before.before.before.before.before.before.before.before.before.before.before.before.before.before.before.before.before.before.before.before.before in
-    let z = c.before.before.before.before.before.before.before.before.before.before.before.before.slot-operation.ensures s.requires.0.0 s.requires.0.1 in
-    (run (work_calls s.args.id) s.requires.0.0, z.at)
+slot_mark-requires : tie.Need-slot_mark-requires
+slot_mark-requires c κs =
+    let z = c.slot_operation-worked.ensures c.requires.0.0 c.requires.0.1 in
+    (run (work_calls c.args.id) c.requires.0.0, z.at)
 
-same_length : tie.Need-same-length
-same_length c = search rules
+shape_of-log-then-id-eq31 : tie.Need-shape_of-log-then-id-eq31
+shape_of-log-then-id-eq31 c = search rules
 
-same-length-2 : tie.Need-same-length-2
-same-length-2 c = search rules
+shape_of-rows-then-id-eq31 : tie.Need-shape_of-rows-then-id-eq31
+shape_of-rows-then-id-eq31 c = search rules
 
-same-length-3 : tie.Need-same-length-3
-same-length-3 c = search rules
+shape_of-numbers-then-id-eq31 : tie.Need-shape_of-numbers-then-id-eq31
+shape_of-numbers-then-id-eq31 c = search rules
+
+returns-then-id-eq31 : tie.Need-returns-then-id-eq31
+returns-then-id-eq31 c =
+    let a = c.args in
+    let o = c.slot_operation-worked in
+    let k = c.slot_mark in
+    let mid = lent o.new.log o.new.rows o.new.numbers o.new.book o.new.lists in
+    let new = lent k.new.log o.new.rows k.new.numbers k.new.book k.new.lists in
+    slot_marked a.slot a.m (came c.before.before.before.before.before.before.before.before.before.before.before.before.before.before.before.before.before.before.before.before.before.before.before.before.before) a.id o.result mid k.result new _ (eq-eqb (a.id % 32) 31 c.if-id-eq31.true) o.ensures k.ensures
+
+shape_of-log : tie.Need-shape_of-log
+shape_of-log c = search rules
+
+shape_of-rows : tie.Need-shape_of-rows
+shape_of-rows c = search rules
+
+shape_of-numbers : tie.Need-shape_of-numbers
+shape_of-numbers c = search rules
 
 returns : tie.Need-returns
 returns c =
-    let s = c.before.before.before.before.before.before.before.before.before.before.before.before.before.before.before.before.before.before.before.before.before.before.before.before.before.before in
-    let a = s.args in
-    let o = c.before.before.before.before.before.before.before.before.before.before.before.before.before.before.before.before.before.slot-operation in
-    let k = c.before.before.before.before.slot-mark in
-    let mid = lent o.new.1.1.0 o.new.1.1.1.0 o.new.1.1.1.1.0 o.new.1.1.1.1.1.0 o.new.1.1.1.1.1.1.0 in
-    let new = lent k.new.1.1.0 o.new.1.1.1.0 k.new.1.1.1.1.0 k.new.1.1.1.1.1.0 k.new.1.1.1.1.1.1.0 in
-    slot_marked a.slot a.m (came s) a.id o.result mid k.result new _ (eq-eqb (a.id % 32) 31 c.before.before.before.before.before.before.before.before.before.before.if1.true) o.ensures k.ensures
+    let a = c.args in
+    let o = c.slot_operation-worked in
+    let mid = lent o.new.log o.new.rows o.new.numbers o.new.book o.new.lists in
+    slot_unmarked a.slot a.m (came c.before.before.before.before.before.before.before.before.before.before.before.before.before.before.before.before) a.id o.result mid _ (ne_eqb (a.id % 32) 31 c.if-id-eq31.false) o.ensures
 
-same-length-4 : tie.Need-same-length-4
-same-length-4 c = search rules
-
-same-length-5 : tie.Need-same-length-5
-same-length-5 c = search rules
-
-same-length-6 : tie.Need-same-length-6
-same-length-6 c = search rules
-
-returns-2 : tie.Need-returns-2
-returns-2 c =
-    let s = c.before.before.before.before.before.before.before.before.before.before.before.before.before.before.before.before in
-    let a = s.args in
-    let o = c.before.before.before.before.before.before.before.slot-operation in
-    let mid = lent o.new.1.1.0 o.new.1.1.1.0 o.new.1.1.1.1.0 o.new.1.1.1.1.1.0 o.new.1.1.1.1.1.1.0 in
-    slot_unmarked a.slot a.m (came s) a.id o.result mid _ (ne_eqb (a.id % 32) 31 c.if1.false) o.ensures
-
-pub slot-round-spec : {M : Type 1} → statement M
-slot-round-spec =
+pub slot_round_spec : {M : Type 1} → statement M
+slot_round_spec =
     tie.close
     (tie.spec
-    slot-operation-requires
-    add-slot-mark
-    slot-mark-requires
-    same_length
-    same-length-2
-    same-length-3
-    returns
-    same-length-4
-    same-length-5
-    same-length-6
-    returns-2)
+    slot_operation-worked-requires
+    overflow_add-id
+    slot_mark-requires
+    shape_of-log-then-id-eq31
+    shape_of-rows-then-id-eq31
+    shape_of-numbers-then-id-eq31
+    returns-then-id-eq31
+    shape_of-log
+    shape_of-rows
+    shape_of-numbers
+    returns)

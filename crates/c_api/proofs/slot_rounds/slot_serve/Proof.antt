@@ -24,82 +24,81 @@ record Serving (i n : ℕ) (m₀ : Module) (w₀ : Lent) (id : ℕ) (m : Module)
   roomRows : length w.rows ≡ length w₀.rows
   roomNumbers : length w.order ≡ length w₀.order
 
-abbrev invariant-loop : tie.invariant-loop
-invariant-loop slot log₀ rows₀ numbers₀ book₀ n m₀ lists₀ id₀ log rows numbers book m lists id = Serving slot n m₀ (lent log₀ rows₀ numbers₀ book₀ []) id m (lent log rows numbers book [])
+abbrev invariant-loop-id : tie.invariant-loop-id
+invariant-loop-id slot log₀ rows₀ numbers₀ book₀ n m₀ lists₀ id₀ log rows numbers book m lists id = Serving slot n m₀ (lent log₀ rows₀ numbers₀ book₀ []) id m (lent log rows numbers book [])
 
-abbrev decreases-loop : tie.decreases-loop
-decreases-loop slot log₀ rows₀ numbers₀ book₀ n m₀ lists₀ id₀ log rows numbers book m lists id = n - id
+abbrev decreases-loop-id : tie.decreases-loop-id
+decreases-loop-id slot log₀ rows₀ numbers₀ book₀ n m₀ lists₀ id₀ log rows numbers book m lists id = n - id
 
-loop-holds : tie.Need-loop-init invariant-loop decreases-loop
-loop-holds c =
-    let a = c.before.before.before.args in
+loop-id-init : tie.Need-loop-id-init invariant-loop-id decreases-loop-id
+loop-id-init c =
+    let a = c.args in
     record { reaches = λ st L. slot_none a.slot st a.log.now a.first _ L; below = omega arith; room = refl; roomRows = refl; roomNumbers = refl }
 
-slot-round-requires : tie.Need-slot-round-requires invariant-loop decreases-loop
-slot-round-requires c κs =
-    let s = c.before.before.before.before.before.before.before.before.before.before in
-    let l = c.before.before.before.before.before.before.loop in
-    ((run (rounds_calls l.id) s.requires.0, (l.invariant.reaches s.requires.0 s.requires.1).at), omega (arith, c.before.before.before.before.before.loop-test.true, s.ranges.n))
+slot_round-m-requires : tie.Need-slot_round-m-requires invariant-loop-id decreases-loop-id
+slot_round-m-requires c κs =
+    let l = c.loop-id in
+    ((run (rounds_calls l.id) c.requires.0, (l.invariant.reaches c.requires.0 c.requires.1).at), omega (arith, c.loop-id-test.true, c.ranges.n))
 
-add-id : tie.Need-overflow-add-id invariant-loop decreases-loop
-add-id c = omega (arith, c.before.before.before.before.before.before.before.before.before.before.before.before.loop-test.true, c.before.before.before.before.before.before.before.before.before.before.before.before.before.before.before.before.before.ranges.n)
+overflow_add-id : tie.Need-overflow_add-id invariant-loop-id decreases-loop-id
+overflow_add-id c = omega (arith, c.loop-id-test.true, c.ranges.n)
 
-loop-less : tie.Need-loop-smaller invariant-loop decreases-loop
-loop-less c = omega (arith, c.before.before.before.before.before.before.before.before.before.before.before.before.loop-test.true)
+loop-id-smaller : tie.Need-loop-id-smaller invariant-loop-id decreases-loop-id
+loop-id-smaller c = omega (arith, c.loop-id-test.true)
 
-loop-again : tie.Need-loop-preserved invariant-loop decreases-loop
-loop-again c =
-    let a = c.before.before.before.before.before.before.before.before.before.before.before.before.before.before.before.before.before.args in
-    let l = c.before.before.before.before.before.before.before.before.before.before.before.before.before.loop in
-    let r = c.before.before.before.before.before.before.slot-round in
-    let eg : length r.new.1.1.0 ≡ length l.log = search rules in
-    let er : length r.new.1.1.1.0 ≡ length l.rows = search rules in
-    let en : length r.new.1.1.1.1.0 ≡ length l.numbers = search rules in
+loop-id-preserved : tie.Need-loop-id-preserved invariant-loop-id decreases-loop-id
+loop-id-preserved c =
+    let a = c.args in
+    let l = c.loop-id in
+    let r = c.slot_round-m in
+    let eg : length r.new.log ≡ length l.log = search rules in
+    let er : length r.new.rows ≡ length l.rows = search rules in
+    let en : length r.new.numbers ≡ length l.numbers = search rules in
     let mid = lent l.log l.rows l.numbers l.book l.lists in
-    let new = lent r.new.1.1.0 r.new.1.1.1.0 r.new.1.1.1.1.0 r.new.1.1.1.1.1.0 r.new.1.1.1.1.1.1.0 in
+    let new = lent r.new.log r.new.rows r.new.numbers r.new.book r.new.lists in
     record {
       reaches = λ st L. slot_more a.slot st a.log.now l.id _ l.m mid r.result new (omega arith) (l.invariant.reaches st L) r.ensures;
-      below = omega (arith, c.before.before.before.before.before.before.before.before.before.before.before.before.loop-test.true);
+      below = omega (arith, c.loop-id-test.true);
       room = eg ∙ l.invariant.room;
       roomRows = er ∙ l.invariant.roomRows;
       roomNumbers = en ∙ l.invariant.roomNumbers;
     }
 
-mul-own : tie.Need-overflow-mul-own invariant-loop decreases-loop
-mul-own c = omega (arith, c.before.before.before.before.before.requires.1.own)
+offset_bounds-m-slot : tie.Need-offset_bounds-m-slot invariant-loop-id decreases-loop-id
+offset_bounds-m-slot c = omega (arith, c.requires.1.own)
 
-element-copy-out-own : tie.Need-element-copy-out-own invariant-loop decreases-loop
-element-copy-out-own c = c.before.before.before.before.before.requires.1.own
+bounds-m-slot : tie.Need-bounds-m-slot invariant-loop-id decreases-loop-id
+bounds-m-slot c = c.requires.1.own
 
-same_length : tie.Need-same-length invariant-loop decreases-loop
-same_length c = c.before.before.before.loop.invariant.room
+shape_of-log : tie.Need-shape_of-log invariant-loop-id decreases-loop-id
+shape_of-log c = c.loop-id.invariant.room
 
-same-length-2 : tie.Need-same-length-2 invariant-loop decreases-loop
-same-length-2 c = c.before.before.before.loop.invariant.roomRows
+shape_of-rows : tie.Need-shape_of-rows invariant-loop-id decreases-loop-id
+shape_of-rows c = c.loop-id.invariant.roomRows
 
-same-length-3 : tie.Need-same-length-3 invariant-loop decreases-loop
-same-length-3 c = c.before.before.before.loop.invariant.roomNumbers
+shape_of-numbers : tie.Need-shape_of-numbers invariant-loop-id decreases-loop-id
+shape_of-numbers c = c.loop-id.invariant.roomNumbers
 
-returns : tie.Need-returns invariant-loop decreases-loop
+returns : tie.Need-returns invariant-loop-id decreases-loop-id
 returns c st L =
-    let a = c.before.before.before.before.before.before.before.args in
-    let l = c.before.before.before.loop in
-    slot_served a.slot st a.n l.id a.log.now _ l.m l.log (omega (arith, l.invariant.below, c.before.before.loop-test.false)) (l.invariant.reaches st L)
+    let a = c.args in
+    let l = c.loop-id in
+    slot_served a.slot st a.n l.id a.log.now _ l.m l.log (omega (arith, l.invariant.below, c.loop-id-test.false)) (l.invariant.reaches st L)
 
-pub slot-serve-spec : {M : Type 1} → statement M
-slot-serve-spec =
+pub slot_serve_spec : {M : Type 1} → statement M
+slot_serve_spec =
     tie.close
     (tie.spec
-    invariant-loop
-    decreases-loop
-    loop-holds
-    slot-round-requires
-    add-id
-    loop-less
-    loop-again
-    mul-own
-    element-copy-out-own
-    same_length
-    same-length-2
-    same-length-3
+    invariant-loop-id
+    decreases-loop-id
+    loop-id-init
+    slot_round-m-requires
+    overflow_add-id
+    loop-id-smaller
+    loop-id-preserved
+    offset_bounds-m-slot
+    bounds-m-slot
+    shape_of-log
+    shape_of-rows
+    shape_of-numbers
     returns)

@@ -6,27 +6,33 @@ use borrow.Author.Rules.{rules}
 use Rattle.c_api.proofs.trims.copied_number.Statement.{statement}
 use Rattle.c_api.proofs.trims.copied_number.Tie as tie
 
-enum-known-r : tie.Need-enum-known-r
-enum-known-r c = search rules
+enum_known-r : tie.Need-enum_known-r
+enum_known-r c = search rules
 
-add-result : tie.Need-overflow-add-result
-add-result c = let z = c.before.before.before.requires c.before.r.given.0.0 c.before.r.given.1 in omega arith
+overflow_add-result : tie.Need-overflow_add-result
+overflow_add-result c = let z = c.requires c.in-Used.n c.in-Used.is in omega arith
 
-enum-known-r-2 : tie.Need-enum-known-r-2
-enum-known-r-2 c = search rules
+enum_known-r-in-Refused-1 : tie.Need-enum_known-r-in-Refused-1
+enum_known-r-in-Refused-1 c = search rules
 
-refusal-number-requires : tie.Need-refusal-number-requires
-refusal-number-requires c κs = search rules
+refusal_number-requires : tie.Need-refusal_number-requires
+refusal_number-requires c κs = search rules
 
-returns : tie.Need-returns
+returns-in-Used : tie.Need-returns-in-Used
 unfolding copied_number
-returns c = sym (ap copied_number c.before.r.given.1)
+returns-in-Used c = sym (ap copied_number c.in-Used.is)
 
-returns-2 : tie.Need-returns-2
+returns-in-Refused : tie.Need-returns-in-Refused
 unfolding copied_number
-returns-2 c = c.refusal-number.ensures ∙ sym (ap copied_number c.before.before.r2.given.1)
+returns-in-Refused c = c.refusal_number.ensures ∙ sym (ap copied_number c.in-Refused.is)
 
-pub copied-number-spec : {M : Type 1} → statement M
-copied-number-spec =
+pub copied_number_spec : {M : Type 1} → statement M
+copied_number_spec =
     tie.close
-    (tie.spec enum-known-r add-result enum-known-r-2 refusal-number-requires returns returns-2)
+    (tie.spec
+    enum_known-r
+    overflow_add-result
+    enum_known-r-in-Refused-1
+    refusal_number-requires
+    returns-in-Used
+    returns-in-Refused)

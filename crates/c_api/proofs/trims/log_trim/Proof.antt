@@ -9,52 +9,61 @@ use borrow.Author.Rules.{rules}
 use Rattle.c_api.proofs.trims.log_trim.Statement.{statement}
 use Rattle.c_api.proofs.trims.log_trim.Tie as tie
 
-restart-requires : tie.Need-restart-requires
-restart-requires c κs = search rules
+restart-c-requires : tie.Need-restart-c-requires
+restart-c-requires c κs = search rules
 
-enum-known-form : tie.Need-enum-known-form
-enum-known-form c = search rules
+enum_known-form : tie.Need-enum_known-form
+enum_known-form c = search rules
 
-refusal-number-requires : tie.Need-refusal-number-requires
-refusal-number-requires c κs = search rules
+refusal_number-requires : tie.Need-refusal_number-requires
+refusal_number-requires c κs = search rules
 
 trim-requires : tie.Need-trim-requires
 trim-requires c κs =
-    let a = c.before.before.before.before.before.before.before.before.before.before.args in
-    let r = c.before.before.before.before.restart in
-    let m = (lent a.log.now r.new.1.0 r.new.1.1.0 r.new.1.1.1.0 []) in
-    (r.new.1.0, r.new.1.1.0, r.new.1.1.1.0, restart_valid blank_site (lent a.log.now rs os bs []) r.result m (restart a.log.now a.kept) (r.ensures []) (accepted r.result.reply.form c.before.match.keys2))
+    let a = c.args in
+    let r = c.restart-c in
+    let m = (lent a.log.now r.new.rows r.new.order r.new.book []) in
+    (r.new.rows, r.new.order, r.new.book, restart_valid blank_site (lent a.log.now rs os bs []) r.result m (restart a.log.now a.kept) (r.ensures []) (accepted r.result.reply.form c.in_default.in_default-own.keys2))
 
-copied-number-requires : tie.Need-copied-number-requires
-copied-number-requires c κs =
-    let a = c.before.before.before.before.before.before.before.before.before.before.before.before.before.args in
-    let r = c.before.before.before.before.before.before.before.restart in
-    let m = (lent a.log.now r.new.1.0 r.new.1.1.0 r.new.1.1.1.0 []) in
-    let t = c.before.before.trim in
-    copied_few a.n a.fresh.now (view r.result.site m) t.result t.new.1.1.1.0
-    (t.ensures r.new.1.0 r.new.1.1.0 r.new.1.1.1.0 (restart_valid blank_site (lent a.log.now rs os bs []) r.result m (restart a.log.now a.kept) (r.ensures []) (accepted r.result.reply.form c.before.before.before.before.match.keys2)))
+copied_number-requires : tie.Need-copied_number-requires
+copied_number-requires c κs =
+    let a = c.args in
+    let r = c.restart-c in
+    let m = (lent a.log.now r.new.rows r.new.order r.new.book []) in
+    let t = c.trim in
+    copied_few a.n a.fresh.now (view r.result.site m) t.result t.new.fresh
+    (t.ensures r.new.rows r.new.order r.new.book (restart_valid blank_site (lent a.log.now rs os bs []) r.result m (restart a.log.now a.kept) (r.ensures []) (accepted r.result.reply.form c.in_default.in_default-own.keys2)))
 
-returns : tie.Need-returns
-returns c =
-    let a = c.before.before.before.before.before.before.before.before.before.before.before.before.args in
-    let r = c.before.before.before.before.before.before.restart in
-    let m = (lent a.log.now r.new.1.0 r.new.1.1.0 r.new.1.1.1.0 []) in
-    restart_refused blank_site (lent a.log.now rs os bs []) r.result m (restart a.log.now a.kept) c.before.before.form.given.0.0 a.n a.fresh.now c.refusal-number.result (r.ensures [])
-    c.before.before.form.given.1 c.refusal-number.ensures
+returns-in-Refused : tie.Need-returns-in-Refused
+returns-in-Refused c =
+    let a = c.args in
+    let r = c.restart-c in
+    let m = (lent a.log.now r.new.rows r.new.order r.new.book []) in
+    restart_refused blank_site (lent a.log.now rs os bs []) r.result m (restart a.log.now a.kept) c.in-Refused.q a.n a.fresh.now c.refusal_number.result (r.ensures [])
+    c.in-Refused.is c.refusal_number.ensures
 
-same_length : tie.Need-same-length
-same_length c = search rules
+shape_of-fresh : tie.Need-shape_of-fresh
+shape_of-fresh c = search rules
 
-returns-2 : tie.Need-returns-2
-returns-2 c =
-    let a = c.before.before.before.before.before.before.before.before.before.before.before.before.before.before.args in
-    let r = c.before.before.before.before.before.before.before.before.restart in
-    let m = (lent a.log.now r.new.1.0 r.new.1.1.0 r.new.1.1.1.0 []) in
-    let t = c.before.before.before.trim in
-    let q = (accepted r.result.reply.form c.before.before.before.before.before.match.keys2) in
-    restart_trims blank_site (lent a.log.now rs os bs []) r.result m (restart a.log.now a.kept) a.n a.fresh.now t.result t.new.1.1.1.0 c.copied-number.result (r.ensures []) q
-    (t.ensures r.new.1.0 r.new.1.1.0 r.new.1.1.1.0 (restart_valid blank_site (lent a.log.now rs os bs []) r.result m (restart a.log.now a.kept) (r.ensures []) q)) c.copied-number.ensures
+returns-in_default : tie.Need-returns-in_default
+returns-in_default c =
+    let a = c.args in
+    let r = c.restart-c in
+    let m = (lent a.log.now r.new.rows r.new.order r.new.book []) in
+    let t = c.trim in
+    let q = (accepted r.result.reply.form c.in_default.in_default-own.keys2) in
+    restart_trims blank_site (lent a.log.now rs os bs []) r.result m (restart a.log.now a.kept) a.n a.fresh.now t.result t.new.fresh c.copied_number.result (r.ensures []) q
+    (t.ensures r.new.rows r.new.order r.new.book (restart_valid blank_site (lent a.log.now rs os bs []) r.result m (restart a.log.now a.kept) (r.ensures []) q)) c.copied_number.ensures
 
-pub log-trim-spec : {M : Type 1} → statement M
-log-trim-spec =
-    tie.close (tie.spec restart-requires enum-known-form refusal-number-requires trim-requires copied-number-requires returns same_length returns-2)
+pub log_trim_spec : {M : Type 1} → statement M
+log_trim_spec =
+    tie.close
+    (tie.spec
+    restart-c-requires
+    enum_known-form
+    refusal_number-requires
+    trim-requires
+    copied_number-requires
+    returns-in-Refused
+    shape_of-fresh
+    returns-in_default)

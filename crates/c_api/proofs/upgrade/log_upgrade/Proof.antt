@@ -5,25 +5,29 @@ use borrow.Author.Rules.{rules}
 use Rattle.c_api.proofs.upgrade.log_upgrade.Statement.{statement}
 use Rattle.c_api.proofs.upgrade.log_upgrade.Tie as tie
 
-upgrade-requires : tie.Need-upgrade-requires
-upgrade-requires c κs = search rules
+upgrade-r-requires : tie.Need-upgrade-r-requires
+upgrade-r-requires c κs = search rules
 
-changeover-number-requires : tie.Need-changeover-number-requires
-changeover-number-requires c κs =
-    let a = c.before.before.before.before.before.args in
-    let u = c.before.before.upgrade in
-    upgraded_few a.log.now a.kept u.result u.new.0 u.ensures
+changeover_number-requires : tie.Need-changeover_number-requires
+changeover_number-requires c κs =
+    let a = c.args in
+    let u = c.upgrade-r in
+    upgraded_few a.log.now a.kept u.result u.new.log u.ensures
 
-same_length : tie.Need-same-length
-same_length c = search rules
+shape_of-log : tie.Need-shape_of-log
+shape_of-log c = search rules
 
 returns : tie.Need-returns
 returns c =
-    let a = c.before.before.before.before.before.before.args in
-    let u = c.before.before.before.upgrade in
-    changes_over_lem (upgrade a.log.now a.kept) a.log.now u.result u.new.0 c.changeover-number.result u.ensures c.changeover-number.ensures
+    let a = c.args in
+    let u = c.upgrade-r in
+    changes_over_lem (upgrade a.log.now a.kept) a.log.now u.result u.new.log c.changeover_number.result u.ensures c.changeover_number.ensures
 
-pub log-upgrade-spec : {M : Type 1} → statement M
-log-upgrade-spec =
+pub log_upgrade_spec : {M : Type 1} → statement M
+log_upgrade_spec =
     tie.close
-    (tie.spec upgrade-requires changeover-number-requires same_length returns)
+    (tie.spec
+    upgrade-r-requires
+    changeover_number-requires
+    shape_of-log
+    returns)

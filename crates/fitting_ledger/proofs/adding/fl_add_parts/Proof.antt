@@ -11,69 +11,65 @@ use borrow.Author.Rules.{rules}
 use Rattle.fitting_ledger.proofs.adding.fl_add_parts.Statement.{statement}
 use Rattle.fitting_ledger.proofs.adding.fl_add_parts.Tie as tie
 
-rules-known-requires : tie.Need-rules-known-requires
-rules-known-requires c κs = search rules
+rules_known-requires : tie.Need-rules_known-requires
+rules_known-requires c κs = search rules
 
-held-in-requires : tie.Need-held-in-requires
-held-in-requires c κs = search rules
+held_in-asked-requires : tie.Need-held_in-asked-requires
+held_in-asked-requires c κs = search rules
 
-session-at-requires : tie.Need-session-at-requires
-session-at-requires c κs = search rules
+session_at-s-requires : tie.Need-session_at-s-requires
+session_at-s-requires c κs = search rules
 
-add-requires : tie.Need-add-requires
-add-requires c κs =
-    let e = c.before.before.before.before.before.before.before.before.before.before.before.before in
-    let a = e.args in
-    let s = c.before.before.before.before.before.before.session-at in
-    (session_valid s.result a.counters.now (lent a.log.now a.rows.now a.order.now a.book.now a.numbers.now) s.ensures e.requires).site c.before.before.before.before.before.if2.true
+add-r-requires : tie.Need-add-r-requires
+add-r-requires c κs =
+    let a = c.args in
+    let s = c.session_at-s in
+    (session_valid s.result a.counters.now (lent a.log.now a.rows.now a.order.now a.book.now a.numbers.now) s.ensures c.requires).site c.if-s.true
 
-put-call-requires : tie.Need-put-call-requires
-put-call-requires c κs = search rules
+put_call-requires : tie.Need-put_call-requires
+put_call-requires c κs = search rules
 
-returns : tie.Need-returns
-returns c =
-    let e = c.before.before.before.before.before.before.before.before.before.before.before.before.before.before.before.before in
-    let a = e.args in
-    let s = c.before.before.before.before.before.before.before.before.before.before.session-at in
-    let h = c.before.before.before.before.before.before.before.before.before.before.before.before.held_in in
-    let r = c.before.before.before.add in
-    let p = c.put-call in
+returns-then-s : tie.Need-returns-then-s
+returns-then-s c =
+    let a = c.args in
+    let s = c.session_at-s in
+    let h = c.held_in-asked in
+    let r = c.add-r in
+    let p = c.put_call in
     let old = lent a.log.now a.rows.now a.order.now a.book.now a.numbers.now in
-    let new = lent a.log.now r.new.1.1.0 a.order.now r.new.1.1.1.1.0 r.new.1.1.1.1.1.0 in
-    performs_add a.counters.now old a.id a.count a.updates.now h.result p.result p.new.0 new a.answer.now p.new.1.0
-    (sym c.before.before.before.before.before.before.before.before.before.before.before.before.before.if1.true ∙ c.before.before.before.before.before.before.before.before.before.before.before.before.before.before.rules-known.ensures) h.ensures
-    (performs_alone s.result a.counters.now old (Call.Add a.id (updates_held h.result)) r.result new p.result p.new.0 a.answer.now p.new.1.0
-    c.before.before.before.before.before.before.add-arg2.given.0 s.ensures c.before.before.before.before.before.before.before.before.before.if2.true e.requires r.ensures p.ensures)
+    let new = lent a.log.now r.new.rows a.order.now r.new.book r.new.lists in
+    performs_add a.counters.now old a.id a.count a.updates.now h.result p.result p.new.counters new a.answer.now p.new.answer
+    (sym c.if-rules_known.true ∙ c.rules_known.ensures) h.ensures
+    (performs_alone s.result a.counters.now old (Call.Add a.id (updates_held h.result)) r.result new p.result p.new.counters a.answer.now p.new.answer
+    c.add-arg-then-s-1.given s.ensures c.if-s.true c.requires r.ensures p.ensures)
 
-returns-2 : tie.Need-returns-2
+returns-then-rules_known : tie.Need-returns-then-rules_known
 unfolding number_of
-returns-2 c =
-    let e = c.before.before.before.before.before.before.before in
-    let a = e.args in
-    let s = c.before.session-at in
-    let h = c.before.before.before.held_in in
+returns-then-rules_known c =
+    let a = c.args in
+    let s = c.session_at-s in
+    let h = c.held_in-asked in
     let old = lent a.log.now a.rows.now a.order.now a.book.now a.numbers.now in
     performs_add a.counters.now old a.id a.count a.updates.now h.result _ a.counters.now old a.answer.now a.answer.now
-    (sym c.before.before.before.before.if1.true ∙ c.before.before.before.before.before.rules-known.ensures) h.ensures
-    (performs_not s.result a.counters.now old (Call.Add a.id (updates_held h.result)) a.answer.now s.ensures c.if2.false e.requires)
+    (sym c.if-rules_known.true ∙ c.rules_known.ensures) h.ensures
+    (performs_not s.result a.counters.now old (Call.Add a.id (updates_held h.result)) a.answer.now s.ensures c.if-s.false c.requires)
 
-returns-3 : tie.Need-returns-3
+returns : tie.Need-returns
 unfolding number_of
-returns-3 c =
-    let e = c.before.before.before in
-    let a = e.args in
+returns c =
+    let a = c.args in
     performs_unread a.counters.now (lent a.log.now a.rows.now a.order.now a.book.now a.numbers.now) a.id a.count a.updates.now a.answer.now
-    (sym c.if1.false ∙ c.before.rules-known.ensures) e.requires
+    (sym c.if-rules_known.false ∙ c.rules_known.ensures) c.requires
 
-pub fl-add-parts-spec : {M : Type 1} → statement M
-fl-add-parts-spec =
+pub fl_add_parts_spec : {M : Type 1} → statement M
+fl_add_parts_spec =
     tie.close
     (tie.spec
-    rules-known-requires
-    held-in-requires
-    session-at-requires
-    add-requires
-    put-call-requires
-    returns
-    returns-2
-    returns-3)
+    rules_known-requires
+    held_in-asked-requires
+    session_at-s-requires
+    add-r-requires
+    put_call-requires
+    returns-then-s
+    returns-then-rules_known
+    returns)

@@ -8,48 +8,46 @@ use borrow.Author.Rules.{rules}
 use Rattle.fitting_ledger.proofs.calls.fl_stable_parts.Statement.{statement}
 use Rattle.fitting_ledger.proofs.calls.fl_stable_parts.Tie as tie
 
-session-at-requires : tie.Need-session-at-requires
-session-at-requires c κs = search rules
+session_at-s-requires : tie.Need-session_at-s-requires
+session_at-s-requires c κs = search rules
 
-stable-requires : tie.Need-stable-requires
-stable-requires c κs =
-    let e = c.before.before.before.before.before.before.before.before.before.before in
-    let a = e.args in
-    let s = c.before.before.before.before.before.before.before.session-at in
-    (session_valid s.result a.counters.now (lent a.log.now a.rows.now a.order.now a.book.now a.numbers.now) s.ensures e.requires).site c.before.before.before.before.before.before.if1.true
+stable-r-requires : tie.Need-stable-r-requires
+stable-r-requires c κs =
+    let a = c.args in
+    let s = c.session_at-s in
+    (session_valid s.result a.counters.now (lent a.log.now a.rows.now a.order.now a.book.now a.numbers.now) s.ensures c.requires).site c.if-s.true
 
-put-call-requires : tie.Need-put-call-requires
-put-call-requires c κs = search rules
+put_call-requires : tie.Need-put_call-requires
+put_call-requires c κs = search rules
 
-same_length : tie.Need-same-length
-same_length c = search rules
+shape_of-log-then-s : tie.Need-shape_of-log-then-s
+shape_of-log-then-s c = search rules
+
+returns-then-s : tie.Need-returns-then-s
+returns-then-s c =
+    let a = c.args in
+    let s = c.session_at-s in
+    let r = c.stable-r in
+    let p = c.put_call in
+    let old = lent a.log.now a.rows.now a.order.now a.book.now a.numbers.now in
+    let new = lent r.new.log a.rows.now a.order.now r.new.book r.new.lists in
+    performs s.result a.counters.now old (Call.Stable a.n) r.result new p.result p.new.counters a.answer.now p.new.answer
+    s.ensures c.if-s.true c.requires r.ensures p.ensures
 
 returns : tie.Need-returns
-returns c =
-    let e = c.before.before.before.before.before.before.before.before.before.before.before.before.before.before.before.before in
-    let a = e.args in
-    let s = c.before.before.before.before.before.before.before.before.before.before.before.before.before.session-at in
-    let r = c.before.before.before.before.before.stable in
-    let p = c.put-call in
-    let old = lent a.log.now a.rows.now a.order.now a.book.now a.numbers.now in
-    let new = lent r.new.1.0 a.rows.now a.order.now r.new.1.1.1.1.0 r.new.1.1.1.1.1.0 in
-    performs s.result a.counters.now old (Call.Stable a.n) r.result new p.result p.new.0 a.answer.now p.new.1.0
-    s.ensures c.before.before.before.before.before.before.before.before.before.before.before.before.if1.true e.requires r.ensures p.ensures
-
-returns-2 : tie.Need-returns-2
 unfolding number_of
-returns-2 c =
-    let e = c.before.before.before.before in
-    let a = e.args in
-    let s = c.before.session-at in
-    performs_not s.result a.counters.now (lent a.log.now a.rows.now a.order.now a.book.now a.numbers.now) (Call.Stable a.n) a.answer.now s.ensures c.if1.false e.requires
+returns c =
+    let a = c.args in
+    let s = c.session_at-s in
+    performs_not s.result a.counters.now (lent a.log.now a.rows.now a.order.now a.book.now a.numbers.now) (Call.Stable a.n) a.answer.now s.ensures c.if-s.false c.requires
 
-pub fl-stable-parts-spec : {M : Type 1} → statement M
-fl-stable-parts-spec =
-    tie.close (tie.spec
-    session-at-requires
-    stable-requires
-    put-call-requires
-    same_length
-    returns
-    returns-2)
+pub fl_stable_parts_spec : {M : Type 1} → statement M
+fl_stable_parts_spec =
+    tie.close
+    (tie.spec
+    session_at-s-requires
+    stable-r-requires
+    put_call-requires
+    shape_of-log-then-s
+    returns-then-s
+    returns)

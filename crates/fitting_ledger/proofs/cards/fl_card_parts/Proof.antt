@@ -10,60 +10,57 @@ use borrow.Author.Rules.{rules}
 use Rattle.fitting_ledger.proofs.cards.fl_card_parts.Statement.{statement}
 use Rattle.fitting_ledger.proofs.cards.fl_card_parts.Tie as tie
 
-session-at-requires : tie.Need-session-at-requires
-session-at-requires c κs = search rules
+session_at-s-requires : tie.Need-session_at-s-requires
+session_at-s-requires c κs = search rules
 
-slice-aggregate-afresh : tie.Need-slice-aggregate-afresh
-slice-aggregate-afresh c =
-    let e = c.before.before.before.before.before in
-    let a = e.args in
-    let s = c.before.before.before.session-at in
+slice_bounds-afresh-end : tie.Need-slice_bounds-afresh-end
+slice_bounds-afresh-end c =
+    let a = c.args in
+    let s = c.session_at-s in
     let m = (lent a.log.now a.rows.now a.order.now a.book.now []) in
     sym (length-take-le s.result.site.used a.log.now
-    (site_within s.result.site m ((session_valid s.result a.counters.now m s.ensures e.requires).site c.before.before.if1.true)))
+    (site_within s.result.site m ((session_valid s.result a.counters.now m s.ensures c.requires).site c.if-s.true)))
 
-afresh-requires : tie.Need-afresh-requires
-afresh-requires c κs =
-    let e = c.before.before.before.before.before.before in
-    let a = e.args in
-    let s = c.before.before.before.before.session-at in
+afresh-made-requires : tie.Need-afresh-made-requires
+afresh-made-requires c κs =
+    let a = c.args in
+    let s = c.session_at-s in
     let m = (lent a.log.now a.rows.now a.order.now a.book.now []) in
     record {
       state = view s.result.site m;
-      log = site_log s.result.site m ((session_valid s.result a.counters.now m s.ensures e.requires).site c.before.before.before.if1.true);
+      log = site_log s.result.site m ((session_valid s.result a.counters.now m s.ensures c.requires).site c.if-s.true);
     }
 
-put-lines-requires : tie.Need-put-lines-requires
-put-lines-requires c κs = search rules
+put_lines-requires : tie.Need-put_lines-requires
+put_lines-requires c κs = search rules
+
+returns-then-s : tie.Need-returns-then-s
+returns-then-s c =
+    let a = c.args in
+    let s = c.session_at-s in
+    let o = c.if-s.true in
+    let r = c.afresh-made in
+    let m = (lent a.log.now a.rows.now a.order.now a.book.now []) in
+    let v = (session_valid s.result a.counters.now m s.ensures c.requires).site o in
+    cards_opened s.result a.counters.now m s.ensures a.w a.counts.now a.lines.now r.result c.put_lines.result
+    r.new.counts c.put_lines.new.lines o (r.ensures (view s.result.site m) (site_log s.result.site m v))
+    c.put_lines.ensures.0 c.put_lines.ensures.1
 
 returns : tie.Need-returns
-returns c =
-    let e = c.before.before.before.before.before.before.before.before.before in
-    let a = e.args in
-    let s = c.before.before.before.before.before.before.before.session-at in
-    let o = c.before.before.before.before.before.before.if1.true in
-    let r = c.before.before.afresh in
-    let m = (lent a.log.now a.rows.now a.order.now a.book.now []) in
-    let v = (session_valid s.result a.counters.now m s.ensures e.requires).site o in
-    cards_opened s.result a.counters.now m s.ensures a.w a.counts.now a.lines.now r.result c.put-lines.result
-    r.new.1.1.1.1.0 c.put-lines.new.0 o (r.ensures (view s.result.site m) (site_log s.result.site m v))
-    c.put-lines.ensures.0 c.put-lines.ensures.1
-
-returns-2 : tie.Need-returns-2
 unfolding number_of
-returns-2 c =
-    let a = c.before.before.before.args in
-    let s = c.before.session-at in
+returns c =
+    let a = c.args in
+    let s = c.session_at-s in
     let m = (lent a.log.now a.rows.now a.order.now a.book.now []) in
-    cards_before s.result a.counters.now m s.ensures a.w a.counts.now a.lines.now c.if1.false
+    cards_before s.result a.counters.now m s.ensures a.w a.counts.now a.lines.now c.if-s.false
 
-pub fl-card-parts-spec : {M : Type 1} → statement M
-fl-card-parts-spec =
+pub fl_card_parts_spec : {M : Type 1} → statement M
+fl_card_parts_spec =
     tie.close
     (tie.spec
-    session-at-requires
-    slice-aggregate-afresh
-    afresh-requires
-    put-lines-requires
-    returns
-    returns-2)
+    session_at-s-requires
+    slice_bounds-afresh-end
+    afresh-made-requires
+    put_lines-requires
+    returns-then-s
+    returns)

@@ -15,8 +15,13 @@ bit-requires-2 c κs = search rules
 returns : tie.Need-returns
 unfolding words_of
 returns c =
-    let s = c.before.before.before.before.before.before.before.before.before.args.s in
-    words_are s.opened s.site [] _ _ c.before.bit.ensures c.bit2.ensures
+    let s = c.args.s in
+    words_are s.opened s.site [] _ _ c.bit.ensures c.bit-2.ensures
 
-pub words-of-spec : {M : Type 1} → statement M
-words-of-spec = tie.close (tie.spec bit-requires bit-requires-2 returns)
+pub words_of_spec : {M : Type 1} → statement M
+words_of_spec =
+    tie.close
+    (tie.spec
+    bit-requires
+    bit-requires-2
+    returns)

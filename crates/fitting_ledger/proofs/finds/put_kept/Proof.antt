@@ -6,23 +6,29 @@ use borrow.Author.Rules.{rules}
 use Rattle.fitting_ledger.proofs.finds.put_kept.Statement.{statement}
 use Rattle.fitting_ledger.proofs.finds.put_kept.Tie as tie
 
-enum-known-r : tie.Need-enum-known-r
-enum-known-r c = search rules
+enum_known-r : tie.Need-enum_known-r
+enum_known-r c = search rules
 
-enum-known-r-2 : tie.Need-enum-known-r-2
-enum-known-r-2 c = search rules
+enum_known-r-in-Refused-1 : tie.Need-enum_known-r-in-Refused-1
+enum_known-r-in-Refused-1 c = search rules
 
-refusal-number-requires : tie.Need-refusal-number-requires
-refusal-number-requires c κs = search rules
+refusal_number-requires : tie.Need-refusal_number-requires
+refusal_number-requires c κs = search rules
 
-returns : tie.Need-returns
+returns-in-Keep : tie.Need-returns-in-Keep
 unfolding found_number found_kept
-returns c = (sym (ap found_number c.before.r.given.1), sym (ap (λ (x : Found). found_kept x c.before.before.before.args.kept.now) c.before.r.given.1))
+returns-in-Keep c = (sym (ap found_number c.in-Keep.is), sym (ap (λ (x : Found). found_kept x c.args.kept.now) c.in-Keep.is))
 
-returns-2 : tie.Need-returns-2
+returns-in-Refused : tie.Need-returns-in-Refused
 unfolding found_number found_kept
-returns-2 c = (c.refusal-number.ensures ∙ sym (ap found_number c.before.before.r2.given.1), sym (ap (λ (x : Found). found_kept x c.before.before.before.before.args.kept.now) c.before.before.r2.given.1))
+returns-in-Refused c = (c.refusal_number.ensures ∙ sym (ap found_number c.in-Refused.is), sym (ap (λ (x : Found). found_kept x c.args.kept.now) c.in-Refused.is))
 
-pub put-kept-spec : {M : Type 1} → statement M
-put-kept-spec =
-    tie.close (tie.spec enum-known-r enum-known-r-2 refusal-number-requires returns returns-2)
+pub put_kept_spec : {M : Type 1} → statement M
+put_kept_spec =
+    tie.close
+    (tie.spec
+    enum_known-r
+    enum_known-r-in-Refused-1
+    refusal_number-requires
+    returns-in-Keep
+    returns-in-Refused)

@@ -9,55 +9,53 @@ use borrow.Author.Rules.{rules}
 use Rattle.fitting_ledger.proofs.lines.fl_line_parts.Statement.{statement}
 use Rattle.fitting_ledger.proofs.lines.fl_line_parts.Tie as tie
 
+returns-then-out-lt-REPLY_BYTES : tie.Need-returns-then-out-lt-REPLY_BYTES
+returns-then-out-lt-REPLY_BYTES c =
+    let a = c.args in
+    answers-short a.counters.now (lent a.log.now a.rows.now a.order.now a.book.now []) _ a.out.now c.if-out-lt-REPLY_BYTES.true
+
+session_at-s-requires : tie.Need-session_at-s-requires
+session_at-s-requires c κs = search rules
+
+turn-t-requires : tie.Need-turn-t-requires
+turn-t-requires c κs =
+    let a = c.args in
+    let s = c.session_at-s in
+    session_valid s.result a.counters.now (lent a.log.now a.rows.now a.order.now a.book.now []) s.ensures c.requires
+
+put_session-requires : tie.Need-put_session-requires
+put_session-requires c κs = search rules
+
+put_reply-requires : tie.Need-put_reply-requires
+put_reply-requires c κs = search rules
+
+shape_of-log : tie.Need-shape_of-log
+shape_of-log c = search rules
+
+shape_of-out : tie.Need-shape_of-out
+shape_of-out c = search rules
+
 returns : tie.Need-returns
 returns c =
-    let a = c.before.before.before.before.args in
-    answers-short a.counters.now (lent a.log.now a.rows.now a.order.now a.book.now []) _ a.out.now c.if1.true
-
-session-at-requires : tie.Need-session-at-requires
-session-at-requires c κs = search rules
-
-turn-requires : tie.Need-turn-requires
-turn-requires c κs =
-    let e = c.before.before.before.before.before.before.before.before.before.before.before in
-    let a = e.args in
-    let s = c.before.before.before.before.before.session-at in
-    session_valid s.result a.counters.now (lent a.log.now a.rows.now a.order.now a.book.now []) s.ensures e.requires
-
-put-session-requires : tie.Need-put-session-requires
-put-session-requires c κs = search rules
-
-put-reply-requires : tie.Need-put-reply-requires
-put-reply-requires c κs = search rules
-
-same_length : tie.Need-same-length
-same_length c = search rules
-
-same-length-2 : tie.Need-same-length-2
-same-length-2 c = search rules
-
-returns-2 : tie.Need-returns-2
-returns-2 c =
-    let e = c.before.before.before.before.before.before.before.before.before.before.before.before.before.before.before.before.before.before.before.before.before.before.before in
-    let a = e.args in
-    let s = c.before.before.before.before.before.before.before.before.before.before.before.before.before.before.before.before.before.session-at in
-    let t = c.before.before.before.before.before.before.before.before.before.before.before.turn in
-    let p = c.before.before.before.before.before.put-session in
-    let w = c.before.before.put-reply in
+    let a = c.args in
+    let s = c.session_at-s in
+    let t = c.turn-t in
+    let p = c.put_session in
+    let w = c.put_reply in
     let old = lent a.log.now a.rows.now a.order.now a.book.now (replicate 68 0) in
-    let new = lent t.new.1.0 t.new.1.1.0 t.new.1.1.1.0 t.new.1.1.1.1.0 t.new.1.1.1.1.1.0 in
-    answers-line s.result a.counters.now old a.line.now t.result new p.new.0 a.out.now w.new.0 w.result
-    s.ensures (omega (arith, c.before.before.before.before.before.before.before.before.before.before.before.before.before.before.before.before.before.before.before.if1.false)) e.requires t.ensures p.ensures w.ensures
+    let new = lent t.new.log t.new.rows t.new.order t.new.book t.new.lists in
+    answers-line s.result a.counters.now old a.line.now t.result new p.new.words a.out.now w.new.out w.result
+    s.ensures (omega (arith, c.if-out-lt-REPLY_BYTES.false)) c.requires t.ensures p.ensures w.ensures
 
-pub fl-line-parts-spec : {M : Type 1} → statement M
-fl-line-parts-spec =
+pub fl_line_parts_spec : {M : Type 1} → statement M
+fl_line_parts_spec =
     tie.close
     (tie.spec
-    returns
-    session-at-requires
-    turn-requires
-    put-session-requires
-    put-reply-requires
-    same_length
-    same-length-2
-    returns-2)
+    returns-then-out-lt-REPLY_BYTES
+    session_at-s-requires
+    turn-t-requires
+    put_session-requires
+    put_reply-requires
+    shape_of-log
+    shape_of-out
+    returns)

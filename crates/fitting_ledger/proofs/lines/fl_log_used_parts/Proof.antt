@@ -9,24 +9,27 @@ use borrow.Author.Rules.{rules}
 use Rattle.fitting_ledger.proofs.lines.fl_log_used_parts.Statement.{statement}
 use Rattle.fitting_ledger.proofs.lines.fl_log_used_parts.Tie as tie
 
-session-at-requires : tie.Need-session-at-requires
-session-at-requires c κs = search rules
+session_at-s-requires : tie.Need-session_at-s-requires
+session_at-s-requires c κs = search rules
 
-returns : tie.Need-returns
-returns c =
-    let e = c.before.before.before.before in
-    let a = e.args in
-    let s = c.before.before.session-at in
-    sym (ap (λ (b : Bool). used_if b s.result.site) c.if1.true)
-    ∙ used_is s.result a.counters.now (lent a.log.now a.rows.now a.order.now a.book.now []) s.ensures e.requires
+returns-then-s : tie.Need-returns-then-s
+returns-then-s c =
+    let a = c.args in
+    let s = c.session_at-s in
+    sym (ap (λ (b : Bool). used_if b s.result.site) c.if-s.true)
+    ∙ used_is s.result a.counters.now (lent a.log.now a.rows.now a.order.now a.book.now []) s.ensures c.requires
 
-returns-2 : tie.Need-returns-2
-returns-2 c =
-    let e = c.before.before.before.before in
-    let a = e.args in
-    let s = c.before.before.session-at in
-    sym (ap (λ (b : Bool). used_if b s.result.site) c.if1.false)
-    ∙ used_is s.result a.counters.now (lent a.log.now a.rows.now a.order.now a.book.now []) s.ensures e.requires
+returns-else-s : tie.Need-returns-else-s
+returns-else-s c =
+    let a = c.args in
+    let s = c.session_at-s in
+    sym (ap (λ (b : Bool). used_if b s.result.site) c.if-s.false)
+    ∙ used_is s.result a.counters.now (lent a.log.now a.rows.now a.order.now a.book.now []) s.ensures c.requires
 
-pub fl-log-used-parts-spec : {M : Type 1} → statement M
-fl-log-used-parts-spec = tie.close (tie.spec session-at-requires returns returns-2)
+pub fl_log_used_parts_spec : {M : Type 1} → statement M
+fl_log_used_parts_spec =
+    tie.close
+    (tie.spec
+    session_at-s-requires
+    returns-then-s
+    returns-else-s)

@@ -9,49 +9,46 @@ use borrow.Author.Rules.{rules}
 use Rattle.fitting_ledger.proofs.plain_calls.fl_redo_parts.Statement.{statement}
 use Rattle.fitting_ledger.proofs.plain_calls.fl_redo_parts.Tie as tie
 
-session-at-requires : tie.Need-session-at-requires
-session-at-requires c κs = search rules
+session_at-s-requires : tie.Need-session_at-s-requires
+session_at-s-requires c κs = search rules
 
-redo-requires : tie.Need-redo-requires
-redo-requires c κs =
-    let e = c.before.before.before.before.before.before.before.before.before.before in
-    let a = e.args in
-    let s = c.before.before.before.before.before.before.session-at in
-    (session_valid s.result a.counters.now (lent a.log.now a.rows.now a.order.now a.book.now []) s.ensures e.requires).site c.before.before.before.before.before.if1.true
+redo-r-requires : tie.Need-redo-r-requires
+redo-r-requires c κs =
+    let a = c.args in
+    let s = c.session_at-s in
+    (session_valid s.result a.counters.now (lent a.log.now a.rows.now a.order.now a.book.now []) s.ensures c.requires).site c.if-s.true
 
-put-call-requires : tie.Need-put-call-requires
-put-call-requires c κs = search rules
+put_call-requires : tie.Need-put_call-requires
+put_call-requires c κs = search rules
 
-same_length : tie.Need-same-length
-same_length c = search rules
+shape_of-log-then-s : tie.Need-shape_of-log-then-s
+shape_of-log-then-s c = search rules
+
+returns-then-s : tie.Need-returns-then-s
+returns-then-s c =
+    let a = c.args in
+    let s = c.session_at-s in
+    let r = c.redo-r in
+    let p = c.put_call in
+    let old = lent a.log.now a.rows.now a.order.now a.book.now [] in
+    let new = lent r.new.log r.new.rows r.new.order r.new.book [] in
+    performs_alone s.result a.counters.now old (Call.Redo a.line.now) r.result new p.result p.new.counters a.answer.now p.new.answer
+    c.redo-arg-then-s-2-1.given.1 s.ensures c.if-s.true c.requires (r.ensures []) p.ensures
 
 returns : tie.Need-returns
-returns c =
-    let e = c.before.before.before.before.before.before.before.before.before.before.before.before.before.before.before.before in
-    let a = e.args in
-    let s = c.before.before.before.before.before.before.before.before.before.before.before.before.session-at in
-    let r = c.before.before.before.before.before.redo in
-    let p = c.put-call in
-    let old = lent a.log.now a.rows.now a.order.now a.book.now [] in
-    let new = lent r.new.1.0 r.new.1.1.0 r.new.1.1.1.0 r.new.1.1.1.1.0 [] in
-    performs_alone s.result a.counters.now old (Call.Redo a.line.now) r.result new p.result p.new.0 a.answer.now p.new.1.0
-    c.before.before.before.before.before.before.before.redo-arg3.given.0.1 s.ensures c.before.before.before.before.before.before.before.before.before.before.before.if1.true e.requires (r.ensures []) p.ensures
-
-returns-2 : tie.Need-returns-2
 unfolding number_of
-returns-2 c =
-    let e = c.before.before.before.before.before in
-    let a = e.args in
-    let s = c.before.session-at in
-    performs_not s.result a.counters.now (lent a.log.now a.rows.now a.order.now a.book.now []) (Call.Redo a.line.now) a.answer.now s.ensures c.if1.false e.requires
+returns c =
+    let a = c.args in
+    let s = c.session_at-s in
+    performs_not s.result a.counters.now (lent a.log.now a.rows.now a.order.now a.book.now []) (Call.Redo a.line.now) a.answer.now s.ensures c.if-s.false c.requires
 
-pub fl-redo-parts-spec : {M : Type 1} → statement M
-fl-redo-parts-spec =
+pub fl_redo_parts_spec : {M : Type 1} → statement M
+fl_redo_parts_spec =
     tie.close
     (tie.spec
-    session-at-requires
-    redo-requires
-    put-call-requires
-    same_length
-    returns
-    returns-2)
+    session_at-s-requires
+    redo-r-requires
+    put_call-requires
+    shape_of-log-then-s
+    returns-then-s
+    returns)

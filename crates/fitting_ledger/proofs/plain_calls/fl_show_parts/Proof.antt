@@ -9,44 +9,42 @@ use borrow.Author.Rules.{rules}
 use Rattle.fitting_ledger.proofs.plain_calls.fl_show_parts.Statement.{statement}
 use Rattle.fitting_ledger.proofs.plain_calls.fl_show_parts.Tie as tie
 
-session-at-requires : tie.Need-session-at-requires
-session-at-requires c κs = search rules
+session_at-s-requires : tie.Need-session_at-s-requires
+session_at-s-requires c κs = search rules
 
-show-requires : tie.Need-show-requires
-show-requires c κs =
-    let e = c.before.before.before.before.before.before.before in
-    let a = e.args in
-    let s = c.before.before.before.before.session-at in
-    (session_valid s.result a.counters.now (lent a.log.now a.rows.now a.order.now a.book.now []) s.ensures e.requires).site c.before.before.before.if1.true
+show-r-requires : tie.Need-show-r-requires
+show-r-requires c κs =
+    let a = c.args in
+    let s = c.session_at-s in
+    (session_valid s.result a.counters.now (lent a.log.now a.rows.now a.order.now a.book.now []) s.ensures c.requires).site c.if-s.true
 
-put-call-requires : tie.Need-put-call-requires
-put-call-requires c κs = search rules
+put_call-requires : tie.Need-put_call-requires
+put_call-requires c κs = search rules
 
-returns : tie.Need-returns
-returns c =
-    let e = c.before.before.before.before.before.before.before.before.before.before.before in
-    let a = e.args in
-    let s = c.before.before.before.before.before.before.before.before.session-at in
-    let r = c.before.before.before.show in
-    let p = c.put-call in
+returns-then-s : tie.Need-returns-then-s
+returns-then-s c =
+    let a = c.args in
+    let s = c.session_at-s in
+    let r = c.show-r in
+    let p = c.put_call in
     let old = lent a.log.now a.rows.now a.order.now a.book.now [] in
     let new = lent a.log.now a.rows.now a.order.now a.book.now [] in
-    performs s.result a.counters.now old (Call.Show a.history) r.result new p.result p.new.0 a.answer.now p.new.1.0
-    s.ensures c.before.before.before.before.before.before.before.if1.true e.requires (r.ensures []) p.ensures
+    performs s.result a.counters.now old (Call.Show a.history) r.result new p.result p.new.counters a.answer.now p.new.answer
+    s.ensures c.if-s.true c.requires (r.ensures []) p.ensures
 
-returns-2 : tie.Need-returns-2
+returns : tie.Need-returns
 unfolding number_of
-returns-2 c =
-    let e = c.before.before.before.before in
-    let a = e.args in
-    let s = c.before.session-at in
-    performs_not s.result a.counters.now (lent a.log.now a.rows.now a.order.now a.book.now []) (Call.Show a.history) a.answer.now s.ensures c.if1.false e.requires
+returns c =
+    let a = c.args in
+    let s = c.session_at-s in
+    performs_not s.result a.counters.now (lent a.log.now a.rows.now a.order.now a.book.now []) (Call.Show a.history) a.answer.now s.ensures c.if-s.false c.requires
 
-pub fl-show-parts-spec : {M : Type 1} → statement M
-fl-show-parts-spec =
-    tie.close (tie.spec
-    session-at-requires
-    show-requires
-    put-call-requires
-    returns
-    returns-2)
+pub fl_show_parts_spec : {M : Type 1} → statement M
+fl_show_parts_spec =
+    tie.close
+    (tie.spec
+    session_at-s-requires
+    show-r-requires
+    put_call-requires
+    returns-then-s
+    returns)

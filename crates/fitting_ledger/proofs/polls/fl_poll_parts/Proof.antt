@@ -9,37 +9,41 @@ use borrow.Author.Rules.{rules}
 use Rattle.fitting_ledger.proofs.polls.fl_poll_parts.Statement.{statement}
 use Rattle.fitting_ledger.proofs.polls.fl_poll_parts.Tie as tie
 
-session-at-requires : tie.Need-session-at-requires
-session-at-requires c κs = search rules
+session_at-s-requires : tie.Need-session_at-s-requires
+session_at-s-requires c κs = search rules
 
-poll-requires : tie.Need-poll-requires
-poll-requires c κs =
-    let e = c.before.before.before.before in
-    let a = e.args in
-    let s = c.before.before.session-at in
-    (a.log.now, a.rows.now, a.order.now, (session_valid s.result a.counters.now (lent a.log.now a.rows.now a.order.now a.book.now []) s.ensures e.requires).site c.before.if1.true)
+poll-p-requires : tie.Need-poll-p-requires
+poll-p-requires c κs =
+    let a = c.args in
+    let s = c.session_at-s in
+    (a.log.now, a.rows.now, a.order.now, (session_valid s.result a.counters.now (lent a.log.now a.rows.now a.order.now a.book.now []) s.ensures c.requires).site c.if-s.true)
 
-poll-number-requires : tie.Need-poll-number-requires
-poll-number-requires c κs = search rules
+poll_number-requires : tie.Need-poll_number-requires
+poll_number-requires c κs = search rules
+
+returns-then-s : tie.Need-returns-then-s
+returns-then-s c =
+    let a = c.args in
+    let s = c.session_at-s in
+    let p = c.poll-p in
+    let m = (lent a.log.now a.rows.now a.order.now a.book.now []) in
+    let o = c.if-s.true in
+    poll-opened s.result a.counters.now m a.history c.poll_number.result (polled_of p.result) s.ensures o c.poll_number.ensures
+    (p.ensures a.log.now a.rows.now a.order.now ((session_valid s.result a.counters.now m s.ensures c.requires).site o))
 
 returns : tie.Need-returns
-returns c =
-    let e = c.before.before.before.before.before.before in
-    let a = e.args in
-    let s = c.before.before.before.before.session-at in
-    let p = c.before.poll in
-    let m = (lent a.log.now a.rows.now a.order.now a.book.now []) in
-    let o = c.before.before.before.if1.true in
-    poll-opened s.result a.counters.now m a.history c.poll-number.result (polled_of p.result) s.ensures o c.poll-number.ensures
-    (p.ensures a.log.now a.rows.now a.order.now ((session_valid s.result a.counters.now m s.ensures e.requires).site o))
-
-returns-2 : tie.Need-returns-2
 unfolding number_of
-returns-2 c =
-    let a = c.before.before.before.args in
-    let s = c.before.session-at in
-    poll-before s.result a.counters.now (lent a.log.now a.rows.now a.order.now a.book.now []) a.history s.ensures c.if1.false
+returns c =
+    let a = c.args in
+    let s = c.session_at-s in
+    poll-before s.result a.counters.now (lent a.log.now a.rows.now a.order.now a.book.now []) a.history s.ensures c.if-s.false
 
-pub fl-poll-parts-spec : {M : Type 1} → statement M
-fl-poll-parts-spec =
-    tie.close (tie.spec session-at-requires poll-requires poll-number-requires returns returns-2)
+pub fl_poll_parts_spec : {M : Type 1} → statement M
+fl_poll_parts_spec =
+    tie.close
+    (tie.spec
+    session_at-s-requires
+    poll-p-requires
+    poll_number-requires
+    returns-then-s
+    returns)

@@ -7,16 +7,21 @@ use borrow.Author.Rules.{rules}
 use Rattle.fitting_ledger.proofs.start.begin.Statement.{statement}
 use Rattle.fitting_ledger.proofs.start.begin.Tie as tie
 
-reply-number-requires : tie.Need-reply-number-requires
-reply-number-requires c κs = search rules
+reply_number-n-requires : tie.Need-reply_number-n-requires
+reply_number-n-requires c κs = search rules
 
-put-session-requires : tie.Need-put-session-requires
-put-session-requires c κs = search rules
+put_session-requires : tie.Need-put_session-requires
+put_session-requires c κs = search rules
 
 returns : tie.Need-returns
 returns c =
-    let e = c.before.before.reply-number.ensures in
-    (e, c.put-session.ensures ∙ ap (λ (k : ℕ). words_of (begun_as k c.before.before.before.before.before.args.c.site)) e)
+    let e = c.reply_number-n.ensures in
+    (e, c.put_session.ensures ∙ ap (λ (k : ℕ). words_of (begun_as k c.args.c.site)) e)
 
-pub begin-spec : {M : Type 1} → statement M
-begin-spec = tie.close (tie.spec reply-number-requires put-session-requires returns)
+pub begin_spec : {M : Type 1} → statement M
+begin_spec =
+    tie.close
+    (tie.spec
+    reply_number-n-requires
+    put_session-requires
+    returns)

@@ -8,42 +8,46 @@ use borrow.Author.Rules.{rules}
 use Rattle.fitting_ledger.proofs.trims.fl_trim_parts.Statement.{statement}
 use Rattle.fitting_ledger.proofs.trims.fl_trim_parts.Tie as tie
 
-session-at-requires : tie.Need-session-at-requires
-session-at-requires c κs = search rules
+session_at-s-requires : tie.Need-session_at-s-requires
+session_at-s-requires c κs = search rules
 
-trim-requires : tie.Need-trim-requires
-trim-requires c κs =
-    let e = c.before.before.before.before.before.before in
-    let a = e.args in
-    let s = c.before.before.before.session-at in
+trim-c-requires : tie.Need-trim-c-requires
+trim-c-requires c κs =
+    let a = c.args in
+    let s = c.session_at-s in
     let m = (lent a.log.now a.rows.now a.order.now a.book.now []) in
-    (a.rows.now, a.order.now, a.book.now, (session_valid s.result a.counters.now m s.ensures e.requires).site c.before.before.if1.true)
+    (a.rows.now, a.order.now, a.book.now, (session_valid s.result a.counters.now m s.ensures c.requires).site c.if-s.true)
 
-put-used-requires : tie.Need-put-used-requires
-put-used-requires c κs = search rules
+put_used-requires : tie.Need-put_used-requires
+put_used-requires c κs = search rules
 
-same_length : tie.Need-same-length
-same_length c = search rules
+shape_of-fresh-then-s : tie.Need-shape_of-fresh-then-s
+shape_of-fresh-then-s c = search rules
+
+returns-then-s : tie.Need-returns-then-s
+returns-then-s c =
+    let a = c.args in
+    let s = c.session_at-s in
+    let t = c.trim-c in
+    let m = (lent a.log.now a.rows.now a.order.now a.book.now []) in
+    let o = c.if-s.true in
+    trims_opened s.result a.counters.now m a.n a.fresh.now t.result t.new.fresh c.put_used.result a.used.now c.put_used.new.used s.ensures o
+    (t.ensures a.rows.now a.order.now a.book.now ((session_valid s.result a.counters.now m s.ensures c.requires).site o)) c.put_used.ensures.0 c.put_used.ensures.1
 
 returns : tie.Need-returns
-returns c =
-    let e = c.before.before.before.before.before.before.before.before.before.before.before in
-    let a = e.args in
-    let s = c.before.before.before.before.before.before.before.before.session-at in
-    let t = c.before.before.before.before.trim in
-    let m = (lent a.log.now a.rows.now a.order.now a.book.now []) in
-    let o = c.before.before.before.before.before.before.before.if1.true in
-    trims_opened s.result a.counters.now m a.n a.fresh.now t.result t.new.1.1.1.0 c.put-used.result a.used.now c.put-used.new.0 s.ensures o
-    (t.ensures a.rows.now a.order.now a.book.now ((session_valid s.result a.counters.now m s.ensures e.requires).site o)) c.put-used.ensures.0 c.put-used.ensures.1
-
-returns-2 : tie.Need-returns-2
 unfolding number_of
-returns-2 c =
-    let a = c.before.before.before.before.args in
-    let s = c.before.session-at in
-    trims_before s.result a.counters.now (lent a.log.now a.rows.now a.order.now a.book.now []) a.n a.fresh.now a.used.now s.ensures c.if1.false
+returns c =
+    let a = c.args in
+    let s = c.session_at-s in
+    trims_before s.result a.counters.now (lent a.log.now a.rows.now a.order.now a.book.now []) a.n a.fresh.now a.used.now s.ensures c.if-s.false
 
-pub fl-trim-parts-spec : {M : Type 1} → statement M
-fl-trim-parts-spec =
+pub fl_trim_parts_spec : {M : Type 1} → statement M
+fl_trim_parts_spec =
     tie.close
-    (tie.spec session-at-requires trim-requires put-used-requires same_length returns returns-2)
+    (tie.spec
+    session_at-s-requires
+    trim-c-requires
+    put_used-requires
+    shape_of-fresh-then-s
+    returns-then-s
+    returns)

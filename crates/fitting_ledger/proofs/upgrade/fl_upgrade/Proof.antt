@@ -8,43 +8,43 @@ use Rattle.fitting_ledger.proofs.upgrade.fl_upgrade.Tie as tie
 upgrade-requires : tie.Need-upgrade-requires
 upgrade-requires c κs = search rules
 
-enum-known-n : tie.Need-enum-known-n
-enum-known-n c = search rules
+enum_known-n : tie.Need-enum_known-n
+enum_known-n c = search rules
 
-enum-known-q : tie.Need-enum-known-q
-enum-known-q c = search rules
+enum_known-q : tie.Need-enum_known-q
+enum_known-q c = search rules
 
-refusal-number-requires : tie.Need-refusal-number-requires
-refusal-number-requires c κs = search rules
+refusal_number-requires : tie.Need-refusal_number-requires
+refusal_number-requires c κs = search rules
 
-same_length : tie.Need-same-length
-same_length c = search rules
+shape_of-log-in-Used : tie.Need-shape_of-log-in-Used
+shape_of-log-in-Used c = search rules
 
-returns : tie.Need-returns
-returns c =
-    let a = c.before.before.before.before.before.before.before.before.args in
-    let u = c.before.before.before.before.before.upgrade in
-    changed-over (upgrade a.log.now a.kept) a.log.now u.result u.new.0 a.used.now u.ensures c.before.n.given.0.0 c.before.n.given.1
+returns-in-Used : tie.Need-returns-in-Used
+returns-in-Used c =
+    let a = c.args in
+    let u = c.upgrade in
+    changed-over (upgrade a.log.now a.kept) a.log.now u.result u.new.log a.used.now u.ensures c.in-Used.n c.in-Used.is
 
-same-length-2 : tie.Need-same-length-2
-same-length-2 c = search rules
+shape_of-log-in-Refused : tie.Need-shape_of-log-in-Refused
+shape_of-log-in-Refused c = search rules
 
-returns-2 : tie.Need-returns-2
-returns-2 c =
-    let a = c.before.before.before.before.before.before.before.before.before.args in
-    let u = c.before.before.before.before.before.before.upgrade in
-    not-changed-over (upgrade a.log.now a.kept) a.log.now u.result u.new.0 a.used.now u.ensures c.before.before.q.given.0.0 c.refusal-number.result
-    c.before.before.q.given.1 c.refusal-number.ensures
+returns-in-Refused : tie.Need-returns-in-Refused
+returns-in-Refused c =
+    let a = c.args in
+    let u = c.upgrade in
+    not-changed-over (upgrade a.log.now a.kept) a.log.now u.result u.new.log a.used.now u.ensures c.in-Refused.q c.refusal_number.result
+    c.in-Refused.is c.refusal_number.ensures
 
-pub fl-upgrade-spec : {M : Type 1} → statement M
-fl-upgrade-spec =
+pub fl_upgrade_spec : {M : Type 1} → statement M
+fl_upgrade_spec =
     tie.close
     (tie.spec
     upgrade-requires
-    enum-known-n
-    enum-known-q
-    refusal-number-requires
-    same_length
-    returns
-    same-length-2
-    returns-2)
+    enum_known-n
+    enum_known-q
+    refusal_number-requires
+    shape_of-log-in-Used
+    returns-in-Used
+    shape_of-log-in-Refused
+    returns-in-Refused)

@@ -6,5 +6,8 @@ use Rattle.fitting_ledger.proofs.version.fl_answer_words.Tie as tie
 returns : tie.Need-returns
 returns c = answer_long
 
-pub fl-answer-words-spec : {M : Type 1} → statement M
-fl-answer-words-spec = tie.close (tie.spec returns)
+pub fl_answer_words_spec : {M : Type 1} → statement M
+fl_answer_words_spec =
+    tie.close
+    (tie.spec
+    returns)

@@ -20,60 +20,56 @@ abbrev four : tie.Start → Words
 four s = words s.args.first.now s.args.second.now s.args.third.now s.args.fourth.now
 
 -- what the call left
-abbrev done : tie.After-add → Lent
-done r = let a = r.before.before.before.before.before.before.before.before.before.before.before.before.before.before.args in lent a.log.now r.add.new.1.1.1.0 r.add.new.1.1.1.1.0 r.add.new.1.1.1.1.1.0 r.add.new.1.1.1.1.1.1.0
+abbrev done : tie.After-add-r → Lent
+done r = let a = r.args in lent a.log.now r.add-r.new.rows r.add-r.new.numbers r.add-r.new.book r.add-r.new.lists
 
-rules-known-requires : tie.Need-rules-known-requires
-rules-known-requires c κs = search rules
+rules_known-requires : tie.Need-rules_known-requires
+rules_known-requires c κs = search rules
 
-held-in-requires : tie.Need-held-in-requires
-held-in-requires c κs = search rules
+held_in-asked-requires : tie.Need-held_in-asked-requires
+held_in-asked-requires c κs = search rules
 
-module-at-requires : tie.Need-module-at-requires
-module-at-requires c κs = search rules
+module_at-m-requires : tie.Need-module_at-m-requires
+module_at-m-requires c κs = search rules
 
-add-requires : tie.Need-add-requires
-add-requires c κs =
-    let s = c.before.before.before.before.before.before.before.before.before.before.before.before.before in
-    let m = c.before.before.before.before.module-at in
-    module_valid s.args.slot m.result (four s) (came s) m.ensures s.requires
+add-r-requires : tie.Need-add-r-requires
+add-r-requires c κs =
+    let m = c.module_at-m in
+    module_valid c.args.slot m.result (four c.before.before.before.before.before.before.before.before.before) (came c.before.before.before.before.before.before.before.before.before) m.ensures c.requires
 
-put-call-requires : tie.Need-put-call-requires
-put-call-requires c κs =
-    let s = c.before.before.before.before.before.before.before.before.before.before.before.before.before.before.before.before.before.before.before in
-    let m = c.before.before.before.before.before.before.before.before.before.before.module-at in
-    let h = c.before.before.before.before.before.before.before.before.before.before.before.before.before.before.before.held_in in
-    let r = c.before.before.before.before.before.add in
-    call_size s.args.slot m.result (four s) (came s) (Call.Add s.args.id (updates_held h.result)) r.result (done c.before.before.before.before.before) m.ensures r.ensures s.requires
+put_call-requires : tie.Need-put_call-requires
+put_call-requires c κs =
+    let m = c.module_at-m in
+    let h = c.held_in-asked in
+    let r = c.add-r in
+    call_size c.args.slot m.result (four c.before.before.before.before.before.before.before.before.before.before.before.before.before.before.before) (came c.before.before.before.before.before.before.before.before.before.before.before.before.before.before.before) (Call.Add c.args.id (updates_held h.result)) r.result (done c.before.before.before.before.before) m.ensures r.ensures c.requires
+
+returns-then-rules_known : tie.Need-returns-then-rules_known
+returns-then-rules_known c =
+    let m = c.module_at-m in
+    let h = c.held_in-asked in
+    let r = c.add-r in
+    let p = c.put_call in
+    let after = words p.new.first p.new.second p.new.third p.new.fourth in
+    performs_add c.args.slot (four c.before.before.before.before.before.before.before.before.before.before.before.before.before.before.before.before) (came c.before.before.before.before.before.before.before.before.before.before.before.before.before.before.before.before) c.args.id c.args.count c.args.updates.now h.result p.result after (done c.before.before.before.before.before.before) c.args.answer.now p.new.answer
+    (sym c.if-rules_known.true ∙ c.rules_known.ensures) h.ensures
+    (performs_call c.args.slot m.result (four c.before.before.before.before.before.before.before.before.before.before.before.before.before.before.before.before) (came c.before.before.before.before.before.before.before.before.before.before.before.before.before.before.before.before) (Call.Add c.args.id (updates_held h.result)) r.result (done c.before.before.before.before.before.before) m.ensures r.ensures
+    p.result after c.args.answer.now p.new.answer p.ensures)
 
 returns : tie.Need-returns
-returns c =
-    let s = c.before.before.before.before.before.before.before.before.before.before.before.before.before.before.before.before.before.before.before.before in
-    let m = c.before.before.before.before.before.before.before.before.before.before.before.module-at in
-    let h = c.before.before.before.before.before.before.before.before.before.before.before.before.before.before.before.before.held_in in
-    let r = c.before.before.before.before.before.before.add in
-    let p = c.put-call in
-    let after = words p.new.0 p.new.1.0 p.new.1.1.0 p.new.1.1.1.0 in
-    performs_add s.args.slot (four s) (came s) s.args.id s.args.count s.args.updates.now h.result p.result after (done c.before.before.before.before.before.before) s.args.answer.now p.new.1.1.1.1.0
-    (sym c.before.before.before.before.before.before.before.before.before.before.before.before.before.before.before.before.before.if1.true ∙ c.before.before.before.before.before.before.before.before.before.before.before.before.before.before.before.before.before.before.rules-known.ensures) h.ensures
-    (performs_call s.args.slot m.result (four s) (came s) (Call.Add s.args.id (updates_held h.result)) r.result (done c.before.before.before.before.before.before) m.ensures r.ensures
-    p.result after s.args.answer.now p.new.1.1.1.1.0 p.ensures)
-
-returns-2 : tie.Need-returns-2
 unfolding number_of
-returns-2 c =
-    let s = c.before.before.before in
-    performs_unread s.args.slot (four s) (came s) s.args.id s.args.count s.args.updates.now s.args.answer.now
-    (sym c.if1.false ∙ c.before.rules-known.ensures)
+returns c =
+    performs_unread c.args.slot (four c.before.before.before) (came c.before.before.before) c.args.id c.args.count c.args.updates.now c.args.answer.now
+    (sym c.if-rules_known.false ∙ c.rules_known.ensures)
 
-pub fm-add-parts-spec : {M : Type 1} → statement M
-fm-add-parts-spec =
+pub fm_add_parts_spec : {M : Type 1} → statement M
+fm_add_parts_spec =
     tie.close
     (tie.spec
-    rules-known-requires
-    held-in-requires
-    module-at-requires
-    add-requires
-    put-call-requires
-    returns
-    returns-2)
+    rules_known-requires
+    held_in-asked-requires
+    module_at-m-requires
+    add-r-requires
+    put_call-requires
+    returns-then-rules_known
+    returns)

@@ -17,34 +17,36 @@ abbrev four : tie.Start → Words
 four s = words s.args.first.now s.args.second.now s.args.third.now s.args.fourth.now
 
 -- what the call left
-abbrev done : tie.After-persistent → Lent
-done r = let a = r.before.before.before.before.before.before.before.before.before.before.before.args in lent a.log.now a.rows.now r.persistent.new.1.1.1.1.0 r.persistent.new.1.1.1.1.1.0 r.persistent.new.1.1.1.1.1.1.0
+abbrev done : tie.After-persistent-r → Lent
+done r = let a = r.args in lent a.log.now a.rows.now r.persistent-r.new.numbers r.persistent-r.new.book r.persistent-r.new.lists
 
-module-at-requires : tie.Need-module-at-requires
-module-at-requires c κs = search rules
+module_at-m-requires : tie.Need-module_at-m-requires
+module_at-m-requires c κs = search rules
 
-persistent-requires : tie.Need-persistent-requires
-persistent-requires c κs =
-    let s = c.before.before.before.before.before.before.before.before.before.before in
-    let m = c.before.before.before.before.module-at in
-    module_valid s.args.slot m.result (four s) (came s) m.ensures s.requires
+persistent-r-requires : tie.Need-persistent-r-requires
+persistent-r-requires c κs =
+    let m = c.module_at-m in
+    module_valid c.args.slot m.result (four c.before.before.before.before.before.before) (came c.before.before.before.before.before.before) m.ensures c.requires
 
-put-call-requires : tie.Need-put-call-requires
-put-call-requires c κs =
-    let s = c.before.before.before.before.before.before.before.before.before.before.before.before.before.before.before.before in
-    let m = c.before.before.before.before.before.before.before.before.before.before.module-at in
-    let r = c.before.before.before.before.before.persistent in
-    call_size s.args.slot m.result (four s) (came s) (Call.Persistent s.args.n) r.result (done c.before.before.before.before.before) m.ensures r.ensures s.requires
+put_call-requires : tie.Need-put_call-requires
+put_call-requires c κs =
+    let m = c.module_at-m in
+    let r = c.persistent-r in
+    call_size c.args.slot m.result (four c.before.before.before.before.before.before.before.before.before.before.before.before) (came c.before.before.before.before.before.before.before.before.before.before.before.before) (Call.Persistent c.args.n) r.result (done c.before.before.before.before.before) m.ensures r.ensures c.requires
 
 returns : tie.Need-returns
 returns c =
-    let s = c.before.before.before.before.before.before.before.before.before.before.before.before.before.before.before.before.before in
-    let m = c.before.before.before.before.before.before.before.before.before.before.before.module-at in
-    let r = c.before.before.before.before.before.before.persistent in
-    let p = c.put-call in
-    performs_call s.args.slot m.result (four s) (came s) (Call.Persistent s.args.n) r.result (done c.before.before.before.before.before.before) m.ensures r.ensures
-    p.result (words p.new.0 p.new.1.0 p.new.1.1.0 p.new.1.1.1.0) s.args.answer.now p.new.1.1.1.1.0 p.ensures
+    let m = c.module_at-m in
+    let r = c.persistent-r in
+    let p = c.put_call in
+    performs_call c.args.slot m.result (four c.before.before.before.before.before.before.before.before.before.before.before.before.before) (came c.before.before.before.before.before.before.before.before.before.before.before.before.before) (Call.Persistent c.args.n) r.result (done c.before.before.before.before.before.before) m.ensures r.ensures
+    p.result (words p.new.first p.new.second p.new.third p.new.fourth) c.args.answer.now p.new.answer p.ensures
 
-pub fm-persistent-parts-spec : {M : Type 1} → statement M
-fm-persistent-parts-spec =
-    tie.close (tie.spec module-at-requires persistent-requires put-call-requires returns)
+pub fm_persistent_parts_spec : {M : Type 1} → statement M
+fm_persistent_parts_spec =
+    tie.close
+    (tie.spec
+    module_at-m-requires
+    persistent-r-requires
+    put_call-requires
+    returns)

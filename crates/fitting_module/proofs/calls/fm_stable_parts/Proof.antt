@@ -17,37 +17,40 @@ abbrev four : tie.Start → Words
 four s = words s.args.first.now s.args.second.now s.args.third.now s.args.fourth.now
 
 -- what the call left
-abbrev done : tie.After-stable → Lent
-done r = let a = r.before.before.before.before.before.before.before.before.before.before.before.before.args in lent r.stable.new.1.1.0 a.rows.now a.numbers.now r.stable.new.1.1.1.1.1.0 r.stable.new.1.1.1.1.1.1.0
+abbrev done : tie.After-stable-r → Lent
+done r = let a = r.args in lent r.stable-r.new.log a.rows.now a.numbers.now r.stable-r.new.book r.stable-r.new.lists
 
-module-at-requires : tie.Need-module-at-requires
-module-at-requires c κs = search rules
+module_at-m-requires : tie.Need-module_at-m-requires
+module_at-m-requires c κs = search rules
 
-stable-requires : tie.Need-stable-requires
-stable-requires c κs =
-    let s = c.before.before.before.before.before.before.before.before.before.before.before in
-    let m = c.before.before.before.before.before.module-at in
-    module_valid s.args.slot m.result (four s) (came s) m.ensures s.requires
+stable-r-requires : tie.Need-stable-r-requires
+stable-r-requires c κs =
+    let m = c.module_at-m in
+    module_valid c.args.slot m.result (four c.before.before.before.before.before.before.before) (came c.before.before.before.before.before.before.before) m.ensures c.requires
 
-put-call-requires : tie.Need-put-call-requires
-put-call-requires c κs =
-    let s = c.before.before.before.before.before.before.before.before.before.before.before.before.before.before.before.before.before.before.before in
-    let m = c.before.before.before.before.before.before.before.before.before.before.before.before.before.module-at in
-    let r = c.before.before.before.before.before.before.before.stable in
-    call_size s.args.slot m.result (four s) (came s) (Call.Stable s.args.n) r.result (done c.before.before.before.before.before.before.before) m.ensures r.ensures s.requires
+put_call-requires : tie.Need-put_call-requires
+put_call-requires c κs =
+    let m = c.module_at-m in
+    let r = c.stable-r in
+    call_size c.args.slot m.result (four c.before.before.before.before.before.before.before.before.before.before.before.before.before.before.before) (came c.before.before.before.before.before.before.before.before.before.before.before.before.before.before.before) (Call.Stable c.args.n) r.result (done c.before.before.before.before.before.before.before) m.ensures r.ensures c.requires
 
-same_length : tie.Need-same-length
-same_length c = search rules
+shape_of-log : tie.Need-shape_of-log
+shape_of-log c = search rules
 
 returns : tie.Need-returns
 returns c =
-    let s = c.before.before.before.before.before.before.before.before.before.before.before.before.before.before.before.before.before.before.before.before in
-    let m = c.before.before.before.before.before.before.before.before.before.before.before.before.before.before.module-at in
-    let r = c.before.before.before.before.before.before.before.before.stable in
-    let p = c.put-call in
-    performs_call s.args.slot m.result (four s) (came s) (Call.Stable s.args.n) r.result (done c.before.before.before.before.before.before.before.before) m.ensures r.ensures
-    p.result (words p.new.0 p.new.1.0 p.new.1.1.0 p.new.1.1.1.0) s.args.answer.now p.new.1.1.1.1.0 p.ensures
+    let m = c.module_at-m in
+    let r = c.stable-r in
+    let p = c.put_call in
+    performs_call c.args.slot m.result (four c.before.before.before.before.before.before.before.before.before.before.before.before.before.before.before.before) (came c.before.before.before.before.before.before.before.before.before.before.before.before.before.before.before.before) (Call.Stable c.args.n) r.result (done c.before.before.before.before.before.before.before.before) m.ensures r.ensures
+    p.result (words p.new.first p.new.second p.new.third p.new.fourth) c.args.answer.now p.new.answer p.ensures
 
-pub fm-stable-parts-spec : {M : Type 1} → statement M
-fm-stable-parts-spec =
-    tie.close (tie.spec module-at-requires stable-requires put-call-requires same_length returns)
+pub fm_stable_parts_spec : {M : Type 1} → statement M
+fm_stable_parts_spec =
+    tie.close
+    (tie.spec
+    module_at-m-requires
+    stable-r-requires
+    put_call-requires
+    shape_of-log
+    returns)

@@ -14,306 +14,295 @@ use Rattle.fitting_module.proofs.lines.call.Tie as tie
 abbrev came : tie.Start → Lent
 came s = lent s.args.log.now s.args.rows.now s.args.numbers.now s.args.book.now s.args.lists.now
 
-enum_told : tie.Need-enum-told
-enum_told c = search rules
+enum_told-1 : tie.Need-enum_told-1
+enum_told-1 c = search rules
 
 refused-requires : tie.Need-refused-requires
 refused-requires c κs = search rules
 
-enum-known-form : tie.Need-enum-known-form
-enum-known-form c = search rules
+enum_known-form : tie.Need-enum_known-form
+enum_known-form c = search rules
 
 open-requires : tie.Need-open-requires
 open-requires c κs = search rules
 
-enum-known-form-2 : tie.Need-enum-known-form-2
-enum-known-form-2 c = search rules
+enum_known-form-in-Add-1 : tie.Need-enum_known-form-in-Add-1
+enum_known-form-in-Add-1 c = search rules
 
 add-requires : tie.Need-add-requires
 add-requires c κs = search rules
 
-enum-known-form-3 : tie.Need-enum-known-form-3
-enum-known-form-3 c = search rules
+enum_known-form-in-Finish-1 : tie.Need-enum_known-form-in-Finish-1
+enum_known-form-in-Finish-1 c = search rules
 
 finish-requires : tie.Need-finish-requires
 finish-requires c κs = search rules
 
-enum-known-form-4 : tie.Need-enum-known-form-4
-enum-known-form-4 c = search rules
+enum_known-form-in-Withdraw-1 : tie.Need-enum_known-form-in-Withdraw-1
+enum_known-form-in-Withdraw-1 c = search rules
 
 withdraw-requires : tie.Need-withdraw-requires
 withdraw-requires c κs = search rules
 
-enum-known-form-5 : tie.Need-enum-known-form-5
-enum-known-form-5 c = search rules
+enum_known-form-in-Persistent-1 : tie.Need-enum_known-form-in-Persistent-1
+enum_known-form-in-Persistent-1 c = search rules
 
 persistent-requires : tie.Need-persistent-requires
 persistent-requires c κs = search rules
 
-enum-known-form-6 : tie.Need-enum-known-form-6
-enum-known-form-6 c = search rules
+enum_known-form-in-Stable-1 : tie.Need-enum_known-form-in-Stable-1
+enum_known-form-in-Stable-1 c = search rules
 
 stable-requires : tie.Need-stable-requires
 stable-requires c κs = search rules
 
-enum-known-form-7 : tie.Need-enum-known-form-7
-enum-known-form-7 c = search rules
+enum_known-form-in-Show-1 : tie.Need-enum_known-form-in-Show-1
+enum_known-form-in-Show-1 c = search rules
 
 show-requires : tie.Need-show-requires
 show-requires c κs = search rules
 
-enum-known-form-8 : tie.Need-enum-known-form-8
-enum-known-form-8 c = search rules
+enum_known-form-in-Cut-1 : tie.Need-enum_known-form-in-Cut-1
+enum_known-form-in-Cut-1 c = search rules
 
 cut-requires : tie.Need-cut-requires
 cut-requires c κs = search rules
 
-enum-told-2 : tie.Need-enum-told-2
-enum-told-2 c = search rules
+enum_told-in-Redo : tie.Need-enum_told-in-Redo
+enum_told-in-Redo c = search rules
 
 redo-requires : tie.Need-redo-requires
-redo-requires c κs = let s = c.before.before.before.before.before.before.before.before.before.before.before in (s.requires.0, s.requires.1 c.before.before.before.before.enum-told2.given.1)
+redo-requires c κs = (c.requires.0, c.requires.1 c.in-Redo.is)
 
-enum-told-3 : tie.Need-enum-told-3
-enum-told-3 c = search rules
+enum_told-in-End : tie.Need-enum_told-in-End
+enum_told-in-End c = search rules
 
 end-requires : tie.Need-end-requires
 end-requires c κs = search rules
 
-returns : tie.Need-returns
+returns-in-Bad : tie.Need-returns-in-Bad
 unfolding form_move
-returns c =
-    let s = c.before.before.before.before.before.before.before.before in
-    let a = s.args in
-    formed a.slot a.m (came s) a.line.now a.c _ _ _ c.before.enum_told.given.1
-    (unread_obeys a.slot a.m (came s) _ (c.refused.ensures (came s)))
+returns-in-Bad c =
+    let a = c.args in
+    formed a.slot a.m (came c.before.before.before.before.before.before.before) a.line.now a.c _ _ _ c.in-Bad.is
+    (unread_obeys a.slot a.m (came c.before.before.before.before.before.before.before) _ (c.refused.ensures (came c.before.before.before.before.before.before.before)))
 
-same_length : tie.Need-same-length
-same_length c = search rules
+shape_of-log-in-SiteOf : tie.Need-shape_of-log-in-SiteOf
+shape_of-log-in-SiteOf c = search rules
 
-returns-2 : tie.Need-returns-2
+returns-in-SiteOf : tie.Need-returns-in-SiteOf
 unfolding form_move
-returns-2 c =
-    let s = c.before.before.before.before.before.before.before.before.before.before.before.before.before in
-    let a = s.args in
-    formed a.slot a.m (came s) a.line.now a.c _ _ _ c.before.before.before.before.before.before.form.given.1
-    (moves_obeys a.m (Move.Open a.slot c.before.before.before.before.before.before.form.given.0.0 (length a.log.now)) (came s) _ _ (c.before.before.«open».ensures a.rows.now a.numbers.now a.lists.now))
+returns-in-SiteOf c =
+    let a = c.args in
+    formed a.slot a.m (came c.before.before.before.before.before.before.before.before.before.before.before) a.line.now a.c _ _ _ c.in-SiteOf.is
+    (moves_obeys a.m (Move.Open a.slot c.in-SiteOf.n (length a.log.now)) (came c.before.before.before.before.before.before.before.before.before.before.before) _ _ (c.open.ensures a.rows.now a.numbers.now a.lists.now))
 
-same-length-2 : tie.Need-same-length-2
-same-length-2 c = search rules
+shape_of-log-in-Add : tie.Need-shape_of-log-in-Add
+shape_of-log-in-Add c = search rules
 
-same-length-3 : tie.Need-same-length-3
-same-length-3 c = search rules
+shape_of-rows-in-Add : tie.Need-shape_of-rows-in-Add
+shape_of-rows-in-Add c = search rules
 
-same-length-4 : tie.Need-same-length-4
-same-length-4 c = search rules
+shape_of-numbers-in-Add : tie.Need-shape_of-numbers-in-Add
+shape_of-numbers-in-Add c = search rules
 
-returns-3 : tie.Need-returns-3
+returns-in-Add : tie.Need-returns-in-Add
 unfolding form_move
-returns-3 c =
-    let s = c.before.before.before.before.before.before.before.before.before.before.before.before.before.before.before.before.before.before in
-    let a = s.args in
-    formed a.slot a.m (came s) a.line.now a.c _ _ _ c.before.before.before.before.before.before.before.before.before.before.before.form2.given.1
-    (moves_obeys a.m (Move.At a.slot (Call.Add c.before.before.before.before.before.before.before.before.before.before.before.form2.given.0.0 (updates_held a.c.asked))) (came s) _ _ c.before.before.before.before.add.ensures)
+returns-in-Add c =
+    let a = c.args in
+    formed a.slot a.m (came c.before.before.before.before.before.before.before.before.before.before.before.before.before.before.before) a.line.now a.c _ _ _ c.in-Add.is
+    (moves_obeys a.m (Move.At a.slot (Call.Add c.in-Add.i (updates_held a.c.asked))) (came c.before.before.before.before.before.before.before.before.before.before.before.before.before.before.before) _ _ c.add.ensures)
 
-same-length-5 : tie.Need-same-length-5
-same-length-5 c = search rules
+shape_of-log-in-Finish : tie.Need-shape_of-log-in-Finish
+shape_of-log-in-Finish c = search rules
 
-same-length-6 : tie.Need-same-length-6
-same-length-6 c = search rules
+shape_of-rows-in-Finish : tie.Need-shape_of-rows-in-Finish
+shape_of-rows-in-Finish c = search rules
 
-same-length-7 : tie.Need-same-length-7
-same-length-7 c = search rules
+shape_of-numbers-in-Finish : tie.Need-shape_of-numbers-in-Finish
+shape_of-numbers-in-Finish c = search rules
 
-returns-4 : tie.Need-returns-4
+returns-in-Finish : tie.Need-returns-in-Finish
 unfolding form_move
-returns-4 c =
-    let s = c.before.before.before.before.before.before.before.before.before.before.before.before.before.before.before.before.before.before.before.before in
-    let a = s.args in
-    formed a.slot a.m (came s) a.line.now a.c _ _ _ c.before.before.before.before.before.before.before.before.before.before.before.before.before.form3.given.1
-    (moves_obeys a.m (Move.At a.slot (Call.Finish c.before.before.before.before.before.before.before.before.before.before.before.before.before.form3.given.0.0)) (came s) _ _ c.before.before.before.before.before.before.finish.ensures)
+returns-in-Finish c =
+    let a = c.args in
+    formed a.slot a.m (came c.before.before.before.before.before.before.before.before.before.before.before.before.before.before.before.before.before.before) a.line.now a.c _ _ _ c.in-Finish.is
+    (moves_obeys a.m (Move.At a.slot (Call.Finish c.in-Finish.i)) (came c.before.before.before.before.before.before.before.before.before.before.before.before.before.before.before.before.before.before) _ _ c.finish.ensures)
 
-same-length-8 : tie.Need-same-length-8
-same-length-8 c = search rules
+shape_of-log-in-Withdraw : tie.Need-shape_of-log-in-Withdraw
+shape_of-log-in-Withdraw c = search rules
 
-same-length-9 : tie.Need-same-length-9
-same-length-9 c = search rules
+shape_of-rows-in-Withdraw : tie.Need-shape_of-rows-in-Withdraw
+shape_of-rows-in-Withdraw c = search rules
 
-same-length-10 : tie.Need-same-length-10
-same-length-10 c = search rules
+shape_of-numbers-in-Withdraw : tie.Need-shape_of-numbers-in-Withdraw
+shape_of-numbers-in-Withdraw c = search rules
 
-returns-5 : tie.Need-returns-5
+returns-in-Withdraw : tie.Need-returns-in-Withdraw
 unfolding form_move
-returns-5 c =
-    let s = c.before.before.before.before.before.before.before.before.before.before.before.before.before.before.before.before in
-    let a = s.args in
-    formed a.slot a.m (came s) a.line.now a.c _ _ _ c.before.before.before.before.before.before.before.before.before.form4.given.1
-    (moves_obeys a.m (Move.At a.slot (Call.Withdraw c.before.before.before.before.before.before.before.before.before.form4.given.0.0)) (came s) _ _ c.before.before.withdraw.ensures)
+returns-in-Withdraw c =
+    let a = c.args in
+    formed a.slot a.m (came c.before.before.before.before.before.before.before.before.before.before.before.before) a.line.now a.c _ _ _ c.in-Withdraw.is
+    (moves_obeys a.m (Move.At a.slot (Call.Withdraw c.in-Withdraw.i)) (came c.before.before.before.before.before.before.before.before.before.before.before.before) _ _ c.withdraw.ensures)
 
-same-length-11 : tie.Need-same-length-11
-same-length-11 c = search rules
+shape_of-log-in-Persistent : tie.Need-shape_of-log-in-Persistent
+shape_of-log-in-Persistent c = search rules
 
-same-length-12 : tie.Need-same-length-12
-same-length-12 c = search rules
+shape_of-rows-in-Persistent : tie.Need-shape_of-rows-in-Persistent
+shape_of-rows-in-Persistent c = search rules
 
-same-length-13 : tie.Need-same-length-13
-same-length-13 c = search rules
+shape_of-numbers-in-Persistent : tie.Need-shape_of-numbers-in-Persistent
+shape_of-numbers-in-Persistent c = search rules
 
-returns-6 : tie.Need-returns-6
+returns-in-Persistent : tie.Need-returns-in-Persistent
 unfolding form_move
-returns-6 c =
-    let s = c.before.before.before.before.before.before.before.before.before.before.before.before.before.before.before.before in
-    let a = s.args in
-    formed a.slot a.m (came s) a.line.now a.c _ _ _ c.before.before.before.before.before.before.before.before.before.form5.given.1
-    (moves_obeys a.m (Move.At a.slot (Call.Persistent c.before.before.before.before.before.before.before.before.before.form5.given.0.0)) (came s) _ _ c.before.before.persistent.ensures)
+returns-in-Persistent c =
+    let a = c.args in
+    formed a.slot a.m (came c.before.before.before.before.before.before.before.before.before.before.before.before) a.line.now a.c _ _ _ c.in-Persistent.is
+    (moves_obeys a.m (Move.At a.slot (Call.Persistent c.in-Persistent.n)) (came c.before.before.before.before.before.before.before.before.before.before.before.before) _ _ c.persistent.ensures)
 
-same-length-14 : tie.Need-same-length-14
-same-length-14 c = search rules
+shape_of-log-in-Stable : tie.Need-shape_of-log-in-Stable
+shape_of-log-in-Stable c = search rules
 
-same-length-15 : tie.Need-same-length-15
-same-length-15 c = search rules
+shape_of-rows-in-Stable : tie.Need-shape_of-rows-in-Stable
+shape_of-rows-in-Stable c = search rules
 
-same-length-16 : tie.Need-same-length-16
-same-length-16 c = search rules
+shape_of-numbers-in-Stable : tie.Need-shape_of-numbers-in-Stable
+shape_of-numbers-in-Stable c = search rules
 
-returns-7 : tie.Need-returns-7
+returns-in-Stable : tie.Need-returns-in-Stable
 unfolding form_move
-returns-7 c =
-    let s = c.before.before.before.before.before.before.before.before.before.before.before.before.before.before.before.before in
-    let a = s.args in
-    formed a.slot a.m (came s) a.line.now a.c _ _ _ c.before.before.before.before.before.before.before.before.before.form6.given.1
-    (moves_obeys a.m (Move.At a.slot (Call.Stable c.before.before.before.before.before.before.before.before.before.form6.given.0.0)) (came s) _ _ c.before.before.stable.ensures)
+returns-in-Stable c =
+    let a = c.args in
+    formed a.slot a.m (came c.before.before.before.before.before.before.before.before.before.before.before.before) a.line.now a.c _ _ _ c.in-Stable.is
+    (moves_obeys a.m (Move.At a.slot (Call.Stable c.in-Stable.n)) (came c.before.before.before.before.before.before.before.before.before.before.before.before) _ _ c.stable.ensures)
 
-same-length-17 : tie.Need-same-length-17
-same-length-17 c = search rules
+shape_of-log-in-Show : tie.Need-shape_of-log-in-Show
+shape_of-log-in-Show c = search rules
 
-same-length-18 : tie.Need-same-length-18
-same-length-18 c = search rules
+shape_of-rows-in-Show : tie.Need-shape_of-rows-in-Show
+shape_of-rows-in-Show c = search rules
 
-same-length-19 : tie.Need-same-length-19
-same-length-19 c = search rules
+shape_of-numbers-in-Show : tie.Need-shape_of-numbers-in-Show
+shape_of-numbers-in-Show c = search rules
 
-returns-8 : tie.Need-returns-8
+returns-in-Show : tie.Need-returns-in-Show
 unfolding form_move
-returns-8 c =
-    let s = c.before.before.before.before.before.before.before.before.before.before.before.before.before in
-    let a = s.args in
-    formed a.slot a.m (came s) a.line.now a.c _ _ _ c.before.before.before.before.before.before.form7.given.1
-    (moves_obeys a.m (Move.At a.slot (Call.Show c.before.before.before.before.before.before.form7.given.0.0)) (came s) _ _ (c.show.ensures a.lists.now))
+returns-in-Show c =
+    let a = c.args in
+    formed a.slot a.m (came c.before.before.before.before.before.before.before) a.line.now a.c _ _ _ c.in-Show.is
+    (moves_obeys a.m (Move.At a.slot (Call.Show c.in-Show.h)) (came c.before.before.before.before.before.before.before) _ _ (c.show.ensures a.lists.now))
 
-same-length-20 : tie.Need-same-length-20
-same-length-20 c = search rules
+shape_of-log-in-Cut : tie.Need-shape_of-log-in-Cut
+shape_of-log-in-Cut c = search rules
 
-same-length-21 : tie.Need-same-length-21
-same-length-21 c = search rules
+shape_of-rows-in-Cut : tie.Need-shape_of-rows-in-Cut
+shape_of-rows-in-Cut c = search rules
 
-same-length-22 : tie.Need-same-length-22
-same-length-22 c = search rules
+shape_of-numbers-in-Cut : tie.Need-shape_of-numbers-in-Cut
+shape_of-numbers-in-Cut c = search rules
 
-returns-9 : tie.Need-returns-9
+returns-in-Cut : tie.Need-returns-in-Cut
 unfolding form_move
-returns-9 c =
-    let s = c.before.before.before.before.before.before.before.before.before.before.before.before.before.before.before.before.before in
-    let a = s.args in
-    formed a.slot a.m (came s) a.line.now a.c _ _ _ c.before.before.before.before.before.before.before.before.before.before.form8.given.1
-    (moves_obeys a.m (Move.At a.slot (Call.Cut c.before.before.before.before.before.before.before.before.before.before.form8.given.0.0 (length a.log.now))) (came s) _ _ (c.before.before.before.before.cut.ensures a.lists.now))
+returns-in-Cut c =
+    let a = c.args in
+    formed a.slot a.m (came c.before.before.before.before.before.before.before.before.before.before.before.before.before.before) a.line.now a.c _ _ _ c.in-Cut.is
+    (moves_obeys a.m (Move.At a.slot (Call.Cut c.in-Cut.k (length a.log.now))) (came c.before.before.before.before.before.before.before.before.before.before.before.before.before.before) _ _ (c.cut.ensures a.lists.now))
 
-same-length-23 : tie.Need-same-length-23
-same-length-23 c = search rules
+shape_of-log-in-Redo : tie.Need-shape_of-log-in-Redo
+shape_of-log-in-Redo c = search rules
 
-same-length-24 : tie.Need-same-length-24
-same-length-24 c = search rules
+shape_of-rows-in-Redo : tie.Need-shape_of-rows-in-Redo
+shape_of-rows-in-Redo c = search rules
 
-same-length-25 : tie.Need-same-length-25
-same-length-25 c = search rules
+shape_of-numbers-in-Redo : tie.Need-shape_of-numbers-in-Redo
+shape_of-numbers-in-Redo c = search rules
 
-returns-10 : tie.Need-returns-10
+returns-in-Redo : tie.Need-returns-in-Redo
 unfolding form_move
-returns-10 c =
-    let s = c.before.before.before.before.before.before.before.before.before.before.before.before.before.before.before.before.before.before in
-    let a = s.args in
-    formed a.slot a.m (came s) a.line.now a.c _ _ _ c.before.before.before.before.before.before.before.before.before.before.before.enum-told2.given.1
-    (moves_obeys a.m (Move.At a.slot (Call.Redo (did_in a.line.now))) (came s) _ _ (c.before.before.before.before.before.before.redo.ensures a.lists.now))
+returns-in-Redo c =
+    let a = c.args in
+    formed a.slot a.m (came c.before.before.before.before.before.before.before.before.before.before.before.before.before.before.before.before.before) a.line.now a.c _ _ _ c.in-Redo.is
+    (moves_obeys a.m (Move.At a.slot (Call.Redo (did_in a.line.now))) (came c.before.before.before.before.before.before.before.before.before.before.before.before.before.before.before.before.before) _ _ (c.redo.ensures a.lists.now))
 
-same-length-26 : tie.Need-same-length-26
-same-length-26 c = search rules
+shape_of-log-in-End : tie.Need-shape_of-log-in-End
+shape_of-log-in-End c = search rules
 
-same-length-27 : tie.Need-same-length-27
-same-length-27 c = search rules
+shape_of-rows-in-End : tie.Need-shape_of-rows-in-End
+shape_of-rows-in-End c = search rules
 
-same-length-28 : tie.Need-same-length-28
-same-length-28 c = search rules
+shape_of-numbers-in-End : tie.Need-shape_of-numbers-in-End
+shape_of-numbers-in-End c = search rules
 
-returns-11 : tie.Need-returns-11
+returns-in-End : tie.Need-returns-in-End
 unfolding form_move
-returns-11 c =
-    let s = c.before.before.before.before.before.before.before.before.before.before.before.before.before in
-    let a = s.args in
-    formed a.slot a.m (came s) a.line.now a.c _ _ _ c.before.before.before.before.before.before.enum-told3.given.1
-    (moves_obeys a.m (Move.At a.slot (Call.End)) (came s) _ _ c.end.ensures)
+returns-in-End c =
+    let a = c.args in
+    formed a.slot a.m (came c.before.before.before.before.before.before.before.before) a.line.now a.c _ _ _ c.in-End.is
+    (moves_obeys a.m (Move.At a.slot (Call.End)) (came c.before.before.before.before.before.before.before.before) _ _ c.end.ensures)
 
-pub call-spec : {M : Type 1} → statement M
-call-spec =
+pub call_spec : {M : Type 1} → statement M
+call_spec =
     tie.close
     (tie.spec
-    enum_told
+    enum_told-1
     refused-requires
-    enum-known-form
+    enum_known-form
     open-requires
-    enum-known-form-2
+    enum_known-form-in-Add-1
     add-requires
-    enum-known-form-3
+    enum_known-form-in-Finish-1
     finish-requires
-    enum-known-form-4
+    enum_known-form-in-Withdraw-1
     withdraw-requires
-    enum-known-form-5
+    enum_known-form-in-Persistent-1
     persistent-requires
-    enum-known-form-6
+    enum_known-form-in-Stable-1
     stable-requires
-    enum-known-form-7
+    enum_known-form-in-Show-1
     show-requires
-    enum-known-form-8
+    enum_known-form-in-Cut-1
     cut-requires
-    enum-told-2
+    enum_told-in-Redo
     redo-requires
-    enum-told-3
+    enum_told-in-End
     end-requires
-    returns
-    same_length
-    returns-2
-    same-length-2
-    same-length-3
-    same-length-4
-    returns-3
-    same-length-5
-    same-length-6
-    same-length-7
-    returns-4
-    same-length-8
-    same-length-9
-    same-length-10
-    returns-5
-    same-length-11
-    same-length-12
-    same-length-13
-    returns-6
-    same-length-14
-    same-length-15
-    same-length-16
-    returns-7
-    same-length-17
-    same-length-18
-    same-length-19
-    returns-8
-    same-length-20
-    same-length-21
-    same-length-22
-    returns-9
-    same-length-23
-    same-length-24
-    same-length-25
-    returns-10
-    same-length-26
-    same-length-27
-    same-length-28
-    returns-11)
+    returns-in-Bad
+    shape_of-log-in-SiteOf
+    returns-in-SiteOf
+    shape_of-log-in-Add
+    shape_of-rows-in-Add
+    shape_of-numbers-in-Add
+    returns-in-Add
+    shape_of-log-in-Finish
+    shape_of-rows-in-Finish
+    shape_of-numbers-in-Finish
+    returns-in-Finish
+    shape_of-log-in-Withdraw
+    shape_of-rows-in-Withdraw
+    shape_of-numbers-in-Withdraw
+    returns-in-Withdraw
+    shape_of-log-in-Persistent
+    shape_of-rows-in-Persistent
+    shape_of-numbers-in-Persistent
+    returns-in-Persistent
+    shape_of-log-in-Stable
+    shape_of-rows-in-Stable
+    shape_of-numbers-in-Stable
+    returns-in-Stable
+    shape_of-log-in-Show
+    shape_of-rows-in-Show
+    shape_of-numbers-in-Show
+    returns-in-Show
+    shape_of-log-in-Cut
+    shape_of-rows-in-Cut
+    shape_of-numbers-in-Cut
+    returns-in-Cut
+    shape_of-log-in-Redo
+    shape_of-rows-in-Redo
+    shape_of-numbers-in-Redo
+    returns-in-Redo
+    shape_of-log-in-End
+    shape_of-rows-in-End
+    shape_of-numbers-in-End
+    returns-in-End)

@@ -21,58 +21,53 @@ lists s = lent s.args.log.now s.args.rows.now s.args.numbers.now s.args.book.now
 abbrev four : tie.Start → Words
 four s = words s.args.first.now s.args.second.now s.args.third.now s.args.fourth.now
 
-returns : tie.Need-returns
-returns c =
-    let s = c.before.before.before.before in answers-short s.args.slot (four s) (came s) s.args.line.now s.args.out.now c.if1.true
+returns-then-out-lt-REPLY_BYTES : tie.Need-returns-then-out-lt-REPLY_BYTES
+returns-then-out-lt-REPLY_BYTES c = answers-short c.args.slot (four c.before.before.before.before) (came c.before.before.before.before) c.args.line.now c.args.out.now c.if-out-lt-REPLY_BYTES.true
 
-module-at-requires : tie.Need-module-at-requires
-module-at-requires c κs = search rules
+module_at-m-requires : tie.Need-module_at-m-requires
+module_at-m-requires c κs = search rules
 
-obey-requires : tie.Need-obey-requires
-obey-requires c κs =
-    let s = c.before.before.before.before.before.before.before.before.before.before.before.before.before.before in module_valid s.args.slot c.before.before.before.before.before.module-at.result (four s) (came s) c.before.before.before.before.before.module-at.ensures s.requires
+obey-r-requires : tie.Need-obey-r-requires
+obey-r-requires c κs = module_valid c.args.slot c.module_at-m.result (four c.before.before.before.before.before.before.before.before.before.before) (came c.before.before.before.before.before.before.before.before.before.before) c.module_at-m.ensures c.requires
 
-put-module-requires : tie.Need-put-module-requires
-put-module-requires c κs =
-    let s = c.before.before.before.before.before.before.before.before.before.before.before.before.before.before.before.before.before.before.before.before.before.before.before in
-    let m = c.before.before.before.before.before.before.before.before.before.before.before.before.before.before.module-at in
-    obeys_size s.args.slot m.result (line_move s.args.slot (length s.args.log.now) s.args.line.now) (lists s) c.before.before.before.before.before.before.before.before.obey.result _
-    (module_valid s.args.slot m.result (four s) (came s) m.ensures s.requires) c.before.before.before.before.before.before.before.before.obey.ensures
+put_module-requires : tie.Need-put_module-requires
+put_module-requires c κs =
+    let m = c.module_at-m in
+    obeys_size c.args.slot m.result (line_move c.args.slot (length c.args.log.now) c.args.line.now) (lists c.before.before.before.before.before.before.before.before.before.before.before.before.before.before.before.before.before.before.before) c.obey-r.result _
+    (module_valid c.args.slot m.result (four c.before.before.before.before.before.before.before.before.before.before.before.before.before.before.before.before.before.before.before) (came c.before.before.before.before.before.before.before.before.before.before.before.before.before.before.before.before.before.before.before) m.ensures c.requires) c.obey-r.ensures
 
-put-reply-requires : tie.Need-put-reply-requires
-put-reply-requires c κs =
-    let s = c.before.before.before.before.before.before.before.before.before.before.before.before.before.before.before.before.before.before.before.before.before.before.before.before.before.before in
-    let m = c.before.before.before.before.before.before.before.before.before.before.before.before.before.before.before.before.before.module-at in (
-      obeys_printable s.args.slot m.result (line_move s.args.slot (length s.args.log.now) s.args.line.now) (lists s) c.before.before.before.before.before.before.before.before.before.before.before.obey.result _
-          (module_valid s.args.slot m.result (four s) (came s) m.ensures s.requires) c.before.before.before.before.before.before.before.before.before.before.before.obey.ensures,
-      omega (arith, c.before.before.before.before.before.before.before.before.before.before.before.before.before.before.before.before.before.before.before.before.before.before.if1.false),
+put_reply-requires : tie.Need-put_reply-requires
+put_reply-requires c κs =
+    let m = c.module_at-m in (
+      obeys_printable c.args.slot m.result (line_move c.args.slot (length c.args.log.now) c.args.line.now) (lists c.before.before.before.before.before.before.before.before.before.before.before.before.before.before.before.before.before.before.before.before.before.before) c.obey-r.result _
+          (module_valid c.args.slot m.result (four c.before.before.before.before.before.before.before.before.before.before.before.before.before.before.before.before.before.before.before.before.before.before) (came c.before.before.before.before.before.before.before.before.before.before.before.before.before.before.before.before.before.before.before.before.before.before) m.ensures c.requires) c.obey-r.ensures,
+      omega (arith, c.if-out-lt-REPLY_BYTES.false),
     )
 
-same_length : tie.Need-same-length
-same_length c = search rules
+shape_of-log : tie.Need-shape_of-log
+shape_of-log c = search rules
 
-same-length-2 : tie.Need-same-length-2
-same-length-2 c = search rules
+shape_of-out : tie.Need-shape_of-out
+shape_of-out c = search rules
 
-returns-2 : tie.Need-returns-2
-returns-2 c =
-    let s = c.before.before.before.before.before.before.before.before.before.before.before.before.before.before.before.before.before.before.before.before.before.before.before.before.before.before.before.before.before in
-    let m = c.before.before.before.before.before.before.before.before.before.before.before.before.before.before.before.before.before.before.before.before.module-at in
-    let r = c.before.before.before.before.before.before.before.before.before.before.before.before.before.before.obey in
-    let p = c.before.before.before.before.before.put-module in
-    let w = c.before.before.put-reply in
-    answers-line s.args.slot m.result (four s) (lists s) s.args.line.now r.result _ _ s.args.out.now _ w.result
-    m.ensures (omega (arith, c.before.before.before.before.before.before.before.before.before.before.before.before.before.before.before.before.before.before.before.before.before.before.before.before.before.if1.false)) r.ensures p.ensures w.ensures
+returns : tie.Need-returns
+returns c =
+    let m = c.module_at-m in
+    let r = c.obey-r in
+    let p = c.put_module in
+    let w = c.put_reply in
+    answers-line c.args.slot m.result (four c.before.before.before.before.before.before.before.before.before.before.before.before.before.before.before.before.before.before.before.before.before.before.before.before.before) (lists c.before.before.before.before.before.before.before.before.before.before.before.before.before.before.before.before.before.before.before.before.before.before.before.before.before) c.args.line.now r.result _ _ c.args.out.now _ w.result
+    m.ensures (omega (arith, c.if-out-lt-REPLY_BYTES.false)) r.ensures p.ensures w.ensures
 
-pub fm-line-parts-spec : {M : Type 1} → statement M
-fm-line-parts-spec =
+pub fm_line_parts_spec : {M : Type 1} → statement M
+fm_line_parts_spec =
     tie.close
     (tie.spec
-    returns
-    module-at-requires
-    obey-requires
-    put-module-requires
-    put-reply-requires
-    same_length
-    same-length-2
-    returns-2)
+    returns-then-out-lt-REPLY_BYTES
+    module_at-m-requires
+    obey-r-requires
+    put_module-requires
+    put_reply-requires
+    shape_of-log
+    shape_of-out
+    returns)

@@ -16,33 +16,37 @@ came s = lent s.args.log.now s.args.rows.now s.args.numbers.now s.args.book.now 
 abbrev four : tie.Start → Words
 four s = words s.args.first.now s.args.second.now s.args.third.now s.args.fourth.now
 
-module-at-requires : tie.Need-module-at-requires
-module-at-requires c κs = search rules
+module_at-m-requires : tie.Need-module_at-m-requires
+module_at-m-requires c κs = search rules
 
-mul-own : tie.Need-overflow-mul-own
-mul-own c = search rules
+offset_bounds-slots-slot : tie.Need-offset_bounds-slots-slot
+offset_bounds-slots-slot c = search rules
 
-array-copy-out-own : tie.Need-array-copy-out-own
-array-copy-out-own c = search rules
+bounds-slots-slot : tie.Need-bounds-slots-slot
+bounds-slots-slot c = search rules
+
+returns-then-own : tie.Need-returns-then-own
+returns-then-own c =
+    let m = c.module_at-m in
+    used_opened (four c.before.before.before.before.before.before.before) c.args.slot (came c.before.before.before.before.before.before.before) m.result m.ensures c.if-slot-lt-SLOTS.true c.if-own.true
+
+returns-then-slot-lt-SLOTS : tie.Need-returns-then-slot-lt-SLOTS
+returns-then-slot-lt-SLOTS c =
+    let m = c.module_at-m in
+    used_not (four c.before.before.before.before.before.before.before) c.args.slot (came c.before.before.before.before.before.before.before) m.result m.ensures c.if-own.false
 
 returns : tie.Need-returns
 returns c =
-    let s = c.before.before.before.before.before.before.before in
-    let m = c.before.before.before.before.before.module-at in
-    used_opened (four s) s.args.slot (came s) m.result m.ensures c.before.before.before.before.if1.true c.if2.true
+    let m = c.module_at-m in
+    used_past (four c.before.before.before) c.args.slot (came c.before.before.before) m.result m.ensures (omega (arith, c.if-slot-lt-SLOTS.false))
 
-returns-2 : tie.Need-returns-2
-returns-2 c =
-    let s = c.before.before.before.before.before.before.before in
-    let m = c.before.before.before.before.before.module-at in
-    used_not (four s) s.args.slot (came s) m.result m.ensures c.if2.false
-
-returns-3 : tie.Need-returns-3
-returns-3 c =
-    let s = c.before.before.before in
-    let m = c.before.module-at in
-    used_past (four s) s.args.slot (came s) m.result m.ensures (omega (arith, c.if1.false))
-
-pub fm-log-used-parts-spec : {M : Type 1} → statement M
-fm-log-used-parts-spec =
-    tie.close (tie.spec module-at-requires mul-own array-copy-out-own returns returns-2 returns-3)
+pub fm_log_used_parts_spec : {M : Type 1} → statement M
+fm_log_used_parts_spec =
+    tie.close
+    (tie.spec
+    module_at-m-requires
+    offset_bounds-slots-slot
+    bounds-slots-slot
+    returns-then-own
+    returns-then-slot-lt-SLOTS
+    returns)

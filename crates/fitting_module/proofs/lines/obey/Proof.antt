@@ -5,31 +5,35 @@ use borrow.Author.Rules.{rules}
 use Rattle.fitting_module.proofs.lines.obey.Statement.{statement}
 use Rattle.fitting_module.proofs.lines.obey.Tie as tie
 
-read-command-requires : tie.Need-read-command-requires
-read-command-requires c κs = search rules
+read_command-c-requires : tie.Need-read_command-c-requires
+read_command-c-requires c κs = search rules
 
 call-requires : tie.Need-call-requires
 call-requires c κs =
-    let s = c.before.before.before.before.before.before.before.before.before.before in
-    (s.requires, redo_long s.args.line.now c.before.before.before.before.before.read-command.result c.before.before.before.before.before.read-command.ensures)
+    (c.requires, redo_long c.args.line.now c.read_command-c.result c.read_command-c.ensures)
 
-same_length : tie.Need-same-length
-same_length c = search rules
+shape_of-log : tie.Need-shape_of-log
+shape_of-log c = search rules
 
-same-length-2 : tie.Need-same-length-2
-same-length-2 c = search rules
+shape_of-rows : tie.Need-shape_of-rows
+shape_of-rows c = search rules
 
-same-length-3 : tie.Need-same-length-3
-same-length-3 c = search rules
+shape_of-numbers : tie.Need-shape_of-numbers
+shape_of-numbers c = search rules
 
 returns : tie.Need-returns
 returns c =
-    let s = c.before.before.before.before.before.before.before.before.before.before.before.before.before.before.before.before.before in
-    let a = s.args in
-    obeys_line a.slot a.m (lent a.log.now a.rows.now a.numbers.now a.book.now a.lists.now) a.line.now c.before.before.before.before.before.before.before.before.before.before.before.before.read-command.result _ _
-    c.before.before.before.before.before.before.before.before.before.before.before.before.read-command.ensures c.before.before.before.before.before.before.call.ensures
+    let a = c.args in
+    obeys_line a.slot a.m (lent a.log.now a.rows.now a.numbers.now a.book.now a.lists.now) a.line.now c.read_command-c.result _ _
+    c.read_command-c.ensures c.call.ensures
 
-pub obey-spec : {M : Type 1} → statement M
-obey-spec =
+pub obey_spec : {M : Type 1} → statement M
+obey_spec =
     tie.close
-    (tie.spec read-command-requires call-requires same_length same-length-2 same-length-3 returns)
+    (tie.spec
+    read_command-c-requires
+    call-requires
+    shape_of-log
+    shape_of-rows
+    shape_of-numbers
+    returns)

@@ -11,5 +11,9 @@ returns : tie.Need-returns
 returns c = λ m.
     record { answer = c.refusal.ensures m.lists; same = refl; kept = refl }
 
-pub refused-spec : {M : Type 1} → statement M
-refused-spec = tie.close (tie.spec refusal-requires returns)
+pub refused_spec : {M : Type 1} → statement M
+refused_spec =
+    tie.close
+    (tie.spec
+    refusal-requires
+    returns)

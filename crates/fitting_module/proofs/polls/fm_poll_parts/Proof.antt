@@ -15,23 +15,26 @@ came s = lent s.args.log.now s.args.rows.now s.args.numbers.now s.args.book.now 
 abbrev four : tie.Start → Words
 four s = words s.args.first.now s.args.second.now s.args.third.now s.args.fourth.now
 
-module-at-requires : tie.Need-module-at-requires
-module-at-requires c κs = search rules
+module_at-m-requires : tie.Need-module_at-m-requires
+module_at-m-requires c κs = search rules
 
-poll-requires : tie.Need-poll-requires
-poll-requires c κs =
-    let s = c.before.before in poll_valid (four s) s.args.slot (came s) c.module-at.result c.module-at.ensures s.requires
+poll-p-requires : tie.Need-poll-p-requires
+poll-p-requires c κs = poll_valid (four c.before.before) c.args.slot (came c.before.before) c.module_at-m.result c.module_at-m.ensures c.requires
 
-slot-number-requires : tie.Need-slot-number-requires
-slot-number-requires c κs = search rules
+slot_number-requires : tie.Need-slot_number-requires
+slot_number-requires c κs = search rules
 
 returns : tie.Need-returns
 returns c =
-    let s = c.before.before.before.before in
-    let m = c.before.before.module-at in
-    polls_slot (four s) s.args.slot (came s) m.result m.ensures s.args.history c.before.poll.result c.slot-number.result
-    c.before.poll.ensures c.slot-number.ensures
+    let m = c.module_at-m in
+    polls_slot (four c.before.before.before.before) c.args.slot (came c.before.before.before.before) m.result m.ensures c.args.history c.poll-p.result c.slot_number.result
+    c.poll-p.ensures c.slot_number.ensures
 
-pub fm-poll-parts-spec : {M : Type 1} → statement M
-fm-poll-parts-spec =
-    tie.close (tie.spec module-at-requires poll-requires slot-number-requires returns)
+pub fm_poll_parts_spec : {M : Type 1} → statement M
+fm_poll_parts_spec =
+    tie.close
+    (tie.spec
+    module_at-m-requires
+    poll-p-requires
+    slot_number-requires
+    returns)

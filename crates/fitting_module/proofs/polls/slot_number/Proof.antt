@@ -8,23 +8,29 @@ use borrow.Author.Rules.{rules}
 use Rattle.fitting_module.proofs.polls.slot_number.Statement.{statement}
 use Rattle.fitting_module.proofs.polls.slot_number.Tie as tie
 
-enum_told : tie.Need-enum-told
-enum_told c = search rules
+enum_told-1 : tie.Need-enum_told-1
+enum_told-1 c = search rules
 
-enum-known-p : tie.Need-enum-known-p
-enum-known-p c = search rules
+enum_known-p : tie.Need-enum_known-p
+enum_known-p c = search rules
 
-poll-number-requires : tie.Need-poll-number-requires
-poll-number-requires c κs = search rules
+poll_number-requires : tie.Need-poll_number-requires
+poll_number-requires c κs = search rules
 
-returns : tie.Need-returns
+returns-in-NotOpened : tie.Need-returns-in-NotOpened
 unfolding slot_polled polled_number number_of
-returns c = sym (ap (λ (x : SlotPoll). polled_number (slot_polled x)) c.enum_told.given.1)
+returns-in-NotOpened c = sym (ap (λ (x : SlotPoll). polled_number (slot_polled x)) c.in-NotOpened.is)
 
-returns-2 : tie.Need-returns-2
+returns-in-Site : tie.Need-returns-in-Site
 unfolding slot_polled
-returns-2 c = c.poll-number.ensures ∙ sym (ap (λ (x : SlotPoll). polled_number (slot_polled x)) c.before.before.p.given.1)
+returns-in-Site c = c.poll_number.ensures ∙ sym (ap (λ (x : SlotPoll). polled_number (slot_polled x)) c.in-Site.is)
 
-pub slot-number-spec : {M : Type 1} → statement M
-slot-number-spec =
-    tie.close (tie.spec enum_told enum-known-p poll-number-requires returns returns-2)
+pub slot_number_spec : {M : Type 1} → statement M
+slot_number_spec =
+    tie.close
+    (tie.spec
+    enum_told-1
+    enum_known-p
+    poll_number-requires
+    returns-in-NotOpened
+    returns-in-Site)

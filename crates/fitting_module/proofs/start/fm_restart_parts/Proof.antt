@@ -16,42 +16,39 @@ abbrev four : tie.Start → Words
 four s = words s.args.first.now s.args.second.now s.args.third.now s.args.fourth.now
 
 -- what the restart left
-abbrev done : tie.After-restart → Lent
-done r = let a = r.before.before.before.before.before.before.before.before.before.before.args in lent a.log.now r.restart.new.1.1.1.0 r.restart.new.1.1.1.1.0 r.restart.new.1.1.1.1.1.0 []
+abbrev done : tie.After-restart-r → Lent
+done r = let a = r.args in lent a.log.now r.restart-r.new.rows r.restart-r.new.numbers r.restart-r.new.book []
 
-module-at-requires : tie.Need-module-at-requires
-module-at-requires c κs = search rules
+module_at-m-requires : tie.Need-module_at-m-requires
+module_at-m-requires c κs = search rules
 
-restart-requires : tie.Need-restart-requires
-restart-requires c κs =
-    let s = c.before.before.before.before.before.before.before.before.before in
-    let m = c.before.before.before.module-at in
-    before_valid s.args.slot m.result (four s) (came s) m.ensures s.requires
+restart-r-requires : tie.Need-restart-r-requires
+restart-r-requires c κs =
+    let m = c.module_at-m in
+    before_valid c.args.slot m.result (four c.before.before.before.before.before) (came c.before.before.before.before.before) m.ensures c.requires
 
-put-module-requires : tie.Need-put-module-requires
-put-module-requires c κs =
-    let s = c.before.before.before.before.before.before.before.before.before.before.before.before.before.before.before.before in
-    let m = c.before.before.before.before.before.before.before.before.before.before.module-at in
-    restart_size s.args.slot (four s) (came s) s.args.kept c.before.before.before.before.before.before.restart.result (done c.before.before.before.before.before.before) m.result
-    (before_valid s.args.slot m.result (four s) (came s) m.ensures s.requires) (c.before.before.before.before.before.before.restart.ensures [])
+put_module-requires : tie.Need-put_module-requires
+put_module-requires c κs =
+    let m = c.module_at-m in
+    restart_size c.args.slot (four c.before.before.before.before.before.before.before.before.before.before.before.before) (came c.before.before.before.before.before.before.before.before.before.before.before.before) c.args.kept c.restart-r.result (done c.before.before.before.before.before.before) m.result
+    (before_valid c.args.slot m.result (four c.before.before.before.before.before.before.before.before.before.before.before.before) (came c.before.before.before.before.before.before.before.before.before.before.before.before) m.ensures c.requires) (c.restart-r.ensures [])
 
-reply-number-requires : tie.Need-reply-number-requires
-reply-number-requires c κs = search rules
+reply_number-requires : tie.Need-reply_number-requires
+reply_number-requires c κs = search rules
 
 returns : tie.Need-returns
 returns c =
-    let s = c.before.before.before.before.before.before.before.before.before.before.before.before.before.before.before.before.before.before in
-    let m = c.before.before.before.before.before.before.before.before.before.before.before.before.module-at in
-    let r = c.before.before.before.before.before.before.before.before.restart in
-    restarts s.args.slot (four s) (came s) s.args.kept r.result (done c.before.before.before.before.before.before.before.before) m.result _ c.reply-number.result m.ensures (r.ensures [])
-    c.before.put-module.ensures c.reply-number.ensures
+    let m = c.module_at-m in
+    let r = c.restart-r in
+    restarts c.args.slot (four c.before.before.before.before.before.before.before.before.before.before.before.before.before.before) (came c.before.before.before.before.before.before.before.before.before.before.before.before.before.before) c.args.kept r.result (done c.before.before.before.before.before.before.before.before) m.result _ c.reply_number.result m.ensures (r.ensures [])
+    c.put_module.ensures c.reply_number.ensures
 
-pub fm-restart-parts-spec : {M : Type 1} → statement M
-fm-restart-parts-spec =
+pub fm_restart_parts_spec : {M : Type 1} → statement M
+fm_restart_parts_spec =
     tie.close
     (tie.spec
-    module-at-requires
-    restart-requires
-    put-module-requires
-    reply-number-requires
+    module_at-m-requires
+    restart-r-requires
+    put_module-requires
+    reply_number-requires
     returns)

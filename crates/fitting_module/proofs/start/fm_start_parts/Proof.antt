@@ -5,18 +5,23 @@ use borrow.Author.Rules.{rules}
 use Rattle.fitting_module.proofs.start.fm_start_parts.Statement.{statement}
 use Rattle.fitting_module.proofs.start.fm_start_parts.Tie as tie
 
-known-length-requires : tie.Need-known-length-requires
-known-length-requires c κs = search rules
+known_length-requires : tie.Need-known_length-requires
+known_length-requires c κs = search rules
 
-new-requires : tie.Need-new-requires
-new-requires c κs = search rules
+new-m-requires : tie.Need-new-m-requires
+new-m-requires c κs = search rules
 
-put-module-requires : tie.Need-put-module-requires
-put-module-requires c κs = made_size c.before.before.before.before.new.result _ c.before.before.before.before.new.ensures c.before.before.before.before.before.before.before.before.args.rows.now (search rules)
+put_module-requires : tie.Need-put_module-requires
+put_module-requires c κs = made_size c.new-m.result _ c.new-m.ensures c.args.rows.now (search rules)
 
 returns : tie.Need-returns
-returns c = starts c.before.before.before.before.before.new.result _ c.before.before.before.before.before.before.before.before.before.args.rows.now _ c.before.before.before.before.before.new.ensures (search rules) c.put-module.ensures
+returns c = starts c.new-m.result _ c.args.rows.now _ c.new-m.ensures (search rules) c.put_module.ensures
 
-pub fm-start-parts-spec : {M : Type 1} → statement M
-fm-start-parts-spec =
-    tie.close (tie.spec known-length-requires new-requires put-module-requires returns)
+pub fm_start_parts_spec : {M : Type 1} → statement M
+fm_start_parts_spec =
+    tie.close
+    (tie.spec
+    known_length-requires
+    new-m-requires
+    put_module-requires
+    returns)

@@ -17,51 +17,56 @@ came s = lent s.args.log.now s.args.rows.now s.args.numbers.now s.args.book.now 
 abbrev four : tie.Start → Words
 four s = words s.args.first.now s.args.second.now s.args.third.now s.args.fourth.now
 
-module-at-requires : tie.Need-module-at-requires
-module-at-requires c κs = search rules
+module_at-m-requires : tie.Need-module_at-m-requires
+module_at-m-requires c κs = search rules
 
-mul-own : tie.Need-overflow-mul-own
-mul-own c = search rules
+offset_bounds-slots-slot : tie.Need-offset_bounds-slots-slot
+offset_bounds-slots-slot c = search rules
 
-array-copy-out-own : tie.Need-array-copy-out-own
-array-copy-out-own c = search rules
+bounds-slots-slot : tie.Need-bounds-slots-slot
+bounds-slots-slot c = search rules
 
-trim-requires : tie.Need-trim-requires
-trim-requires c κs =
-    let s = c.before.before.before.before.before.before.before.before.before in
-    let m = c.before.before.before.before.before.before.module-at in
-    log_valid (four s) s.args.slot (came s) m.result m.ensures s.requires c.before.before.if2.true
+trim-c-requires : tie.Need-trim-c-requires
+trim-c-requires c κs =
+    let m = c.module_at-m in
+    log_valid (four c.before.before.before.before.before.before.before.before.before) c.args.slot (came c.before.before.before.before.before.before.before.before.before) m.result m.ensures c.requires c.if-own.true
 
-put-used-requires : tie.Need-put-used-requires
-put-used-requires c κs = search rules
+put_used-requires : tie.Need-put_used-requires
+put_used-requires c κs = search rules
 
-same_length : tie.Need-same-length
-same_length c = search rules
+shape_of-fresh-then-own : tie.Need-shape_of-fresh-then-own
+shape_of-fresh-then-own c = search rules
+
+returns-then-own : tie.Need-returns-then-own
+returns-then-own c =
+    let m = c.module_at-m in
+    let t = c.trim-c in
+    let u = c.put_used in
+    trims_opened (four c.before.before.before.before.before.before.before.before.before.before.before.before.before.before) c.args.slot (came c.before.before.before.before.before.before.before.before.before.before.before.before.before.before) m.result m.ensures c.args.n c.args.fresh.now t.result t.new.fresh u.result c.args.used.now u.new.used
+    c.if-own.true t.ensures u.ensures.0 u.ensures.1
+
+returns-then-slot-lt-SLOTS : tie.Need-returns-then-slot-lt-SLOTS
+unfolding number_of
+returns-then-slot-lt-SLOTS c =
+    let m = c.module_at-m in
+    trims_not (four c.before.before.before.before.before.before.before) c.args.slot (came c.before.before.before.before.before.before.before) m.result m.ensures c.args.n c.args.fresh.now c.args.used.now c.if-own.false
 
 returns : tie.Need-returns
+unfolding number_of
 returns c =
-    let s = c.before.before.before.before.before.before.before.before.before.before.before.before.before.before in
-    let m = c.before.before.before.before.before.before.before.before.before.before.before.module-at in
-    let t = c.before.before.before.before.trim in
-    let u = c.put-used in
-    trims_opened (four s) s.args.slot (came s) m.result m.ensures s.args.n s.args.fresh.now t.result t.new.1.1.1.0 u.result s.args.used.now u.new.0
-    c.before.before.before.before.before.before.before.if2.true t.ensures u.ensures.0 u.ensures.1
+    let m = c.module_at-m in
+    trims_past (four c.before.before.before.before) c.args.slot (came c.before.before.before.before) m.result m.ensures c.args.n c.args.fresh.now c.args.used.now (omega (arith, c.if-slot-lt-SLOTS.false))
 
-returns-2 : tie.Need-returns-2
-unfolding number_of
-returns-2 c =
-    let s = c.before.before.before.before.before.before.before in
-    let m = c.before.before.before.before.module-at in
-    trims_not (four s) s.args.slot (came s) m.result m.ensures s.args.n s.args.fresh.now s.args.used.now c.if2.false
-
-returns-3 : tie.Need-returns-3
-unfolding number_of
-returns-3 c =
-    let s = c.before.before.before.before in
-    let m = c.before.module-at in
-    trims_past (four s) s.args.slot (came s) m.result m.ensures s.args.n s.args.fresh.now s.args.used.now (omega (arith, c.if1.false))
-
-pub fm-trim-parts-spec : {M : Type 1} → statement M
-fm-trim-parts-spec =
+pub fm_trim_parts_spec : {M : Type 1} → statement M
+fm_trim_parts_spec =
     tie.close
-    (tie.spec module-at-requires mul-own array-copy-out-own trim-requires put-used-requires same_length returns returns-2 returns-3)
+    (tie.spec
+    module_at-m-requires
+    offset_bounds-slots-slot
+    bounds-slots-slot
+    trim-c-requires
+    put_used-requires
+    shape_of-fresh-then-own
+    returns-then-own
+    returns-then-slot-lt-SLOTS
+    returns)

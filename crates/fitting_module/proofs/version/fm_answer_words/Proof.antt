@@ -6,5 +6,8 @@ use Rattle.fitting_module.proofs.version.fm_answer_words.Tie as tie
 returns : tie.Need-returns
 returns c = answer_long
 
-pub fm-answer-words-spec : {M : Type 1} → statement M
-fm-answer-words-spec = tie.close (tie.spec returns)
+pub fm_answer_words_spec : {M : Type 1} → statement M
+fm_answer_words_spec =
+    tie.close
+    (tie.spec
+    returns)

@@ -1,19 +1,22 @@
 -- The contract of the records' own call, with their number in the lent number.
 use Rattle.fitting_station.specs.RecordCallLaws.{performs}
 use borrow.Author.Rules.{rules}
-use Rattle.fitting_station.proofs.record_calls.fl_records_forget_parts.Statement.{
-  statement,
-}
+use Rattle.fitting_station.proofs.record_calls.fl_records_forget_parts.Statement.{statement}
 use Rattle.fitting_station.proofs.record_calls.fl_records_forget_parts.Tie as tie
 
-forget-requires : tie.Need-forget-requires
-forget-requires c κs = search rules
+forget-r-requires : tie.Need-forget-r-requires
+forget-r-requires c κs = search rules
 
-answer-number-requires : tie.Need-answer-number-requires
-answer-number-requires c κs = search rules
+answer_number-requires : tie.Need-answer_number-requires
+answer_number-requires c κs = search rules
 
 returns : tie.Need-returns
-returns c = performs _ _ _ c.before.before.forget.result _ c.before.before.forget.ensures c.answer-number.result c.answer-number.ensures
+returns c = performs _ _ _ c.forget-r.result _ c.forget-r.ensures c.answer_number.result c.answer_number.ensures
 
-pub fl-records-forget-parts-spec : {M : Type 1} → statement M
-fl-records-forget-parts-spec = tie.close (tie.spec forget-requires answer-number-requires returns)
+pub fl_records_forget_parts_spec : {M : Type 1} → statement M
+fl_records_forget_parts_spec =
+    tie.close
+    (tie.spec
+    forget-r-requires
+    answer_number-requires
+    returns)

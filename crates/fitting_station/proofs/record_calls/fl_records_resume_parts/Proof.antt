@@ -1,19 +1,22 @@
 -- The array is as long as its type says, so that all that is asked is how many records there would be.
 use Rattle.fitting_station.specs.RecordCallLaws.{resumes, resumes_not}
 use borrow.Author.Rules.{rules}
-use Rattle.fitting_station.proofs.record_calls.fl_records_resume_parts.Statement.{
-  statement,
-}
+use Rattle.fitting_station.proofs.record_calls.fl_records_resume_parts.Statement.{statement}
 use Rattle.fitting_station.proofs.record_calls.fl_records_resume_parts.Tie as tie
 
-known-length-requires : tie.Need-known-length-requires
-known-length-requires c κs = search rules
+known_length-requires : tie.Need-known_length-requires
+known_length-requires c κs = search rules
+
+returns-then-kept-gt-LIMIT : tie.Need-returns-then-kept-gt-LIMIT
+returns-then-kept-gt-LIMIT c = resumes_not _ _ c.known_length-arg-1.given c.if-kept-gt-LIMIT.true
 
 returns : tie.Need-returns
-returns c = resumes_not _ _ c.before.before.known-length-arg.given.0 c.if1.true
+returns c = resumes _ _ c.known_length-arg-1.given c.if-kept-gt-LIMIT.false
 
-returns-2 : tie.Need-returns-2
-returns-2 c = resumes _ _ c.before.before.known-length-arg.given.0 c.if1.false
-
-pub fl-records-resume-parts-spec : {M : Type 1} → statement M
-fl-records-resume-parts-spec = tie.close (tie.spec known-length-requires returns returns-2)
+pub fl_records_resume_parts_spec : {M : Type 1} → statement M
+fl_records_resume_parts_spec =
+    tie.close
+    (tie.spec
+    known_length-requires
+    returns-then-kept-gt-LIMIT
+    returns)

@@ -6,22 +6,28 @@ use borrow.Author.Rules.{rules}
 use Rattle.fitting_station.proofs.removals.fl_removals.Statement.{statement}
 use Rattle.fitting_station.proofs.removals.fl_removals.Tie as tie
 
-report-requires : tie.Need-report-requires
-report-requires c κs = search rules
+report-r-requires : tie.Need-report-r-requires
+report-r-requires c κs = search rules
 
-put-named-requires : tie.Need-put-named-requires
-put-named-requires c κs = search rules
+put_named-requires : tie.Need-put_named-requires
+put_named-requires c κs = search rules
 
-same_length : tie.Need-same-length
-same_length c = search rules
+shape_of-out : tie.Need-shape_of-out
+shape_of-out c = search rules
 
 returns : tie.Need-returns
 returns c =
-    let a = c.before.before.before.before.before.before.before.before.before.before.args in
-    let u = c.before.before.before.before.report in
+    let a = c.args in
+    let u = c.report-r in
     replies_removals (report a.log.now (pairs_of a.pairs.now) a.lost.now (length a.out.now)) a.out.now u.result
-    u.new.1.1.1.0 a.count.now c.put-named.result c.put-named.new.0 u.ensures c.put-named.ensures.0
-    c.put-named.ensures.1
+    u.new.out a.count.now c.put_named.result c.put_named.new.named u.ensures c.put_named.ensures.0
+    c.put_named.ensures.1
 
-pub fl-removals-spec : {M : Type 1} → statement M
-fl-removals-spec = tie.close (tie.spec report-requires put-named-requires same_length returns)
+pub fl_removals_spec : {M : Type 1} → statement M
+fl_removals_spec =
+    tie.close
+    (tie.spec
+    report-r-requires
+    put_named-requires
+    shape_of-out
+    returns)

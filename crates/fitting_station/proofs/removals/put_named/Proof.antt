@@ -6,44 +6,44 @@ use borrow.Author.Rules.{rules}
 use Rattle.fitting_station.proofs.removals.put_named.Statement.{statement}
 use Rattle.fitting_station.proofs.removals.put_named.Tie as tie
 
-enum-known-r : tie.Need-enum-known-r
-enum-known-r c = search rules
+enum_known-r : tie.Need-enum_known-r
+enum_known-r c = search rules
 
-enum-known-r-2 : tie.Need-enum-known-r-2
-enum-known-r-2 c = search rules
+enum_known-r-in-Refused-1 : tie.Need-enum_known-r-in-Refused-1
+enum_known-r-in-Refused-1 c = search rules
 
-refusal-number-requires : tie.Need-refusal-number-requires
-refusal-number-requires c κs = search rules
+refusal_number-requires : tie.Need-refusal_number-requires
+refusal_number-requires c κs = search rules
 
-enum_told : tie.Need-enum-told
-enum_told c = search rules
+enum_told-1 : tie.Need-enum_told-1
+enum_told-1 c = search rules
 
-returns : tie.Need-returns
+returns-in-Named : tie.Need-returns-in-Named
 unfolding removals_number removals_named
-returns c =
-    let e = c.before.r.given.1 in
-    (sym (ap removals_number e), sym (ap (λ (x : Removals). removals_named x c.before.before.before.args.named.now) e))
+returns-in-Named c =
+    let e = c.in-Named.is in
+    (sym (ap removals_number e), sym (ap (λ (x : Removals). removals_named x c.args.named.now) e))
 
-returns-2 : tie.Need-returns-2
+returns-in-Refused : tie.Need-returns-in-Refused
 unfolding removals_number removals_named
-returns-2 c =
-    let e = c.before.before.r2.given.1 in
-    (c.refusal-number.ensures ∙ sym (ap removals_number e), sym (ap (λ (x : Removals). removals_named x c.before.before.before.before.args.named.now) e))
+returns-in-Refused c =
+    let e = c.in-Refused.is in
+    (c.refusal_number.ensures ∙ sym (ap removals_number e), sym (ap (λ (x : Removals). removals_named x c.args.named.now) e))
 
-returns-3 : tie.Need-returns-3
+returns-in-NotAmong : tie.Need-returns-in-NotAmong
 unfolding removals_number removals_named
-returns-3 c =
-    let e = c.enum_told.given.1 in
-    (sym (ap removals_number e), sym (ap (λ (x : Removals). removals_named x c.before.before.args.named.now) e))
+returns-in-NotAmong c =
+    let e = c.in-NotAmong.is in
+    (sym (ap removals_number e), sym (ap (λ (x : Removals). removals_named x c.args.named.now) e))
 
-pub put-named-spec : {M : Type 1} → statement M
-put-named-spec =
+pub put_named_spec : {M : Type 1} → statement M
+put_named_spec =
     tie.close
     (tie.spec
-    enum-known-r
-    enum-known-r-2
-    refusal-number-requires
-    enum_told
-    returns
-    returns-2
-    returns-3)
+    enum_known-r
+    enum_known-r-in-Refused-1
+    refusal_number-requires
+    enum_told-1
+    returns-in-Named
+    returns-in-Refused
+    returns-in-NotAmong)

@@ -7,5 +7,8 @@ use Rattle.fitting_station.proofs.version.fl_log_lines.Tie as tie
 returns : tie.Need-returns
 returns c = (refl, room_enough)
 
-pub fl-log-lines-spec : {M : Type 1} → statement M
-fl-log-lines-spec = tie.close (tie.spec returns)
+pub fl_log_lines_spec : {M : Type 1} → statement M
+fl_log_lines_spec =
+    tie.close
+    (tie.spec
+    returns)
