@@ -63,7 +63,11 @@ followed c before st G =
 overflow_add-result : tie.Need-overflow_add-result
 overflow_add-result c =
     let P = c.requires in
-    let K = followed c P.before P.after P.both in
+    let r = c.afresh in
+    let made = made-card c.args.w P.before c.args.counts.now r.result r.new.counts c.in-Counted.c
+    (r.ensures P.before (up_log c.args.first c.args.log.now P.before P.both.begun)) c.in-Counted.is in
+    let K = followed-card c.args.first c.args.site c.args.log.now P.before P.after P.both c.args.w c.args.counts.now r.new.counts
+    c.in-Counted.c made c.follow-d.result c.follow-d.new.counts c.follow-d.ensures in
     omega (
       arith,
       lines_few c.args.w P.after c.follow-d.result c.follow-d.new.counts

@@ -24,7 +24,7 @@ finish-f-requires c κs =
     let m = lent c.args.log.now c.args.rows.now c.args.order.now c.args.book.now c.args.lists.now in
     let mid = lent c.args.log.now add.new.rows c.args.order.now add.new.book add.new.lists in
     let valid = (call_reaches c.args.site m (Call.Add c.args.id (updates_held asked.result)) add.result mid c.requires
-    (steps_alone c.args.site m (Call.Add c.args.id (updates_held asked.result)) add.result mid c.add-arg-4-1.given add.ensures)).valid in
+    (steps_alone c.args.site m (Call.Add c.args.id (updates_held asked.result)) add.result mid c.told-order add.ensures)).valid in
     valid
 
 shape_of-log : tie.Need-shape_of-log
@@ -40,7 +40,7 @@ returns c =
     two_reach c.args.site m _ add.result mid (Call.Finish c.args.id) finish.result
     (lent finish.new.log finish.new.rows finish.new.order finish.new.book finish.new.lists) c.requires
     (adds_updates c.args.site m c.args.id (updates_held asked.result) _ add.result mid asked.ensures
-    (steps_alone c.args.site m (Call.Add c.args.id (updates_held asked.result)) add.result mid c.add-arg-4-1.given add.ensures)) finish.ensures
+    (steps_alone c.args.site m (Call.Add c.args.id (updates_held asked.result)) add.result mid c.told-order add.ensures)) finish.ensures
 
 pub one_operation_spec : {M : Type 1} → statement M
 one_operation_spec =

@@ -65,9 +65,9 @@ loop-id-init c =
 
 round-site-requires : tie.Need-round-site-requires invariant-loop-id decreases-loop-id
 round-site-requires c κs = (
-      c.loop-id.invariant.reaches.valid,
-      omega (arith, c.loop-id-test.true, c.ranges.n),
-    )
+  c.loop-id.invariant.reaches.valid,
+  omega (arith, c.loop-id-test.true, c.ranges.n),
+)
 
 overflow_add-id : tie.Need-overflow_add-id invariant-loop-id decreases-loop-id
 overflow_add-id c =

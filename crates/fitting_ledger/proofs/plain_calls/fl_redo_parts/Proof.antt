@@ -33,7 +33,7 @@ returns-then-s c =
     let old = lent a.log.now a.rows.now a.order.now a.book.now [] in
     let new = lent r.new.log r.new.rows r.new.order r.new.book [] in
     performs_alone s.result a.counters.now old (Call.Redo a.line.now) r.result new p.result p.new.counters a.answer.now p.new.answer
-    c.redo-arg-then-s-2-1.given.1 s.ensures c.if-s.true c.requires (r.ensures []) p.ensures
+    c.told-order s.ensures c.if-s.true c.requires (r.ensures []) p.ensures
 
 returns : tie.Need-returns
 unfolding number_of
