@@ -30,7 +30,7 @@ use Rattle.rules.specs.Calls.{stable_full, stable_refusal, stabled, stable, show
 use Rattle.rules.specs.Calls.{redo_refusal, behind, pick, drain, delivered, redo_read, redo, end, writable_update, writable, perform, step}
 use Rattle.rules.specs.Checks.{check, and_then, wrong_count, no_such_history, history_twice, update_misfits, form_refusal, updates_refusal}
 use Rattle.rules.specs.Checks.{change_misfits_with, changes_refusal_with}
-use Rattle.rules.specs.Examples.{same_bytes_lem}
+use Rattle.rules.proofs.Examples.{same_bytes_lem}
 use Rattle.rules.specs.Keeper.{same_bytes}
 use Rattle.rules.specs.Log.{read_second, base_fits, in_order, head_text, stables_from, stables_at, weave_from, mark_from, up_to_did, reported}
 use Rattle.rules.specs.Log.{ended, dids_text, lines_text, log_text, lines_from, rest_from, histories_fit, rises, follows, live_in, table_holds}

@@ -7,7 +7,7 @@ use Rattle.forms.specs.Limits.{live_limit}
 use Rattle.rules.specs.Checks.{check}
 use Rattle.rules.specs.Records.{recording, forgetting, record_reply, sites_of, unless_checked, recorded, records_full, wrong_threshold}
 use Rattle.rules.specs.Records.{full_not_sent, record_refusal, record_new, on_record, forget_record}
-use Rattle.rules.specs.RecordExamples.{Asked, as_expected}
+use Rattle.rules.proofs.RecordExamples.{Asked, as_expected}
 
 -- 64 operations are recorded, each with the reply of a call that is accepted, and four calls follow.
 abbrev pub full : List Asked

@@ -13,7 +13,7 @@ use Rattle.forms.specs.Forms.{Did, Line, did_text, Answer}
 use Rattle.rules.specs.State.{State, Reply, refused, ok, settle, lines_in}
 use Rattle.rules.specs.Calls.{Call, Add, Finish, Withdraw, Persistent, Stable, Show, Cut, Changeover, Redo, End, step}
 use Rattle.rules.specs.Keeper.{same_bytes}
-use Rattle.rules.specs.Examples.{same_bytes_lem}
+use Rattle.rules.proofs.Examples.{same_bytes_lem}
 use Rattle.rule_laws.specs.Good.{Good}
 use Rattle.rules.specs.Run.{run}
 use Rattle.rule_laws.specs.GoodLaws.{good-run}

@@ -13,7 +13,7 @@ use Rattle.forms.specs.ListLaws.{T_true, T_false, true_T, false_T, all-at, any_a
 use Rattle.forms.specs.ListLaws.{keep_all, length-keep_less}
 use Rattle.rule_laws.specs.CheckLaws.{not-lt}
 use Rattle.rules.specs.Keeper.{same_bytes}
-use Rattle.rules.specs.Examples.{same_bytes_lem}
+use Rattle.rules.proofs.Examples.{same_bytes_lem}
 use Rattle.rules.specs.Records.{is_in, sites_of, with_site, full_not_sent}
 use Rattle.rule_laws.specs.RecordLaws.{keep_agree}
 

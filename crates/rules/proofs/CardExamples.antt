@@ -36,8 +36,8 @@ use Rattle.rules.specs.Rules.{profile_of, replaced_with}
 use Rattle.rules.specs.Book.{can_run_with, cell_from_with, cell_with, enter_all_with, enter_with, entered_with}
 use Rattle.rules.specs.Checks.{change_misfits_with, changes_refusal_with}
 use Rattle.rules.specs.Log.{accepts_with, read_lines, read_first, read_log}
-use Rattle.rules.specs.PollExamples.{after}
-use Rattle.rules.specs.Examples.{same_bytes_lem}
+use Rattle.rules.proofs.PollExamples.{after}
+use Rattle.rules.proofs.Examples.{same_bytes_lem}
 use Rattle.rules.specs.Trim.{base_cell_at, trimmed_base, trimmed_lines, trim_text, trim_above, trim_full, trim_refusal}
 use Rattle.rules.specs.Card.{Carded, not_carded, carded, column_of, tallied, updates_in, updates_over, last_lines, rows_over}
 use Rattle.rules.specs.Card.{row_over, comes_in, all_come_in, takes_back, followed, followed_by}

@@ -31,8 +31,8 @@ use Rattle.rules.specs.Calls.{restart, cut_above, cut, stale, redo_refusal, behi
 use Rattle.rules.specs.Calls.{writable_update, writable, perform, step}
 use Rattle.rules.specs.Keeper.{same_bytes}
 use Rattle.rules.specs.Session.{turn_of, opening, calling, obey, on_command, turn, replies, rest_reply, session_in}
-use Rattle.rules.specs.Examples.{same_bytes_lem}
-use Rattle.rules.specs.RuleTable.{begins, answers}
+use Rattle.rules.proofs.Examples.{same_bytes_lem}
+use Rattle.rules.proofs.RuleTable.{begins, answers}
 use Rattle.rules.specs.OldLog.{read_old_lines_with, read_old_first_with, read_old_with, not_upgraded, upgraded, upgraded_lines}
 use Rattle.rules.specs.OldLog.{upgraded_text, upgrade_as, upgrade}
 

@@ -35,7 +35,7 @@ use Rattle.rules.specs.Book.{can_run_with, cell_from_with, cell_with, enter_all_
 use Rattle.rules.specs.Checks.{change_misfits_with, changes_refusal_with}
 use Rattle.rules.specs.Log.{accepts_with, read_lines, read_first, read_log}
 use Rattle.rules.specs.Poll.{Polled, PollRefused, PollDry, PollBusy, poll, asks_in, changes_in, busy}
-use Rattle.rules.specs.Examples.{same_bytes_lem}
+use Rattle.rules.proofs.Examples.{same_bytes_lem}
 
 -- 0 for dry, 1 for busy, and the number of a refusal
 unfoldable pub told : Polled → ℕ

@@ -19,7 +19,7 @@ use Rattle.rules.specs.Log.{table_holds, read_lines, read_first, read_log}
 use Rattle.rules.specs.State.{State, settle, log_bytes}
 use Rattle.rules.specs.Calls.{unless, opened, restarted, restart_as, restart, cut_above, base_cut, cut}
 use Rattle.rules.specs.Keeper.{same_bytes}
-use Rattle.rules.specs.StableExamples.{dones}
+use Rattle.rules.proofs.StableExamples.{dones}
 use Rattle.rules.specs.FindCut.{places_of, leaves, fits, first_from, not_found, keep, found, find_cut}
 
 -- the site that a restart from all of these bytes gives

@@ -32,8 +32,8 @@ use Rattle.rules.specs.Calls.{restart, cut_above, cut, stale, redo_refusal, behi
 use Rattle.rules.specs.Calls.{writable_update, writable, perform, step}
 use Rattle.rules.specs.Keeper.{same_bytes}
 use Rattle.rules.specs.Session.{turn_of, opening, calling, obey, on_command, turn, replies}
-use Rattle.rules.specs.Examples.{same_bytes_lem}
-use Rattle.rules.specs.RuleTable.{begins, answers}
+use Rattle.rules.proofs.Examples.{same_bytes_lem}
+use Rattle.rules.proofs.RuleTable.{begins, answers}
 use Rattle.forms.specs.declared.Rule.{Rule}
 use Rattle.forms.specs.declared.Rule.TheVariants.{Inc, Set, Not}
 use Rattle.forms.specs.Limits.{base_top}
@@ -43,7 +43,7 @@ use Rattle.rules.specs.Calls.{Add, Finish, Persistent, Stable, Cut, Changeover, 
 use Rattle.rules.specs.Trim.{base_cell_at, trimmed_base, trimmed_lines, trim_text, trim_above, trim_full, trim_refusal, not_trimmed, trimmed}
 use Rattle.rules.specs.Trim.{trim}
 use Rattle.rules.specs.Run.{run}
-use Rattle.rules.specs.StableExamples.{Reads, dones}
+use Rattle.rules.proofs.StableExamples.{Reads, dones}
 use Rattle.std.proofs.Math.Option.{none, some}
 
 -- ### Restarts from logs with a base line

@@ -28,7 +28,7 @@ use Rattle.rules.specs.Calls.{show, restarted, restart_as, restart, stale, redo_
 use Rattle.rules.specs.Calls.{redo_read, redo, end, writable_update, writable, perform, step}
 use Rattle.rules.specs.Keeper.{same_bytes}
 use Rattle.rules.specs.Session.{Session, Turn, turn_of, calling, obey, on_command, turn, replies, after_lines}
-use Rattle.rules.specs.Examples.{same_bytes_lem}
+use Rattle.rules.proofs.Examples.{same_bytes_lem}
 use Rattle.rules.specs.Rules.{profile_of, replaced_with}
 use Rattle.rules.specs.Book.{can_run_with, cell_from_with, cell_with, enter_all_with, enter_with, entered_with}
 use Rattle.rules.specs.Checks.{change_misfits_with, changes_refusal_with}

@@ -1,0 +1,11 @@
+pub mod CardExamples
+pub mod Examples
+pub mod FindCutExamples
+pub mod KeeperExamples
+pub mod PollExamples
+pub mod RecordExamples
+pub mod RuleRows
+pub mod RuleTable
+pub mod StableExamples
+pub mod TrimExamples
+pub mod WhenExamples
