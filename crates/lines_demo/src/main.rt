@@ -4,6 +4,7 @@
 
 use forms::reader::{CommandForm, SiteRead};
 use forms::{Asked, AskedHeld, DidLine, Done, DoneRule, Place, Rule, Version};
+use std::io::Read;
 
 mod again;
 mod replies;
@@ -11,131 +12,132 @@ mod room;
 
 ghost use Rattle.std.specs.Prelude.{◌≤◌, length};
 
-fn say(w: &[u8]) {
-    io::write_all(1, w);
+// A write that fails is passed over.
+fn say(rt: &impl Print, w: &[u8]) {
+    let _ = rt.write_all(w);
 }
 
 // A word and a number.
-fn say_number(w: &[u8], n: u64) {
-    io::write_all(1, w);
-    io::print_decimal(1, n);
+fn say_number(rt: &impl Print, w: &[u8], n: u64) {
+    say(rt, w);
+    let _ = rt.print(n);
 }
 
-fn say_rule(r: Rule) {
+fn say_rule(rt: &impl Print, r: Rule) {
     match r {
-        Rule::Inc => say(b" inc"),
-        Rule::Set => say(b" set"),
-        Rule::Not => say(b" not"),
-        Rule::Unk => say(b" unk"),
+        Rule::Inc => say(rt, b" inc"),
+        Rule::Set => say(rt, b" set"),
+        Rule::Not => say(rt, b" not"),
+        Rule::Unk => say(rt, b" unk"),
     }
 }
 
-fn say_done_rule(r: DoneRule) {
+fn say_done_rule(rt: &impl Print, r: DoneRule) {
     match r {
-        DoneRule::DidInc => say(b" inc"),
-        DoneRule::DidSet => say(b" set"),
-        DoneRule::DidNot => say(b" not"),
+        DoneRule::DidInc => say(rt, b" inc"),
+        DoneRule::DidSet => say(rt, b" set"),
+        DoneRule::DidNot => say(rt, b" not"),
     }
 }
 
-fn say_asked(a: Asked) {
+fn say_asked(rt: &impl Print, a: Asked) {
     let rule = a.rule;
     let version = a.version;
     let Version(v) = version;
-    say_rule(rule);
-    say_number(b" ", a.history);
-    say_number(b" ", v);
-    say_number(b" ", a.operand);
+    say_rule(rt, rule);
+    say_number(rt, b" ", a.history);
+    say_number(rt, b" ", v);
+    say_number(rt, b" ", a.operand);
 }
 
-fn say_done(d: Done) {
+fn say_done(rt: &impl Print, d: Done) {
     let rule = d.rule;
     let version = d.version;
     let place = d.place;
     let Version(v) = version;
     let Place(p) = place;
-    say_done_rule(rule);
-    say_number(b" ", d.history);
-    say_number(b" ", v);
-    say_number(b" ", p);
-    say_number(b" ", d.operand);
+    say_done_rule(rt, rule);
+    say_number(rt, b" ", d.history);
+    say_number(rt, b" ", v);
+    say_number(rt, b" ", p);
+    say_number(rt, b" ", d.operand);
 }
 
 // The number of updates, and the first four places.
-fn say_updates(h: AskedHeld) {
+fn say_updates(rt: &impl Print, h: AskedHeld) {
     let f = h.first;
     let a = f[0];
     let b = f[1];
     let c = f[2];
     let d = f[3];
-    say_number(b" of ", h.count as u64);
-    say_asked(a);
-    say_asked(b);
-    say_asked(c);
-    say_asked(d);
+    say_number(rt, b" of ", h.count as u64);
+    say_asked(rt, a);
+    say_asked(rt, b);
+    say_asked(rt, c);
+    say_asked(rt, d);
 }
 
-fn say_did(line: DidLine) {
+fn say_did(rt: &impl Print, line: DidLine) {
     let h = line.held;
     let f = h.first;
     let a = f[0];
     let b = f[1];
     let c = f[2];
     let d = f[3];
-    say_number(b" did ", line.id);
-    say_number(b" of ", h.count as u64);
-    say_done(a);
-    say_done(b);
-    say_done(c);
-    say_done(d);
+    say_number(rt, b" did ", line.id);
+    say_number(rt, b" of ", h.count as u64);
+    say_done(rt, a);
+    say_done(rt, b);
+    say_done(rt, c);
+    say_done(rt, d);
 }
 
-fn say_form(f: CommandForm) {
+fn say_form(rt: &impl Print, f: CommandForm) {
     match f {
-        CommandForm::Bad => say(b"unreadable"),
-        CommandForm::SiteOf(n) => say_number(b"site ", n),
-        CommandForm::Add(i) => say_number(b"add ", i),
-        CommandForm::Finish(i) => say_number(b"finish ", i),
-        CommandForm::Withdraw(i) => say_number(b"withdraw ", i),
-        CommandForm::Persistent(n) => say_number(b"persistent ", n),
-        CommandForm::Stable(n) => say_number(b"stable ", n),
-        CommandForm::Show(h) => say_number(b"show ", h),
-        CommandForm::Cut(k) => say_number(b"cut ", k),
-        CommandForm::Redo => say(b"redo"),
-        CommandForm::End => say(b"end"),
+        CommandForm::Bad => say(rt, b"unreadable"),
+        CommandForm::SiteOf(n) => say_number(rt, b"site ", n),
+        CommandForm::Add(i) => say_number(rt, b"add ", i),
+        CommandForm::Finish(i) => say_number(rt, b"finish ", i),
+        CommandForm::Withdraw(i) => say_number(rt, b"withdraw ", i),
+        CommandForm::Persistent(n) => say_number(rt, b"persistent ", n),
+        CommandForm::Stable(n) => say_number(rt, b"stable ", n),
+        CommandForm::Show(h) => say_number(rt, b"show ", h),
+        CommandForm::Cut(k) => say_number(rt, b"cut ", k),
+        CommandForm::Redo => say(rt, b"redo"),
+        CommandForm::End => say(rt, b"end"),
     }
 }
 
 // A line as a command, with what its form holds.
-fn say_command(s: &[u8]) {
+fn say_command(rt: &impl Print, s: &[u8]) {
     let c = forms::reader::read_command(s);
     let form = c.form;
     let asked = c.asked;
     let did = c.did;
-    say_form(form);
+    say_form(rt, form);
     if let CommandForm::Add(i) = form {
-        say_updates(asked);
+        say_updates(rt, asked);
     }
     if let CommandForm::Redo = form {
-        say_did(did);
+        say_did(rt, did);
     }
 }
 
 // A line as each of the three kinds.
-fn say_line(s: &[u8]) {
-    say_command(s);
+fn say_line(rt: &impl Print, s: &[u8]) {
+    say_command(rt, s);
     let r = forms::reader::read_did(s);
     if r.ok {
         let did = r.did;
-        say(b" |");
-        say_did(did);
+        say(rt, b" |");
+        say_did(rt, did);
     }
     if let SiteRead::Value(n) = forms::reader::read_site(s) {
-        say_number(b" | opens ", n);
+        say_number(rt, b" | opens ", n);
     }
-    say(b"\n");
-    again::say_did_again(s);
-    again::say_site_again(s);
+    say(rt, b"\n");
+    again::say_did_again(rt, s);
+    again::say_site_again(rt, s);
 }
 
 // The position of the first line end from a position on, or the length where there is none.
@@ -153,23 +155,37 @@ fn line_end(s: &[u8], at: usize) -> usize
     i
 }
 
-fn say_lines(s: &[u8]) {
+fn say_lines(rt: &impl Print, s: &[u8]) {
     let mut at: usize = 0;
     while at < s.len() {
         let e = line_end(s, at);
-        say_line(&s[at..e]);
+        say_line(rt, &s[at..e]);
         at = e + 1;
     }
 }
 
-fn main() {
-    let mut buffer = io::large_buffer();
-    let n = io::read_full(0, &mut buffer);
-    say_lines(&buffer[..n]);
-    replies::say_refusals();
-    replies::say_paper();
-    replies::say_edges();
-    room::say_did_room();
-    room::say_site_room();
-    room::say_reply_room();
+// Reads until the buffer is full, the input ends or a read fails, and returns how many bytes it put at the start of the buffer.
+fn read_full(input: &mut impl Read, buf: &mut [u8]) -> usize
+    ensures { result ≤ length buf.new }
+{
+    let mut done = 0;
+    while done < buf.len() {
+        match input.read(&mut buf[done..]) {
+            Ok(0) | Err(_) => break,
+            Ok(n) => done += n,
+        }
+    }
+    done
+}
+
+fn main(rt: HostRuntime) {
+    let mut buffer = [0u8; 65536];
+    let n = read_full(&mut rt.stdin(), &mut buffer);
+    say_lines(&rt, &buffer[..n]);
+    replies::say_refusals(&rt);
+    replies::say_paper(&rt);
+    replies::say_edges(&rt);
+    room::say_did_room(&rt);
+    room::say_site_room(&rt);
+    room::say_reply_room(&rt);
 }
