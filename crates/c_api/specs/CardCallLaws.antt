@@ -15,7 +15,7 @@ use Rattle.rules.specs.Calls.{restart, Cut, step}
 use Rattle.rule_laws.specs.GrowLaws.{Continues}
 use Rattle.rules.specs.Card.{Carded, not_carded, carded, card, card_afresh}
 use Rattle.rule_laws.specs.CardLaws.{InRange, carded_exactly, refused_exactly}
-use Rattle.recovery.specs.Cuts.{cutting}
+use Rattle.recovery.proofs.Cuts.{cutting}
 use Rattle.site.specs.declared.Site.{Site}
 use Rattle.site.specs.declared.CallResult.{CallResult}
 use Rattle.site.specs.Representation.{Sound}

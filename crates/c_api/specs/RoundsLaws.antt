@@ -9,7 +9,7 @@ use Rattle.rules.specs.State.{State, Reply, refused, ok, settle, log_bytes}
 use Rattle.rules.specs.Calls.{Call, step}
 use Rattle.rule_laws.specs.LogLaws.{histories_least}
 use Rattle.rules.specs.Run.{run}
-use Rattle.recovery.specs.Recovery.{run-append}
+use Rattle.recovery.proofs.Recovery.{run-append}
 use Rattle.site.specs.declared.Site.{Site}
 use Rattle.site.specs.declared.CallResult.{CallResult}
 use Rattle.site.specs.Representation.{Sound}

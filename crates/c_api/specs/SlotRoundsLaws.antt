@@ -15,12 +15,12 @@ use Rattle.rules.specs.Calls.{Call, unless, open_site, step}
 use Rattle.rules.specs.When.{step_when}
 use Rattle.rule_laws.specs.WhenLaws.{step_off}
 use Rattle.rules.specs.Run.{run}
-use Rattle.recovery.specs.Recovery.{run-append}
+use Rattle.recovery.proofs.Recovery.{run-append}
 use Rattle.compact.specs.Module.{Slot as SlotState, Module as ModuleState, least, slot_at, with_slot, others, opened_in, live_of, lacks}
 use Rattle.compact.specs.Module.{free, taken}
 use Rattle.compact.specs.Module.{meets_ten, promise_after, At, Open, call_at, reply_of, promise_of, settle_in, next_of, made}
-use Rattle.compact.specs.Fits.{sum_slots, at_with, others_with, length_with}
-use Rattle.compact.specs.FitsLaws.{site-good}
+use Rattle.compact.proofs.Fits.{sum_slots, at_with, others_with, length_with}
+use Rattle.compact.proofs.FitsLaws.{site-good}
 use Rattle.compact.specs.Claim.{site_or}
 use Rattle.stream.specs.Logging.{overlaid}
 use Rattle.stream.specs.LoggingLaws.{over-site}

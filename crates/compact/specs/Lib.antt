@@ -1,12 +1,4 @@
 pub mod Module
 pub mod Fits
-pub mod FitsLaws
 pub mod Claim
-pub mod ClaimLaws
-pub mod SlotLaws
 pub mod Alone
-pub mod AloneLaws
-pub mod Examples
-pub mod Instance
-pub mod ArrivalInstance
-pub mod TenLaws

@@ -7,9 +7,9 @@ use Rattle.rules.specs.State.{State, settle}
 use Rattle.rules.specs.Calls.{Call, Cut, step}
 use Rattle.rules.specs.Run.{run}
 use Rattle.recovery.specs.Claim.{Start, counted, Fair, lost_by, Asked}
-use Rattle.recovery.specs.Recovery.{run-append}
+use Rattle.recovery.proofs.Recovery.{run-append}
 use Rattle.recovery.specs.Arrival.{did_lines, every, SameWork}
-use Rattle.recovery.specs.ArrivalLaws.{did_lines_lem, arrival, all_three}
+use Rattle.recovery.proofs.ArrivalLaws.{did_lines_lem, arrival, all_three}
 use Rattle.end_to_end.specs.SiteCalls.{Memory, state_in, ValidIn, Alone, log_in}
 use Rattle.end_to_end.specs.SiteCallsLaws.{RunsAs, log_bytes_lem, good_in, makes_runs, calls-run, starts_at}
 use Rattle.end_to_end.specs.ArrivalCalls.{lines_before, lines_at_end, SiteArrivalClaim, SiteOrdersClaim}

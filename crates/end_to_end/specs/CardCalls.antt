@@ -13,7 +13,7 @@ use Rattle.rule_laws.specs.Good.{Good}
 use Rattle.rule_laws.specs.GoodLaws.{good-step}
 use Rattle.rule_laws.specs.GrowLaws.{Continues, continues_step}
 use Rattle.rules.specs.Card.{card_afresh, card_numbers, Carded, not_carded, carded, card, takes_back}
-use Rattle.recovery.specs.Recovery.{run-append}
+use Rattle.recovery.proofs.Recovery.{run-append}
 use Rattle.site.specs.Representation.{Sound}
 use Rattle.card.specs.declared.Card.{Card}
 use Rattle.card.specs.declared.Made.{Made}

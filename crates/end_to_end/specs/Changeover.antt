@@ -14,7 +14,7 @@ use Rattle.rules.specs.OldLog.{read_old_with, read_old, Upgrade, not_upgraded, u
 use Rattle.rule_laws.specs.OldLogLaws.{Upgraded, upgrade-holds, RestartsAs, upgraded_restarts}
 use Rattle.rule_laws.specs.OlderLogs.{older_parts, read_alike}
 use Rattle.rule_laws.specs.WeaveLaws.{dids-map}
-use Rattle.recovery.specs.Cuts.{lines-restarted}
+use Rattle.recovery.proofs.Cuts.{lines-restarted}
 use Rattle.older_log.specs.declared.Changeover.{Changeover}
 use Rattle.older_log.specs.declared.Changeover.TheVariants.{Used, Refused}
 use Rattle.older_log.specs.Model.{Upgrades}

@@ -30,9 +30,9 @@ use Rattle.rules.specs.Run.{run}
 use Rattle.rules.specs.Session.{Session, Turn, turn_of, opening, calling, obey, on_command, turn, replies, after_lines, rest_reply, session_in}
 use Rattle.rules.specs.Session.{session}
 use Rattle.recovery.specs.Claim.{just_opened, counted, Fair, lost_by, came, Shows, Recovered}
-use Rattle.recovery.specs.Ending.{closed-every, just_all, just_one}
-use Rattle.recovery.specs.Recovery.{run-append, show_is, recovery}
-use Rattle.recovery.specs.Cuts.{ok_state}
+use Rattle.recovery.proofs.Ending.{closed-every, just_all, just_one}
+use Rattle.recovery.proofs.Recovery.{run-append, show_is, recovery}
+use Rattle.recovery.proofs.Cuts.{ok_state}
 use Rattle.end_to_end.specs.FrameLaws.{Frame, frame_lines}
 use Rattle.end_to_end.specs.Page.{call_of, call_read, calls_of, Text, fitting, cut_fitting, asking, sheet, Prints, PrintsWaiting}
 use Rattle.end_to_end.specs.Page.{PageClaim, ProgramClaim}

@@ -27,8 +27,8 @@ use Rattle.rule_laws.specs.PollLaws.{busy_few}
 use Rattle.rule_laws.specs.Good.{Good}
 use Rattle.rules.specs.Run.{run}
 use Rattle.recovery.specs.Claim.{Start, just_opened, just_restarted, counted, Fair, lost_by, came, Asked, Shows, Recovered}
-use Rattle.recovery.specs.Cuts.{Cutting, cutting, lost-dids}
-use Rattle.recovery.specs.Recovery.{run-append, recovery}
+use Rattle.recovery.proofs.Cuts.{Cutting, cutting, lost-dids}
+use Rattle.recovery.proofs.Recovery.{run-append, recovery}
 use Rattle.site.specs.declared.CallResult.{CallResult}
 use Rattle.site.specs.Representation.{Sound}
 use Rattle.site.specs.OpenLaws.{blank_site}

@@ -10,7 +10,7 @@ use Rattle.rules.specs.State.{State, Reply, ok, settle, log_bytes}
 use Rattle.rules.specs.Calls.{open_site, Call, Cut, step}
 use Rattle.rules.specs.Run.{run}
 use Rattle.recovery.specs.Claim.{counted, Fair, lost_by, came, Asked}
-use Rattle.recovery.specs.Recovery.{run-append}
+use Rattle.recovery.proofs.Recovery.{run-append}
 use Rattle.site.specs.declared.CallResult.{CallResult}
 use Rattle.site.specs.OpenLaws.{blank_site}
 use Rattle.history.specs.WordLaws.{below_long}

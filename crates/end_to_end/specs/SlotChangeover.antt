@@ -25,8 +25,9 @@ use Rattle.rules.specs.When.{lastly, changeover_when, perform_when, step_when}
 use Rattle.rule_laws.specs.WhenLaws.{step_off}
 use Rattle.compact.specs.Module.{Module as ModuleState, slot_at, uncovered, meets_ten, kept_live, promised_again, promise_after}
 use Rattle.compact.specs.Module.{At, Restart, reply_of, promise_of, settle_in, next_of}
-use Rattle.compact.specs.Fits.{claims, Fits, uncovered_is, parted}
-use Rattle.compact.specs.FitsLaws.{below, site-good, live_is, call_is}
+use Rattle.compact.specs.Fits.{claims, Fits}
+use Rattle.compact.proofs.Fits.{uncovered_is, parted}
+use Rattle.compact.proofs.FitsLaws.{below, site-good, live_is, call_is}
 use Rattle.site.specs.Model.{Lent, lent, Valid}
 use Rattle.trim.specs.declared.Copied.{Copied}
 use Rattle.trim.specs.declared.Copied.TheVariants.{Used, Refused}

@@ -18,7 +18,7 @@ use Rattle.rule_laws.specs.Good.{Good}
 use Rattle.rules.specs.Trim.{trimmed_base, trimmed_lines, trim_text}
 use Rattle.rule_laws.specs.TrimLaws.{copied, changes_over_lem}
 use Rattle.rule_laws.specs.TrimShows.{ShowsAlike, shows_alike, Trims, trimmed_restarts, full_restart, full-restarts}
-use Rattle.recovery.specs.Cuts.{lines-restarted}
+use Rattle.recovery.proofs.Cuts.{lines-restarted}
 use Rattle.site.specs.declared.CallResult.{CallResult}
 use Rattle.site.specs.Representation.{Sound}
 use Rattle.site.specs.OpenLaws.{blank_site}

@@ -31,8 +31,8 @@ use Rattle.std.proofs.Math.Path.{refl}
 use Rattle.std.proofs.Common.{◌∙◌}
 use Rattle.rules.specs.Trim.{base_cell_at, trimmed_base, trimmed_lines, trim_text, trim_above, trim_full, trim_refusal}
 use Rattle.rules.specs.Keeper.{same_bytes}
-use Rattle.recovery.specs.Checking.{brings_chosen, all_fine, all_come}
-use Rattle.recovery.specs.Instance.{update, eleven, twelve, fourteen, fifteen, again, start, every, brings, ToCut, fair, Computed, asked}
+use Rattle.recovery.proofs.Checking.{brings_chosen, all_fine, all_come}
+use Rattle.recovery.proofs.Instance.{update, eleven, twelve, fourteen, fifteen, again, start, every, brings, ToCut, fair, Computed, asked}
 use Rattle.site.specs.declared.CallResult.{CallResult}
 use Rattle.site.specs.OpenLaws.{blank_site}
 use Rattle.site.specs.Model.{Lent, Opens}

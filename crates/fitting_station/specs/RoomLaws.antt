@@ -10,7 +10,7 @@ use Rattle.rules.specs.Log.{dids, lines_text, head_text, log_text, rest_of, Jour
 use Rattle.rule_laws.specs.AcceptedLaws.{read_accepted}
 use Rattle.recovery.specs.Removal.{Pair, refused, named, numbers_from, not_among, removal}
 use Rattle.recovery.specs.Removal.{refuse_if, too_long, report_lines, report_log, report}
-use Rattle.recovery.specs.RemovalLaws.{length-numbers, named_of_lem, removal-numbers}
+use Rattle.recovery.proofs.RemovalLaws.{length-numbers, named_of_lem, removal-numbers}
 use Rattle.removal.specs.LengthLaws.{dids_most}
 
 log_few : (bs : List ℕ) (n : ℕ) (β : Option Base) (lines : List Line) → length bs ≤ log_limit → read_log bs ≡ journal n β lines →

@@ -19,7 +19,7 @@ use Rattle.rules.specs.When.{step_when}
 use Rattle.rule_laws.specs.WhenLaws.{step_off}
 use Rattle.compact.specs.Module.{Slot as SlotState, Module as ModuleState, slot_at, with_slot, meets_ten, promise_after, Move, At, slot_of}
 use Rattle.compact.specs.Module.{readable, call_at, reply_of, promise_of, settle_in, next_of}
-use Rattle.compact.specs.FitsLaws.{call_is, fits_next}
+use Rattle.compact.proofs.FitsLaws.{call_is, fits_next}
 use Rattle.table.specs.declared.Table.{Table}
 use Rattle.table.specs.Rows.{row_width}
 use Rattle.table.specs.Tables.{live_count}

@@ -13,9 +13,9 @@ use Rattle.recovery.specs.Claim.{lost_by, Recovered}
 use Rattle.recovery.specs.Arrival.{every, SameWork, AllThree}
 use Rattle.recovery.specs.Host.{run_in, came_in}
 use Rattle.compact.specs.Module.{Module as ModuleState, slot_at, meets_ten, Move, At, reply_of, next_of, run_all}
-use Rattle.compact.specs.FitsLaws.{call_is}
+use Rattle.compact.proofs.FitsLaws.{call_is}
 use Rattle.compact.specs.Claim.{site_or, in_slot, SlotList, before_cut, at_end}
-use Rattle.compact.specs.ClaimLaws.{opened-all, slot_recovery, slot_arrival, slot_orders}
+use Rattle.compact.proofs.ClaimLaws.{opened-all, slot_recovery, slot_arrival, slot_orders}
 use Rattle.site.specs.Model.{Lent}
 use Rattle.module.specs.declared.ModuleResult.{ModuleResult}
 use Rattle.module.specs.Model.{Moves}

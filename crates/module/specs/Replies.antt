@@ -12,8 +12,8 @@ use Rattle.rules.specs.State.{State, Reply, refused, ok, live}
 use Rattle.rules.specs.Calls.{Call}
 use Rattle.compact.specs.Module.{Module as ModuleState, slot_limit, slot_at, restarts_site, Move, At, Restart, slot_of, reply_of, next_of}
 use Rattle.compact.specs.Alone.{own_calls, replies_of, is_ten, alone}
-use Rattle.compact.specs.AloneLaws.{replies-alone, only_through_ten}
-use Rattle.compact.specs.FitsLaws.{promise_kept}
+use Rattle.compact.proofs.AloneLaws.{replies-alone, only_through_ten}
+use Rattle.compact.proofs.FitsLaws.{promise_kept}
 use Rattle.site.specs.Model.{Lent, lent, Says}
 use Rattle.module.specs.declared.ModuleResult.{ModuleResult}
 use Rattle.module.specs.Four.{true_false}

@@ -19,7 +19,8 @@ use Rattle.rules.specs.Calls.{Add, Redo, table_full, unless, writable}
 use Rattle.rules.specs.When.{step_when, perform_when, add_when, redo_when, redo_read_when}
 use Rattle.compact.specs.Module.{others, slot_at, taken, uncovered, live_of}
 use Rattle.compact.specs.Module as compact
-use Rattle.compact.specs.Fits.{claims, taken_is, not_taken_lem, uncovered_is, covered}
+use Rattle.compact.specs.Fits.{claims}
+use Rattle.compact.proofs.Fits.{taken_is, not_taken_lem, uncovered_is, covered}
 use Rattle.site.specs.Representation.{Sound}
 use Rattle.site.specs.Model.{represented}
 use Rattle.site.specs.SeenLaws.{live_is}

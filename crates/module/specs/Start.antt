@@ -3,7 +3,7 @@ use Rattle.std.specs.Prelude.{ℕ, zero, suc, ◌*◌, ◌≤◌, ◌<◌, ◌�
 use Rattle.std.proofs.Common.{arith, sym, ap, subst, ◌∙◌, take-add}
 use Rattle.forms.specs.Lists.{below}
 use Rattle.compact.specs.Module.{made}
-use Rattle.compact.specs.Fits.{fits-made}
+use Rattle.compact.proofs.Fits.{fits-made}
 use Rattle.table.specs.Order.{tally}
 use Rattle.table.specs.OrderLaws.{tally-append}
 use Rattle.table.specs.Rows.{row_width}

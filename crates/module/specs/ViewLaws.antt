@@ -3,7 +3,7 @@ use Rattle.std.specs.Prelude.{ℕ, zero, suc, ◌+◌, ◌<◌, ◌≡◌, refl,
 use Rattle.std.proofs.Common.{arith, ap}
 use Rattle.forms.specs.Lists.{sum}
 use Rattle.compact.specs.Module.{Slot, Module, unopened, slot_at, with_slot, others}
-use Rattle.compact.specs.Fits.{sum_slots}
+use Rattle.compact.proofs.Fits.{sum_slots}
 use Rattle.module.specs.Four.{four}
 
 abbrev pub list_of : (ℕ → Slot) → Module

@@ -19,10 +19,10 @@ use Rattle.forms.specs.Read.{no_did}
 use Rattle.rules.specs.Book.{touches}
 use Rattle.rule_laws.specs.BookLaws.{touches_of, touches_at}
 use Rattle.recovery.specs.Claim.{shares}
-use Rattle.recovery.specs.Ending.{shares_of, shares_at}
+use Rattle.recovery.proofs.Ending.{shares_of, shares_at}
 use Rattle.recovery.specs.Removal.{is_line, line_at, pairs_of, by_history, by_transaction, Removed}
 use Rattle.recovery.specs.Removal as rule
-use Rattle.recovery.specs.RemovalLaws.{Named, line_of, line_at_lem, together_at, together_of, removed_line}
+use Rattle.recovery.proofs.RemovalLaws.{Named, line_of, line_at_lem, together_at, together_of, removed_line}
 use Rattle.removal.specs.Chains.{count_of, key_at, Found, Ring}
 use Rattle.removal.specs.ChainLaws.{less_or, ring_next, ring_again, ring_same}
 use Rattle.removal.specs.Fall.{Net, net, lines_in, line_in, onward, around, Fallen, itself, taken, Placed, Lost}

@@ -6,7 +6,7 @@ use Rattle.forms.specs.Lists.{keep}
 use Rattle.forms.specs.ListLaws.{keep_append, length-keep, true_T}
 use Rattle.forms.specs.declared.Refusal.TheVariants.{NoRoom}
 use Rattle.recovery.specs.Removal.{numbers_from, too_long}
-use Rattle.recovery.specs.RemovalLaws.{length-numbers}
+use Rattle.recovery.proofs.RemovalLaws.{length-numbers}
 use Rattle.removal.specs.Chains.{key_at}
 use Rattle.removal.specs.ChainLaws.{less_or}
 use Rattle.removal.specs.Names.{known, KnownIf, is_marked, names, WritesTo, Writes, Answers, AnswersIf}

@@ -33,7 +33,7 @@ use Rattle.log_reader.specs.declared.JournalRead.{JournalRead}
 use Rattle.recovery.specs.Removal.{numbers_from, is_line, Pair, pairs_of, Removed, removal, Report, refused, named, refuse_if, not_among}
 use Rattle.recovery.specs.Removal.{too_long}
 use Rattle.recovery.specs.Removal.{report_lines, report_log, report}
-use Rattle.recovery.specs.RemovalLaws.{line_at_lem, named_of_lem, sifted_removal}
+use Rattle.recovery.proofs.RemovalLaws.{line_at_lem, named_of_lem, sifted_removal}
 use Rattle.removal.specs.declared.Removals.{Removals}
 use Rattle.removal.specs.declared.Removals.TheVariants.{Refused, NotAmong}
 use Rattle.removal.specs.Chains.{key_at}

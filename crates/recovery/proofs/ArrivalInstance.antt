@@ -11,13 +11,13 @@ use Rattle.forms.specs.Words.{bytes, word}
 use Rattle.forms.specs.declared.DoneRule.TheVariants.{DidInc, DidSet, DidNot}
 use Rattle.forms.specs.declared.Rule.TheVariants.{Inc, Not}
 use Rattle.recovery.specs.Arrival.{Delivery, AllThree, every}
-use Rattle.recovery.specs.ArrivalExamples.{five, six, seven}
-use Rattle.recovery.specs.ArrivalLaws.{orders}
-use Rattle.recovery.specs.Checking.{brings_chosen, all_fine, all_come, fair_of, asked_of}
+use Rattle.recovery.proofs.ArrivalExamples.{five, six, seven}
+use Rattle.recovery.proofs.ArrivalLaws.{orders}
+use Rattle.recovery.proofs.Checking.{brings_chosen, all_fine, all_come, fair_of, asked_of}
 use Rattle.recovery.specs.Claim.{counted, counted_after, lost_by, comes_after, came_from, Start, just_opened, just_restarted, came}
 use Rattle.recovery.specs.Claim.{Asked}
-use Rattle.recovery.specs.Instance.{update, change}
-use Rattle.recovery.specs.Recovery.{start-good}
+use Rattle.recovery.proofs.Instance.{update, change}
+use Rattle.recovery.proofs.Recovery.{start-good}
 use Rattle.rules.specs.Book.{start_cell, touches, runs_at, can_run_with, cell_from_with, cell_with, enter_all_with, enter_with, entered_with}
 use Rattle.rules.specs.Calls.{base_cut, Call, Add, Finish, Cut, End, unless, opened, blocked_by, blocked, may_run_now, ready, attempt}
 use Rattle.rules.specs.Calls.{try_from, made_ready, never_now, holds_never, overtaken, not_overtaken, overtaken_ids, nothing_orders, id_pending}

@@ -21,11 +21,11 @@ use Rattle.rules.specs.Book.{Cell, start_cell, cell_from, cell_from_with, cell, 
 use Rattle.rule_laws.specs.BookLaws.{EachOnce, proj, place_is, runs-place, enter_all_untouched, touches_of}
 use Rattle.rule_laws.specs.Good.{Ran}
 use Rattle.recovery.specs.Claim.{shares}
-use Rattle.recovery.specs.Ending.{shares_of}
+use Rattle.recovery.proofs.Ending.{shares_of}
 use Rattle.recovery.specs.Removal.{numbers_from, is_line, line_at, Pair, by_history, by_transaction, Removed, itself, later, together}
 use Rattle.recovery.specs.Removal.{is_among, removal, not_among}
-use Rattle.recovery.specs.RemovalLaws.{Named, named_of_lem, numbers-at, line_of, removal_sound, removal-whole, removal-numbers}
-use Rattle.recovery.specs.RemovalLaws.{among_of, among_at}
+use Rattle.recovery.proofs.RemovalLaws.{Named, named_of_lem, numbers-at, line_of, removal_sound, removal-whole, removal-numbers}
+use Rattle.recovery.proofs.RemovalLaws.{among_of, among_at}
 
 -- ### The least set, rising
 

@@ -46,10 +46,10 @@ use Rattle.recovery.specs.Arrival.{every, SameWork}
 use Rattle.recovery.specs.Host.{run_in, counted_in, came_in}
 use Rattle.compact.specs.Module.{Module, slot_at, with_slot, others, live_of, lacks, free, taken, uncovered, meets_ten, promised_again}
 use Rattle.compact.specs.Module.{Move, At, Open, reply_of, promise_of, next_of, made}
-use Rattle.compact.specs.Fits.{fits-made}
-use Rattle.compact.specs.FitsLaws.{fits_next}
+use Rattle.compact.proofs.Fits.{fits-made}
+use Rattle.compact.proofs.FitsLaws.{fits_next}
 use Rattle.compact.specs.Claim.{site_or, in_slot, SlotList, before_cut, at_end}
-use Rattle.compact.specs.ClaimLaws.{slot_arrival}
+use Rattle.compact.proofs.ClaimLaws.{slot_arrival}
 use Rattle.rules.specs.Rules.{profile_of, replaced_with}
 use Rattle.rules.specs.Book.{can_run_with, cell_from_with, cell_with, enter_all_with, enter_with, entered_with}
 use Rattle.rules.specs.Checks.{change_misfits_with, changes_refusal_with}

@@ -13,16 +13,17 @@ use Rattle.rule_laws.specs.WhenLaws.{step-ten}
 use Rattle.rule_laws.specs.Good.{Good}
 use Rattle.rule_laws.specs.CheckLaws.{unless-check, not-lt, or_false_left}
 use Rattle.recovery.specs.Claim.{Start, just_opened, just_restarted}
-use Rattle.recovery.specs.Counted.{Counts, counted_start}
-use Rattle.recovery.specs.Recovery.{start-good}
+use Rattle.recovery.proofs.Counted.{Counts, counted_start}
+use Rattle.recovery.proofs.Recovery.{start-good}
 use Rattle.recovery.specs.Host.{run_in, counted_in}
-use Rattle.recovery.specs.HostLaws.{good_in, counted_in_lem, fair_live}
+use Rattle.recovery.proofs.HostLaws.{good_in, counted_in_lem, fair_live}
 use Rattle.compact.specs.Module.{Slot, Module, slot_at, opened_in, kept_live, meets_ten, Move, At, Open}
 use Rattle.compact.specs.Module.{Restart, reply_of, promise_of, settle_in, next_of}
-use Rattle.compact.specs.Fits.{at_with, Fits}
-use Rattle.compact.specs.FitsLaws.{ok_restart, cut_never, call_is}
+use Rattle.compact.specs.Fits.{Fits}
+use Rattle.compact.proofs.Fits.{at_with}
+use Rattle.compact.proofs.FitsLaws.{ok_restart, cut_never, call_is}
 use Rattle.compact.specs.Claim.{site_or, in_slot, goes_on, FairCutAccepted}
-use Rattle.compact.specs.ClaimLaws.{plays_all, opened-all, fits_all, Opened}
+use Rattle.compact.proofs.ClaimLaws.{plays_all, opened-all, fits_all, Opened}
 
 -- ### A fair cut
 

@@ -14,7 +14,7 @@ use Rattle.rule_laws.specs.OlderLogs.{older_parts, ReadAlike, read_alike}
 use Rattle.rule_laws.specs.WeaveLaws.{dids-map}
 use Rattle.rules.specs.Run.{run}
 use Rattle.recovery.specs.Claim.{Start, just_restarted, Fair, Asked, Recovered, counted, came, lost_by}
-use Rattle.recovery.specs.Recovery.{recovery}
+use Rattle.recovery.proofs.Recovery.{recovery}
 
 same_lines : (n m : ℕ) (a b : List Line) → journal n none a ≡ journal m none b → a ≡ b
 same_lines n m a b e = cc

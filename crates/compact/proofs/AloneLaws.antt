@@ -15,8 +15,8 @@ use Rattle.rules.specs.Calls.{restart}
 use Rattle.rule_laws.specs.WhenLaws.{TenOr, step-ten, lastly-ten, unless-ten}
 use Rattle.compact.specs.Module.{Slot, Module, slot_at, meets_ten, uncovered, kept_live, Move, At, Open, Restart, slot_of, call_at}
 use Rattle.compact.specs.Module.{reply_of, settle_in, next_of}
-use Rattle.compact.specs.Fits.{at_with, length_with}
-use Rattle.compact.specs.ClaimLaws.{next-other, not_eq}
+use Rattle.compact.proofs.Fits.{at_with, length_with}
+use Rattle.compact.proofs.ClaimLaws.{next-other, not_eq}
 use Rattle.compact.specs.Alone.{own_calls, replies_of, is_ten, OnlyThroughTen, unflagged, settle_site, alone, RepliesAlone}
 
 -- ### One call

@@ -2,9 +2,9 @@
 -- neighbour that works between and a further cut; the logs that the rules compute, and what the claim says of them.
 use Rattle.std.specs.Prelude.{ℕ, T, take, false, ◌≡◌}
 use Rattle.compact.specs.Claim.{site_or, in_slot, SlotList, before_cut, at_end, own_of, goes_on}
-use Rattle.compact.specs.ClaimLaws.{slot_orders}
-use Rattle.compact.specs.Fits.{fits-made}
-use Rattle.compact.specs.FitsLaws.{fits_next}
+use Rattle.compact.proofs.ClaimLaws.{slot_orders}
+use Rattle.compact.proofs.Fits.{fits-made}
+use Rattle.compact.proofs.FitsLaws.{fits_next}
 use Rattle.compact.specs.Module.{Module, slot_at, with_slot, others, live_of, lacks, free, taken, uncovered, meets_ten, promised_again}
 use Rattle.compact.specs.Module.{Move, At, Open, reply_of, promise_of, next_of, made}
 use Rattle.forms.specs.Decimal.{digits_within, digits, more, number}
@@ -17,7 +17,7 @@ use Rattle.forms.specs.Words.{word}
 use Rattle.forms.specs.declared.Rule.{Rule}
 use Rattle.forms.specs.declared.Rule.TheVariants.{Inc, Not}
 use Rattle.recovery.specs.Arrival.{every, AllThree}
-use Rattle.recovery.specs.ArrivalExamples.{five, six, seven}
+use Rattle.recovery.proofs.ArrivalExamples.{five, six, seven}
 use Rattle.recovery.specs.Claim.{just_opened, counted_after, lost_by, comes_after, Comes}
 use Rattle.recovery.specs.Host.{run_in, counted_in, came_in, FairIn, AskedIn}
 use Rattle.rules.specs.Book.{start_cell, touches, runs_at, can_run_with, cell_from_with, cell_with, enter_all_with, enter_with, entered_with}

@@ -6,7 +6,7 @@ use Rattle.rules.specs.Calls.{Call}
 use Rattle.rules.specs.When.{step_when}
 use Rattle.rule_laws.specs.WhenLaws.{step-ten}
 use Rattle.recovery.specs.Host.{Host, Playing, HostClaim, HostArrival}
-use Rattle.recovery.specs.HostLaws.{host_recovery, host_arrival}
+use Rattle.recovery.proofs.HostLaws.{host_recovery, host_arrival}
 
 -- a call, and whether it meets 10 from outside
 pub record Flagged : Type 0 where

@@ -39,11 +39,11 @@ use Rattle.rules.specs.Trim.{base_cell_at, trimmed_base, trimmed_lines, trim_tex
 use Rattle.rules.specs.Calls.{Changeover, changeover, open_full, open_refusal, open_site, show, withdraw_refusal, withdraw}
 use Rattle.rules.specs.Keeper.{same_bytes}
 use Rattle.recovery.specs.Claim.{comes_after, came_from, Shows}
-use Rattle.recovery.specs.Checking.{brings_chosen, all_fine, all_come}
+use Rattle.recovery.proofs.Checking.{brings_chosen, all_fine, all_come}
 use Rattle.recovery.specs.Arrival.{Delivery, AllThree}
-use Rattle.recovery.specs.ArrivalLaws.{orders}
-use Rattle.recovery.specs.Instance.{update, ten, eleven, twelve, fourteen, fifteen, again, start, started, every, brings}
-use Rattle.recovery.specs.Instance.{ToCut, fair, Computed, asked, result}
+use Rattle.recovery.proofs.ArrivalLaws.{orders}
+use Rattle.recovery.proofs.Instance.{update, ten, eleven, twelve, fourteen, fifteen, again, start, started, every, brings}
+use Rattle.recovery.proofs.Instance.{ToCut, fair, Computed, asked, result}
 
 -- The log before the changeover, and the copy behind its base line: "(base 1 (0 0 0 0)(1 0 0 0)(2 1 1 0))", line 10 and `(stable 2)`.
 abbrev base1 : Base

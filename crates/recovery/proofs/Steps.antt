@@ -35,9 +35,9 @@ use Rattle.rule_laws.specs.DrainLaws.{drain_keeps}
 use Rattle.rule_laws.specs.FitLaws.{log_append, lines-dids_text, length-dids}
 use Rattle.rule_laws.specs.WeaveLaws.{weave-append, stables_below, unweave}
 use Rattle.rule_laws.specs.LogLaws.{formed_read}
-use Rattle.recovery.specs.Cuts.{skip, ok_state, Picked, some-change}
-use Rattle.recovery.specs.Invariant.{Setting, Inv, not-kept, at_first, past, inv_one, inv_again, inv_add}
-use Rattle.recovery.specs.Ending.{in_ran, in_log}
+use Rattle.recovery.proofs.Cuts.{skip, ok_state, Picked, some-change}
+use Rattle.recovery.proofs.Invariant.{Setting, Inv, not-kept, at_first, past, inv_one, inv_again, inv_add}
+use Rattle.recovery.proofs.Ending.{in_ran, in_log}
 
 -- A restoring site refuses a formed line only with 7 and above.
 redo_open : (b : Bool) (o later : Option Refusal) → b ≡ true → o ≡ none → check (not b) OutOfTurn (and_then o later) ≡ later

@@ -20,13 +20,13 @@ use Rattle.rule_laws.specs.CheckLaws.{refused_not_ok}
 use Rattle.rule_laws.specs.Good.{Good}
 use Rattle.rule_laws.specs.GoodLaws.{good-step}
 use Rattle.recovery.specs.Claim.{counted_after, lost_by, comes_after, Recovered}
-use Rattle.recovery.specs.Cuts.{skip, Picked, Cutting, cutting, left-kept, picked-at, were_live, cut-live}
-use Rattle.recovery.specs.Steps.{Site, fresh_below, redo_full_lem}
-use Rattle.recovery.specs.StepLaws.{Obeys, step_keeps}
-use Rattle.recovery.specs.Recovery.{start-good, cut-site, stays-counted, still_kept, site_enough, ending}
-use Rattle.recovery.specs.Counted.{Counts, counted_start, counts_step}
+use Rattle.recovery.proofs.Cuts.{skip, Picked, Cutting, cutting, left-kept, picked-at, were_live, cut-live}
+use Rattle.recovery.proofs.Steps.{Site, fresh_below, redo_full_lem}
+use Rattle.recovery.proofs.StepLaws.{Obeys, step_keeps}
+use Rattle.recovery.proofs.Recovery.{start-good, cut-site, stays-counted, still_kept, site_enough, ending}
+use Rattle.recovery.proofs.Counted.{Counts, counted_start, counts_step}
 use Rattle.recovery.specs.Arrival.{every, SameWork}
-use Rattle.recovery.specs.ArrivalLaws.{work_done}
+use Rattle.recovery.proofs.ArrivalLaws.{work_done}
 use Rattle.recovery.specs.Host.{Host, Plays, run_in, Playing, counted_on, counted_in, came_on, came_in, ListIn, before_cut, at_end}
 use Rattle.recovery.specs.Host.{HostClaim, HostArrival}
 

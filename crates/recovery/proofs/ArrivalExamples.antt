@@ -11,7 +11,7 @@ use Rattle.forms.specs.declared.DoneRule.TheVariants.{DidInc, DidNot}
 use Rattle.rules.specs.Book.{touches}
 use Rattle.recovery.specs.Claim.{shares, beside}
 use Rattle.recovery.specs.Arrival.{StandsBefore, SameWork}
-use Rattle.recovery.specs.ArrivalLaws.{same_work}
+use Rattle.recovery.proofs.ArrivalLaws.{same_work}
 
 -- (did 5 (inc 0 1 1 7))
 abbrev pub five : Did

@@ -24,11 +24,11 @@ use Rattle.rule_laws.specs.WeaveLaws.{dids-weave}
 use Rattle.rules.specs.Calls.{Cut}
 use Rattle.rules.specs.Run.{run}
 use Rattle.recovery.specs.Claim.{lost_by, shares, Closed, Comes, came}
-use Rattle.recovery.specs.Invariant.{Setting, Inv, nodup_first}
-use Rattle.recovery.specs.Ending.{shares_at, closed-every, closed-ran, just_all, book_proj}
-use Rattle.recovery.specs.Cuts.{Cutting}
-use Rattle.recovery.specs.Steps.{setting_of, Site, site_nodup}
-use Rattle.recovery.specs.Recovery.{up_to, KL, K, L, C, at_end_lem}
+use Rattle.recovery.proofs.Invariant.{Setting, Inv, nodup_first}
+use Rattle.recovery.proofs.Ending.{shares_at, closed-every, closed-ran, just_all, book_proj}
+use Rattle.recovery.proofs.Cuts.{Cutting}
+use Rattle.recovery.proofs.Steps.{setting_of, Site, site_nodup}
+use Rattle.recovery.proofs.Recovery.{up_to, KL, K, L, C, at_end_lem}
 use Rattle.recovery.specs.Arrival.{dids_of, did_lines, StandsBefore, SameWork, every, log_before}
 use Rattle.recovery.specs.Arrival.{log_at_end, ArrivalClaim, AllThree, OrdersClaim}
 

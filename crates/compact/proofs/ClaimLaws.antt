@@ -17,13 +17,14 @@ use Rattle.rule_laws.specs.WhenLaws.{step-ten}
 use Rattle.rule_laws.specs.CheckLaws.{unless-check, or_false_right}
 use Rattle.recovery.specs.Claim.{Start, lost_by}
 use Rattle.recovery.specs.Arrival.{every}
-use Rattle.recovery.specs.ArrivalLaws.{all_three}
+use Rattle.recovery.proofs.ArrivalLaws.{all_three}
 use Rattle.recovery.specs.Host.{Host, Plays, run_in, Playing, Roomy, ListIn}
-use Rattle.recovery.specs.HostLaws.{run-append, never_ten, host_recovery, host_arrival}
+use Rattle.recovery.proofs.HostLaws.{run-append, never_ten, host_recovery, host_arrival}
 use Rattle.compact.specs.Module.{Slot, Module, slot_at, opened_in, meets_ten, promised_again, promise_after, Move, At, Open}
 use Rattle.compact.specs.Module.{Restart, slot_of, call_at, reply_of, promise_of, settle_in, next_of}
-use Rattle.compact.specs.Fits.{at_with, at_other, opened-below, Fits}
-use Rattle.compact.specs.FitsLaws.{Again, slot_again, live_is, fits_next, promise_kept}
+use Rattle.compact.specs.Fits.{Fits}
+use Rattle.compact.proofs.Fits.{at_with, at_other, opened-below}
+use Rattle.compact.proofs.FitsLaws.{Again, slot_again, live_is, fits_next, promise_kept}
 use Rattle.compact.specs.Claim.{site_or, own_of, in_slot, goes_on, SlotList, before_cut, at_end, SlotClaim, SlotArrival}
 use Rattle.compact.specs.Claim.{SlotOrders}
 

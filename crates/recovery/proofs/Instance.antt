@@ -36,11 +36,11 @@ use Rattle.rules.specs.Run.{run}
 use Rattle.rule_laws.specs.GoodLaws.{good_open, good-run}
 use Rattle.recovery.specs.Claim.{none, Start, just_opened, direct, further, Closed, HasRun, counted, counted_after, comes_after}
 use Rattle.recovery.specs.Claim.{came_from, came, lost_by, shares, beside, Fair, Asked, Shows, Recovered}
-use Rattle.recovery.specs.Ending.{closed}
-use Rattle.recovery.specs.Recovery.{recovery, fed_is}
+use Rattle.recovery.proofs.Ending.{closed}
+use Rattle.recovery.proofs.Recovery.{recovery, fed_is}
 use Rattle.recovery.specs.Arrival.{Delivery, AllThree}
-use Rattle.recovery.specs.ArrivalLaws.{orders}
-use Rattle.recovery.specs.Checking.{brings_chosen, all_fine, all_come, fair_of, asked_of}
+use Rattle.recovery.proofs.ArrivalLaws.{orders}
+use Rattle.recovery.proofs.Checking.{brings_chosen, all_fine, all_come, fair_of, asked_of}
 use Rattle.rules.specs.Rules.{profile_of, replaced_with}
 use Rattle.rules.specs.Book.{can_run_with, cell_from_with, cell_with, enter_all_with, enter_with, entered_with}
 use Rattle.rules.specs.Checks.{change_misfits_with, changes_refusal_with}

@@ -18,8 +18,8 @@ use Rattle.rule_laws.specs.Good.{Good}
 use Rattle.rules.specs.Run.{run}
 use Rattle.rule_laws.specs.GoodLaws.{good-run}
 use Rattle.recovery.specs.Claim.{counted_after, counted, Fair, Comes, came, Asked}
-use Rattle.recovery.specs.Cuts.{cutting}
-use Rattle.recovery.specs.Recovery.{run-append}
+use Rattle.recovery.proofs.Cuts.{cutting}
+use Rattle.recovery.proofs.Recovery.{run-append}
 
 counted-append : (xs ys : List Call) (m : ℕ) (st : State) → counted m (xs ++ ys) st ≡ counted (counted m xs st) ys (run xs st)
 unfolding counted run

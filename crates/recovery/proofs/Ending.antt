@@ -16,7 +16,7 @@ use Rattle.forms.specs.Forms.{Base, Change, Did}
 use Rattle.rules.specs.Book.{cell, can_run, touches}
 use Rattle.rule_laws.specs.BookLaws.{proj, touches_of, touches_at, cell_same, proj-append}
 use Rattle.recovery.specs.Claim.{beside, shares, Traced, direct, further, Closed, Just, none, with, without}
-use Rattle.recovery.specs.Invariant.{Setting, nodup_first, not-kept, Inv, can_run-next, before-ran}
+use Rattle.recovery.proofs.Invariant.{Setting, nodup_first, not-kept, Inv, can_run-next, before-ran}
 
 -- ### A shared history
 

@@ -12,8 +12,8 @@ use Rattle.rule_laws.specs.WhenLaws.{step_off, ten_why}
 use Rattle.rules.specs.Run.{run}
 use Rattle.rule_laws.specs.GoodLaws.{good-run}
 use Rattle.recovery.specs.Claim.{counted_after, counted, Fair, lost_by, comes_after, came_from, came, Comes, Recovered, RecoveryClaim}
-use Rattle.recovery.specs.Recovery.{start-good}
-use Rattle.recovery.specs.HostLaws.{host_recovery}
+use Rattle.recovery.proofs.Recovery.{start-good}
+use Rattle.recovery.proofs.HostLaws.{host_recovery}
 use Rattle.recovery.specs.Host.{Host, run_in, Playing, counted_in, came_in, FairIn, ListIn, HostClaim}
 
 -- a site alone

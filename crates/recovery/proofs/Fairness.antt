@@ -22,9 +22,9 @@ use Rattle.rule_laws.specs.WeaveLaws.{mark-front, rises-front}
 use Rattle.rule_laws.specs.LogLaws.{read_end}
 use Rattle.rule_laws.specs.CutLaws.{cut_reads}
 use Rattle.recovery.specs.Claim.{Fair}
-use Rattle.recovery.specs.Counted.{Counts, take_begins}
+use Rattle.recovery.proofs.Counted.{Counts, take_begins}
 use Rattle.rule_laws.specs.KeptLaws.{good_stand, kept-holds}
-use Rattle.recovery.specs.Cuts.{lines-restarted}
+use Rattle.recovery.proofs.Cuts.{lines-restarted}
 
 module _ (m k room : ℕ) (st : State) (G : Good st) (C : Counts m st) where
   kept : List Line

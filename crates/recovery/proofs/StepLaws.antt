@@ -24,9 +24,9 @@ use Rattle.rule_laws.specs.Good.{Good}
 use Rattle.rule_laws.specs.CheckLaws.{check_none, unless_ok, unless-check}
 use Rattle.rule_laws.specs.WeaveLaws.{dids-append, dids-weave, stables_dids, mark-dids, did-not-stable}
 use Rattle.recovery.specs.Claim.{comes_after}
-use Rattle.recovery.specs.Cuts.{ok_state, cut_ok, lines-restarted}
-use Rattle.recovery.specs.Invariant.{inv_cut}
-use Rattle.recovery.specs.Steps.{Site, setting, site-lines, redo_ok, redo_refused_lem}
+use Rattle.recovery.proofs.Cuts.{ok_state, cut_ok, lines-restarted}
+use Rattle.recovery.proofs.Invariant.{inv_cut}
+use Rattle.recovery.proofs.Steps.{Site, setting, site-lines, redo_ok, redo_refused_lem}
 
 -- A first part of did lines is did lines.
 dids_only : (ran : List Did) (t rest : List Line) → map did_line ran ≡ t ++ rest → t ≡ map did_line (dids t)

@@ -28,8 +28,9 @@ use Rattle.rule_laws.specs.LiveLaws.{takes, live-step, live-changeover, live-ope
 use Rattle.compact.specs.Module.{slot_limit, entry_limit, least, Slot, Module, slot_at, with_slot, others, live_in, restoring_in, opened_in}
 use Rattle.compact.specs.Module.{live_of, taken, uncovered, kept_live, meets_ten, restarts_site, promised_again, promise_after, Move, At}
 use Rattle.compact.specs.Module.{Open, Restart, slot_of, call_at, reply_of, promise_of, settle_in, next_of, run_all}
-use Rattle.compact.specs.Fits.{claims, GoodSlot, Fits, opened-below, parted, taken_is, not_taken_lem, uncovered_is, covered, fits_with}
-use Rattle.compact.specs.Fits.{mine}
+use Rattle.compact.specs.Fits.{claims, GoodSlot, Fits}
+use Rattle.compact.proofs.Fits.{opened-below, parted, taken_is, not_taken_lem, uncovered_is, covered, fits_with}
+use Rattle.compact.proofs.Fits.{mine}
 
 -- ### The promise after a cut or restart
 

@@ -18,14 +18,15 @@ use Rattle.rules.specs.When.{lastly, step_when}
 use Rattle.rule_laws.specs.WhenExactly.{ComesToTen, takes_entry, entry_exactly}
 use Rattle.rule_laws.specs.CheckLaws.{refused_not_ok, none_check, unless_none, le_not_lt}
 use Rattle.recovery.specs.Claim.{Start}
-use Rattle.recovery.specs.Fairness.{after, fair_bytes}
+use Rattle.recovery.proofs.Fairness.{after, fair_bytes}
 use Rattle.recovery.specs.Host.{run_in, counted_in}
 use Rattle.compact.specs.Module.{slot_limit, entry_limit, Module, slot_at, others, taken, uncovered, kept_live, meets_ten, Move, At}
 use Rattle.compact.specs.Module.{Restart, reply_of}
-use Rattle.compact.specs.Fits.{claims, Fits, taken_is, not_taken_lem, uncovered_is, covered}
-use Rattle.compact.specs.FitsLaws.{below, live_is, call_is}
+use Rattle.compact.specs.Fits.{claims, Fits}
+use Rattle.compact.proofs.Fits.{taken_is, not_taken_lem, uncovered_is, covered}
+use Rattle.compact.proofs.FitsLaws.{below, live_is, call_is}
 use Rattle.compact.specs.Claim.{site_or, in_slot, goes_on}
-use Rattle.compact.specs.SlotLaws.{slot_good-after, slot_counts, fair_cut_accepted}
+use Rattle.compact.proofs.SlotLaws.{slot_good-after, slot_counts, fair_cut_accepted}
 
 -- ### Add and redo
 

@@ -1,0 +1,9 @@
+pub mod Fits
+pub mod AloneLaws
+pub mod ArrivalInstance
+pub mod ClaimLaws
+pub mod Examples
+pub mod FitsLaws
+pub mod Instance
+pub mod SlotLaws
+pub mod TenLaws
