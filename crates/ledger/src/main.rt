@@ -10,21 +10,22 @@ ghost use Rattle.stream.specs.Model.{ValidStream};
 use forms::ReplyNumbers;
 use forms::writer::Written;
 use history::book::{BookWords, WIDTH};
-use libc::{STDIN_FILENO, STDOUT_FILENO};
 use site::Site;
+use std::io;
+use std::io::{Read, Write};
 use stream::Stream;
 use table::order::Order;
 use table::rows::{ROW, Rows};
 
-// The stream after some input, and whether to go on.
-#[derive(Clone, Copy)]
+// The stream after some input, and whether to go on, or how reading or writing failed.
+#[derive(Drop)]
 struct Serving {
     stream: Stream,
-    on: bool,
+    on: io::Result<bool>,
 }
 
 // Feeds all bytes of a chunk, and writes the replies; it stops where a write fails.
-fn answer(
+fn answer<W: Write>(
     start: Stream,
     log: &mut [u8],
     rows: &mut Rows,
@@ -33,6 +34,7 @@ fn answer(
     lists: &mut ReplyNumbers,
     chunk: &[u8],
     out: &mut [u8],
+    writer: &mut W,
 ) -> Serving
     requires valid_stream { ValidStream start (received log.old rows.old order.old book.old) }
     requires reply_limit_in_bounds { reply_limit ≤ length out.old }
@@ -45,24 +47,28 @@ fn answer(
         let n = f.written;
         at += f.used;
         stream = f.stream;
-        if !io::write_all(STDOUT_FILENO, &out[..n]) {
-            return Serving { stream, on: false };
+        if let Err(e) = writer.write_all(&out[..n]) {
+            return Serving { stream, on: Err(e) };
         }
     }
-    Serving { stream, on: true }
+    Serving {
+        stream,
+        on: Ok(true),
+    }
 }
 
 // Writes the reply to an unended rest of the input.
-fn close(stream: Stream, out: &mut [u8])
+fn close<W: Write>(stream: Stream, out: &mut [u8], writer: &mut W) -> io::Result<()>
     requires { UsablePartial stream.begun }
 {
     if let Written::At(n) = stream.finish(out, 0) {
-        io::write_all(STDOUT_FILENO, &out[..n]);
+        writer.write_all(&out[..n])?;
     }
+    Ok(())
 }
 
 // Reads what has come, and answers it; at the end of the input, the unended rest.
-fn step(
+fn step<R: Read, W: Write>(
     stream: Stream,
     log: &mut [u8],
     rows: &mut Rows,
@@ -71,25 +77,35 @@ fn step(
     lists: &mut ReplyNumbers,
     chunk: &mut [u8],
     out: &mut [u8],
+    reader: &mut R,
+    writer: &mut W,
 ) -> Serving
     requires valid_stream { ValidStream stream (received log.old rows.old order.old book.old) }
     requires reply_limit_in_bounds { reply_limit ≤ length out.old }
     ensures { ValidStream result.stream (lent log.new rows.new order.new book.new []) }
 {
-    let got = libc::read(STDIN_FILENO, chunk);
-    if got < 0 {
-        return Serving { stream, on: false };
+    match reader.read(chunk) {
+        Ok(0) => Serving {
+            stream,
+            on: close(stream, out, writer).map(|()| false),
+        },
+        Ok(n) => answer(
+            stream,
+            log,
+            rows,
+            order,
+            book,
+            lists,
+            &chunk[..n],
+            out,
+            writer,
+        ),
+        Err(e) => Serving { stream, on: Err(e) },
     }
-    if got == 0 {
-        close(stream, out);
-        return Serving { stream, on: false };
-    }
-    let n = io::count(got, chunk);
-    answer(stream, log, rows, order, book, lists, &chunk[..n], out)
 }
 
-// A proved loop has to end, and nothing says that the input does: it counts its turns down, from a number that no run uses up.
-fn serve(
+// A proved loop has to end, and nothing says that the input does: it has a number of turns that no run uses up.
+fn serve<R: Read, W: Write>(
     log: &mut [u8],
     rows: &mut Rows,
     order: &mut Order,
@@ -97,32 +113,41 @@ fn serve(
     lists: &mut ReplyNumbers,
     chunk: &mut [u8],
     out: &mut [u8],
-)
+    reader: &mut R,
+    writer: &mut W,
+) -> io::Result<()>
     requires { reply_limit ≤ length out.old }
 {
     let mut stream = Stream::start();
-    let mut turns = u64::MAX;
-    while turns > 0 {
-        let s = step(stream, log, rows, order, book, lists, chunk, out);
-        let on = s.on;
+    for _ in 0..u64::MAX {
+        let s = step(
+            stream, log, rows, order, book, lists, chunk, out, reader, writer,
+        );
         stream = s.stream;
-        if on {
-            turns -= 1;
-        } else {
-            return;
+        if !s.on? {
+            break;
         }
     }
+    Ok(())
 }
 
-fn main() {
-    let mut log = io::large_buffer();
+fn main(rt: HostRuntime) -> io::Result<()> {
+    let mut log = [0u8; 65536];
     let mut rows = [0u64; Site::LIVE * ROW];
     let mut order = [0u8; Site::LIVE];
     let mut book = [0u64; Site::HISTORIES * WIDTH];
     let mut lists = [0u64; Site::UPDATES + Site::LIVE];
-    let mut chunk = io::large_buffer();
-    let mut out = io::large_buffer();
+    let mut chunk = [0u8; 65536];
+    let mut out = [0u8; 65536];
     serve(
-        &mut log, &mut rows, &mut order, &mut book, &mut lists, &mut chunk, &mut out,
-    );
+        &mut log,
+        &mut rows,
+        &mut order,
+        &mut book,
+        &mut lists,
+        &mut chunk,
+        &mut out,
+        &mut rt.stdin(),
+        &mut rt.stdout(),
+    )
 }

@@ -7,8 +7,10 @@ mod listing;
 mod paper;
 
 ghost use Rattle.std.specs.Prelude.{◌≡◌, length};
+ghost use Rattle.std.specs.Io.{ReadsAtMost};
 
-use libc::{STDERR_FILENO, STDIN_FILENO, STDOUT_FILENO};
+use std::io;
+use std::io::{Read, Write};
 
 // Room for a session: 1,048,576 bytes.
 fn input_buffer() -> [u8; 1048576]
@@ -24,17 +26,30 @@ fn listing_buffer() -> [u8; 720896]
     [0; 720896]
 }
 
-fn main() {
+// Reads until the buffer is full or the input ends: how many bytes stand at the buffer's start.
+fn read_full<R: Read>(reader: &mut R, buf: &mut [u8]) -> io::Result<usize>
+    ensures { ReadsAtMost result buf.new }
+{
+    let mut done = 0;
+    while done < buf.len() {
+        let n = reader.read(&mut buf[done..])?;
+        if n == 0 {
+            break;
+        }
+        done += n;
+    }
+    Ok(done)
+}
+
+fn main(rt: HostRuntime) -> io::Result<()> {
     let mut input = input_buffer();
     let mut page = listing_buffer();
-    let n = io::read_full(STDIN_FILENO, &mut input);
+    let n = read_full(&mut rt.stdin(), &mut input)?;
     if 1048576 <= n {
-        io::write_all(
-            STDERR_FILENO,
-            b"This session has 1,048,576 characters or more; its log is not listed.\n",
+        return eprintln!(rt;
+            "This session has 1,048,576 characters or more; its log is not listed."
         );
-        return;
     }
     let m = paper::list_session(&input[..n], &mut page);
-    io::write_all(STDOUT_FILENO, &page[..m]);
+    rt.stdout().write_all(&page[..m])
 }

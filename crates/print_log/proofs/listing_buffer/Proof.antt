@@ -8,5 +8,8 @@ use Rattle.print_log.proofs.listing_buffer.Tie as tie
 returns : tie.Need-returns
 returns c = sym (length-replicate {A = ℕ} 720896 0)
 
-pub listing-buffer-spec : {M : Type 1} → statement M
-listing-buffer-spec = tie.close (tie.spec returns)
+pub listing_buffer_spec : {M : Type 1} → statement M
+listing_buffer_spec =
+    tie.close
+    (tie.spec
+    returns)
