@@ -1,6 +1,6 @@
 -- The invariant of modules: what the sites have and are promised fits the table. Its laws: every call keeps it, and what follows for
 -- refusal 10.
-use Rattle.std.specs.Prelude.{◌≡◌, refl, ◌⊎◌, false, [], ◌∷◌, ℕ, zero, suc, ◌+◌, ◌≤◌, ◌<◌, max, T, length}
+use Rattle.std.specs.Prelude.{◌≡◌, refl, ◌⊎◌, false, [], ◌∷◌, ℕ, zero, suc, ◌+◌, ◌≤◌, ◌<◌, T, length}
 use Rattle.std.proofs.Common.{sym, ap, ◌∙◌, subst, inl, inr, not-suc-le-zero, le_of_suc-le-suc}
 use mathlib.Core.List.Memᴰ
 use mathlib.Core.List.Memᴰ.{head as here}
@@ -10,11 +10,9 @@ use Rattle.std.proofs.Math.Option.{some}
 use native.Mathlib.Omega.{arith}
 use Rattle.std.proofs.Math.Dec.{leb→le, ltb→lt}
 use Rattle.forms.specs.Lists.{sum}
-use Rattle.forms.specs.Limits.{live_limit}
 use Rattle.rules.specs.State.{State}
-use Rattle.rule_laws.specs.Good.{Good}
 use Rattle.rule_laws.specs.CheckLaws.{not-lt, not-le}
-use Rattle.compact.specs.Module.{slot_limit, entry_limit, least, Slot, unopened, Module, slot_at, with_slot, others, restoring_in, live_of}
+use Rattle.compact.specs.Module.{slot_limit, entry_limit, Slot, unopened, Module, slot_at, with_slot, others, live_of}
 use Rattle.compact.specs.Module.{lacks, free, taken, uncovered, made}
 use Rattle.compact.specs.Fits.{claims, GoodSlot, Fits}
 

@@ -1,1 +1,17 @@
 pub mod Restart
+pub mod ArrivalCallsLaws
+pub mod CardCalls
+pub mod Carried
+pub mod Changeover
+pub mod ExaminationLaws
+pub mod FrameLaws
+pub mod KeepersLaws
+pub mod PageLaws
+pub mod Sample
+pub mod SiteCallsLaws
+pub mod SiteInstance
+pub mod SiteSample
+pub mod SlotChangeover
+pub mod Stations
+pub mod TrimCalls
+pub mod TrimSample

@@ -1,5 +1,5 @@
 -- Restart accepts the log of every reached state, whole, with or without a base line, and gives the same book and the same marks.
-use Rattle.std.specs.Prelude.{◌≡◌, refl, false, not, ℕ, ◌+◌, ◌-◌, ◌≤◌, ◌<◌, leb, take, drop}
+use Rattle.std.specs.Prelude.{◌≡◌, refl, false, not, ℕ, ◌+◌, ◌-◌, ◌≤◌, leb, take, drop}
 use Rattle.std.proofs.Math.Path.{ap, ap₂, subst}
 use Rattle.std.proofs.Common.{◌∙◌, arith, le→leb, length-take, length-append}
 use Rattle.std.proofs.Math.Option.{none}

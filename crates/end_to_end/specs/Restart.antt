@@ -1,28 +1,13 @@
 -- Restart accepts the log of every reached state, whole, with or without a base line, and gives the same book and the same marks.
-use Rattle.std.specs.Prelude.{◌≡◌, refl, false, not, ℕ, ◌+◌, ◌-◌, ◌≤◌, ◌<◌, leb, take, drop}
-use Rattle.std.proofs.Math.Path.{ap, ap₂, subst}
-use Rattle.std.proofs.Common.{◌∙◌, arith, le→leb, length-take, length-append}
-use Rattle.std.proofs.Math.Option.{none}
+use Rattle.std.specs.Prelude.{◌≡◌, ℕ, ◌-◌, ◌≤◌, ◌<◌, take, drop}
 use mathlib.Core.List.{List}
 use Rattle.std.proofs.Math.ListN.{length}
-use Rattle.std.proofs.Math.Seq.{take-length}
-use Rattle.forms.specs.ListLaws.{T_true}
-use Rattle.forms.specs.Decimal.{top}
-use Rattle.forms.specs.Forms.{Did, Restarted}
-use Rattle.forms.specs.declared.Refusal.TheVariants.{Unreadable, AboveLimit, BadLog}
+use Rattle.forms.specs.Forms.{Restarted}
 use Rattle.rules.specs.Book.{cell}
-use Rattle.rules.specs.Log.{mark, journal, head_text, lines_text, log_text, read_log}
-use Rattle.rule_laws.specs.WeaveLaws.{dids-weave}
-use Rattle.rule_laws.specs.KeptLaws.{good_reads}
 use Rattle.forms.specs.Limits.{log_limit}
 use Rattle.rules.specs.State.{State, ok, lines_in, start_of, done_in, log_bytes, stable_to, version_at, live_done}
-use Rattle.rules.specs.Calls.{restarted, restart_as, restart, cut_above, base_cut, cut, Call, writable, perform, step}
-use Rattle.rule_laws.specs.CheckLaws.{unless_none, none_check, le_not_lt, or-false}
-use Rattle.rule_laws.specs.Good.{Good}
-use Rattle.rule_laws.specs.GoodLaws.{good-restart, good-run}
-use Rattle.rules.specs.Run.{run}
-use Rattle.recovery.specs.Claim.{Start, Shows}
-use Rattle.recovery.proofs.Recovery.{start-good, show_is}
+use Rattle.rules.specs.Calls.{restart}
+use Rattle.recovery.specs.Claim.{Shows}
 
 -- The buffer holds the log of the site st in its first bytes; what stands behind them is free.
 pub record HoldsLog (buffer : List ℕ) (st : State) : Type 0 where

@@ -1,5 +1,5 @@
 -- `end` names lines by their ids. The ids of lost lines are distinct, so it says of each lost line whether it still waits.
-use Rattle.std.specs.Prelude.{◌≡◌, refl, ◌↔◌, Bool, List, [], ◌∷◌, ◌++◌, ℕ, T, drop}
+use Rattle.std.specs.Prelude.{◌≡◌, refl, Bool, List, [], ◌∷◌, ◌++◌, ℕ, drop}
 use Rattle.std.proofs.Common.{sym, ◌∙◌, subst}
 use mathlib.Core.List.Memᴰ
 use mathlib.Core.List.Memᴰ.{head as here}
@@ -12,7 +12,7 @@ use Rattle.rules.specs.Calls.{Call, Cut, End, step}
 use Rattle.rule_laws.specs.Good.{Good, did_ids}
 use Rattle.rule_laws.specs.GoodLaws.{good-run}
 use Rattle.rules.specs.Run.{run}
-use Rattle.recovery.specs.Claim.{Start, counted, Fair, lost_by, HasRun, came, Asked, Recovered}
+use Rattle.recovery.specs.Claim.{Start, counted, Fair, lost_by, came, Recovered}
 use Rattle.recovery.proofs.Counted.{counted_start, counted_is}
 use Rattle.recovery.proofs.Cuts.{skip, log_once, left-kept, picked-at, Cutting, cutting}
 use Rattle.recovery.proofs.Recovery.{start-good, recovery}

@@ -1,18 +1,13 @@
 -- `end` names lines by their ids. The ids of lost lines are distinct, so it says of each lost line whether it still waits.
-use Rattle.std.specs.Prelude.{◌≡◌, refl, ◌↔◌, Bool, List, [], ◌∷◌, ◌++◌, ℕ, T, drop}
-use Rattle.std.proofs.Common.{sym, ◌∙◌, subst}
-use mathlib.Core.List.Memᴰ
-use mathlib.Core.List.Memᴰ.{head as here}
-use mathlib.Core.List.Memᴰ.{tail as there}
+use Rattle.std.specs.Prelude.{◌≡◌, ◌↔◌, Bool, List, ◌∷◌, ◌++◌, ℕ, T}
 use mathlib.Core.List.{Memᴰ as Mem}
-use Rattle.forms.specs.ListLaws.{Nodup, nodup_right}
+use Rattle.forms.specs.ListLaws.{Nodup}
 use Rattle.forms.specs.Forms.{Did, Ended}
-use Rattle.rules.specs.State.{State, start_of, ok, lines_in}
+use Rattle.rules.specs.State.{State, ok}
 use Rattle.rules.specs.Calls.{Call, Cut, End, step}
-use Rattle.rule_laws.specs.Good.{Good, did_ids}
-use Rattle.rule_laws.specs.GoodLaws.{good-run}
+use Rattle.rule_laws.specs.Good.{did_ids}
 use Rattle.rules.specs.Run.{run}
-use Rattle.recovery.specs.Claim.{Start, counted, Fair, lost_by, HasRun, came, Asked, Recovered}
+use Rattle.recovery.specs.Claim.{Start, counted, Fair, lost_by, HasRun, Asked}
 
 -- Lines of a list with the same id are the same line.
 abbrev pub OneEach : List Did → Type 0

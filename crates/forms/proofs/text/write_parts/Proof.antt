@@ -1,7 +1,5 @@
 -- Where all were overtaken, the first k are the whole list and the rest is empty; else the two parts are slices of it.
-use mathlib.Core.Path.{sym}
 use native.Mathlib.Omega.{arith}
-use lib.Seq.{length-take-le}
 use Rattle.forms.specs.TextLaws.{parts_whole, parts-rest}
 use borrow.Author.Rules.{rules}
 use Rattle.forms.proofs.text.write_parts.Statement.{statement}

@@ -1,11 +1,11 @@
 -- Three stores and four items, one behind the other; a later one leaves what an earlier one wrote.
 use Prim.Native.Nat.{◌*◌}
 use native.Mathlib.Omega.{arith}
-use mathlib.Core.Path.{◌≡◌, refl, sym, ◌∙◌}
+use mathlib.Core.Path.{◌≡◌, refl}
 use mathlib.Core.Bool.{Bool, true, false}
 use mir.Val.{bool_byte}
 use lib.Dec.{eqb}
-use lib.ListN.{length, length-set, length-map}
+use lib.ListN.{length, length-set}
 use Rattle.table.specs.Rows.{row_width}
 use Rattle.table.specs.RowLaws.{row_written, put_room, first_room}
 use borrow.Author.Rules.{rules}

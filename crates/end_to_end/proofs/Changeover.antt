@@ -23,7 +23,7 @@ use Rattle.site.specs.OpenLaws.{blank_site}
 use Rattle.site.specs.Model.{Lent, AcceptedAs, Opens}
 use Rattle.end_to_end.specs.SiteCalls as site-calls
 use Rattle.end_to_end.specs.SiteCalls.{Memory, memory, state_in, log_in, StartsSite}
-use Rattle.end_to_end.specs.SiteCallsLaws.{log_bytes_lem, used_in_lem}
+use Rattle.end_to_end.proofs.SiteCallsLaws.{log_bytes_lem, used_in_lem}
 
 -- What the code's site is, restarted from an older log in the first k bytes of a buffer that was changed over.
 pub record ChangedOver (old : List ℕ) (k used : ℕ) (x : Memory) : Type 0 where

@@ -38,7 +38,7 @@ use Rattle.module.specs.CallLaws.{opened-below, site-some}
 use Rattle.module.specs.Reached.{World, world, ValidWorld, state_of, lent_of, goes_on, restarts, around-same, StepsTo, step-world}
 use Rattle.module.specs.Replies.{said_by, outcome_from}
 use Rattle.end_to_end.specs.SiteCalls.{memory}
-use Rattle.end_to_end.specs.SiteCallsLaws.{copy_made, copy_refused, changeover-step}
+use Rattle.end_to_end.proofs.SiteCallsLaws.{copy_made, copy_refused, changeover-step}
 
 -- ### By the definitions
 

@@ -37,8 +37,8 @@ use Rattle.site.specs.declared.CallResult.{CallResult}
 use Rattle.site.specs.OpenLaws.{blank_site}
 use Rattle.site.specs.Model.{Lent, Opens}
 use Rattle.end_to_end.specs.SiteCalls.{Memory, memory, state_in, log_in, Transition, Execution, RecoveredIn}
-use Rattle.end_to_end.specs.PageLaws.{site_opens}
-use Rattle.end_to_end.specs.SiteInstance.{Instance, by_calls}
+use Rattle.end_to_end.proofs.PageLaws.{site_opens}
+use Rattle.end_to_end.proofs.SiteInstance.{Instance, by_calls}
 
 -- "(base 2 (0 1 1 65536)(1 0 0 0)(2 1 1 0))": lines 9 and 10 stand in it
 abbrev base2 : Base

@@ -11,7 +11,7 @@ use Rattle.recovery.proofs.Recovery.{run-append}
 use Rattle.recovery.specs.Arrival.{did_lines, every, SameWork}
 use Rattle.recovery.proofs.ArrivalLaws.{did_lines_lem, arrival, all_three}
 use Rattle.end_to_end.specs.SiteCalls.{Memory, state_in, ValidIn, Alone, log_in}
-use Rattle.end_to_end.specs.SiteCallsLaws.{RunsAs, log_bytes_lem, good_in, makes_runs, calls-run, starts_at}
+use Rattle.end_to_end.proofs.SiteCallsLaws.{RunsAs, log_bytes_lem, good_in, makes_runs, calls-run, starts_at}
 use Rattle.end_to_end.specs.ArrivalCalls.{lines_before, lines_at_end, SiteArrivalClaim, SiteOrdersClaim}
 
 -- The did lines in the bytes of a valid site's log.

@@ -9,8 +9,8 @@ use Rattle.site.specs.declared.CallResult.{CallResult}
 use Rattle.site.specs.OpenLaws.{blank_site}
 use Rattle.site.specs.Model.{Lent, Opens}
 use Rattle.end_to_end.specs.SiteCalls.{Memory, memory, state_in, log_in, Transition, Execution, RecoveredIn}
-use Rattle.end_to_end.specs.SiteInstance.{Instance, by_calls}
-use Rattle.end_to_end.specs.Sample as sample
+use Rattle.end_to_end.proofs.SiteInstance.{Instance, by_calls}
+use Rattle.end_to_end.proofs.Sample as sample
 
 -- the sample's calls, with every lost line chosen
 abbrev sampled : Instance 2 log_limit

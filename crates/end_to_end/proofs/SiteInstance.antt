@@ -16,7 +16,7 @@ use Rattle.site.specs.OpenLaws.{blank_site}
 use Rattle.history.specs.WordLaws.{below_long}
 use Rattle.site.specs.Model.{Lent, AcceptedAs, Opens}
 use Rattle.end_to_end.specs.SiteCalls.{Memory, memory, state_in, log_in, Transition, Execution, StartsSite, opens, RecoveredIn}
-use Rattle.end_to_end.specs.SiteCallsLaws.{RunsAs, alone-after, makes_runs, calls-run, log_bytes_lem, site-calls}
+use Rattle.end_to_end.proofs.SiteCallsLaws.{RunsAs, alone-after, makes_runs, calls-run, log_bytes_lem, site-calls}
 
 -- A site of n histories in `room` bytes, calls, a fair cut, and calls behind it that are as asked.
 pub record Instance (n room : ℕ) : Type 0 where

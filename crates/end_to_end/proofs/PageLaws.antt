@@ -33,7 +33,7 @@ use Rattle.recovery.specs.Claim.{just_opened, counted, Fair, lost_by, came, Show
 use Rattle.recovery.proofs.Ending.{closed-every, just_all, just_one}
 use Rattle.recovery.proofs.Recovery.{run-append, show_is, recovery}
 use Rattle.recovery.proofs.Cuts.{ok_state}
-use Rattle.end_to_end.specs.FrameLaws.{Frame, frame_lines}
+use Rattle.end_to_end.proofs.FrameLaws.{Frame, frame_lines}
 use Rattle.end_to_end.specs.Page.{call_of, call_read, calls_of, Text, fitting, cut_fitting, asking, sheet, Prints, PrintsWaiting}
 use Rattle.end_to_end.specs.Page.{PageClaim, ProgramClaim}
 

@@ -28,7 +28,7 @@ use Rattle.trim.specs.declared.Copied.TheVariants.{Used}
 use Rattle.trim.specs.Model.{CopiesLog}
 use Rattle.end_to_end.specs.SiteCalls as site-calls
 use Rattle.end_to_end.specs.SiteCalls.{Memory, memory, state_in, ValidIn, log_in, StartsSite, AnswersCall}
-use Rattle.end_to_end.specs.SiteCallsLaws.{log_bytes_lem, used_in_lem, good_in, answers, copy_made}
+use Rattle.end_to_end.proofs.SiteCallsLaws.{log_bytes_lem, used_in_lem, good_in, answers, copy_made}
 
 -- ### What is said
 

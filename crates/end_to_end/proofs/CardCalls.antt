@@ -19,7 +19,7 @@ use Rattle.card.specs.declared.Card.{Card}
 use Rattle.card.specs.declared.Made.{Made}
 use Rattle.card.specs.Model.{row_width, LogOf, IsCard, MadeAs, CountsAfresh, Follows}
 use Rattle.end_to_end.specs.SiteCalls.{Memory, state_in, ValidIn, Alone, log_in, Execution, StartsSite}
-use Rattle.end_to_end.specs.SiteCallsLaws.{log_bytes_lem, good_in, calls-run, starts_at}
+use Rattle.end_to_end.proofs.SiteCallsLaws.{log_bytes_lem, good_in, calls-run, starts_at}
 
 -- ### Calls of the code's site, and a card that follows them
 
