@@ -24,7 +24,8 @@ fn slot_operation(
     id: u64,
 ) -> Module
     requires { LoneIn slot m (received log.old rows.old numbers.old book.old) }
-    ensures { ReachesIn slot m (lent log.old rows.old numbers.old book.old lists.old) (work_calls id) result (lent log.new rows.new numbers.new book.new lists.new) }
+    ensures { ReachesIn slot m (lent log.old rows.old numbers.old book.old lists.old) (work_calls id) result
+        (lent log.new rows.new numbers.new book.new lists.new) }
 {
     let asked = asked_inc(id % 4, id / 4 + 1);
     let mut w = m;
@@ -46,7 +47,8 @@ fn slot_mark(
     n: u64,
 ) -> Module
     requires { LoneIn slot m (received log.old rows.now numbers.old book.old) }
-    ensures { ReachesIn slot m (lent log.old rows.now numbers.old book.old lists.old) (mark_calls n) result (lent log.new rows.now numbers.new book.new lists.new) }
+    ensures { ReachesIn slot m (lent log.old rows.now numbers.old book.old lists.old) (mark_calls n) result
+        (lent log.new rows.now numbers.new book.new lists.new) }
 {
     let p = m.persistent(slot, log, rows, numbers, book, lists, LogNumber(n));
     let kept = p.after;
@@ -67,7 +69,8 @@ fn slot_round(
 ) -> Module
     requires lone_in { LoneIn slot m (received log.old rows.old numbers.old book.old) }
     requires id_bound { id < 18446744073709551615 }
-    ensures { ReachesIn slot m (lent log.old rows.old numbers.old book.old lists.old) (round_calls id) result (lent log.new rows.new numbers.new book.new lists.new) }
+    ensures { ReachesIn slot m (lent log.old rows.old numbers.old book.old lists.old) (round_calls id) result
+        (lent log.new rows.new numbers.new book.new lists.new) }
 {
     let worked = slot_operation(m, slot, log, rows, numbers, book, lists, id);
     if id % 32 == 31 {

@@ -32,7 +32,8 @@ pub extern "C" fn fm_add_parts(
     count: usize,
 ) -> u64
     requires { ValidState (words first.old second.old third.old fourth.old) slot (received log.now rows.old numbers.old book.old) }
-    ensures { PerformsAdd slot (words first.old second.old third.old fourth.old) (lent log.now rows.old numbers.old book.old lists.old) id count updates.now result
+    ensures { PerformsAdd slot (words first.old second.old third.old fourth.old) (lent log.now rows.old numbers.old book.old lists.old)
+        id count updates.now result
         (words first.new second.new third.new fourth.new) (lent log.now rows.new numbers.new book.new lists.new) answer.old answer.new }
 {
     if rules_known(updates) {

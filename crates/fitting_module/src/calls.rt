@@ -30,7 +30,8 @@ pub extern "C" fn fm_finish_parts(
     id: u64,
 ) -> u64
     requires { ValidState (words first.old second.old third.old fourth.old) slot (received log.old rows.old numbers.old book.old) }
-    ensures { PerformsCall slot (words first.old second.old third.old fourth.old) (lent log.old rows.old numbers.old book.old lists.old) (Call.Finish id) result
+    ensures { PerformsCall slot (words first.old second.old third.old fourth.old) (lent log.old rows.old numbers.old book.old lists.old)
+        (Call.Finish id) result
         (words first.new second.new third.new fourth.new) (lent log.new rows.new numbers.new book.new lists.new) answer.old answer.new }
 {
     let m = module_at(first, second, third, fourth);
@@ -55,7 +56,8 @@ pub extern "C" fn fm_withdraw_parts(
     id: u64,
 ) -> u64
     requires { ValidState (words first.old second.old third.old fourth.old) slot (received log.now rows.now numbers.old book.old) }
-    ensures { PerformsCall slot (words first.old second.old third.old fourth.old) (lent log.now rows.now numbers.old book.old lists.old) (Call.Withdraw id) result
+    ensures { PerformsCall slot (words first.old second.old third.old fourth.old) (lent log.now rows.now numbers.old book.old lists.old)
+        (Call.Withdraw id) result
         (words first.new second.new third.new fourth.new) (lent log.now rows.now numbers.new book.new lists.new) answer.old answer.new }
 {
     let m = module_at(first, second, third, fourth);
@@ -80,7 +82,8 @@ pub extern "C" fn fm_persistent_parts(
     n: u64,
 ) -> u64
     requires { ValidState (words first.old second.old third.old fourth.old) slot (received log.now rows.now numbers.old book.old) }
-    ensures { PerformsCall slot (words first.old second.old third.old fourth.old) (lent log.now rows.now numbers.old book.old lists.old) (Call.Persistent n) result
+    ensures { PerformsCall slot (words first.old second.old third.old fourth.old) (lent log.now rows.now numbers.old book.old lists.old)
+        (Call.Persistent n) result
         (words first.new second.new third.new fourth.new) (lent log.now rows.now numbers.new book.new lists.new) answer.old answer.new }
 {
     let m = module_at(first, second, third, fourth);
@@ -105,7 +108,8 @@ pub extern "C" fn fm_stable_parts(
     n: u64,
 ) -> u64
     requires { ValidState (words first.old second.old third.old fourth.old) slot (received log.old rows.now numbers.now book.old) }
-    ensures { PerformsCall slot (words first.old second.old third.old fourth.old) (lent log.old rows.now numbers.now book.old lists.old) (Call.Stable n) result
+    ensures { PerformsCall slot (words first.old second.old third.old fourth.old) (lent log.old rows.now numbers.now book.old lists.old)
+        (Call.Stable n) result
         (words first.new second.new third.new fourth.new) (lent log.new rows.now numbers.now book.new lists.new) answer.old answer.new }
 {
     let m = module_at(first, second, third, fourth);
@@ -129,7 +133,8 @@ pub extern "C" fn fm_end_parts(
     slot: usize,
 ) -> u64
     requires { ValidState (words first.old second.old third.old fourth.old) slot (received log.now rows.now numbers.now book.now) }
-    ensures { PerformsCall slot (words first.old second.old third.old fourth.old) (lent log.now rows.now numbers.now book.now lists.old) Call.End result
+    ensures { PerformsCall slot (words first.old second.old third.old fourth.old) (lent log.now rows.now numbers.now book.now lists.old)
+        Call.End result
         (words first.new second.new third.new fourth.new) (lent log.now rows.now numbers.now book.now lists.new) answer.old answer.new }
 {
     let m = module_at(first, second, third, fourth);

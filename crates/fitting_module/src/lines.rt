@@ -69,7 +69,8 @@ fn call(
 ) -> ModuleResult
     requires valid_with { ValidWith m slot (received log.old rows.old numbers.old book.old) }
     requires in_bounds { c.form ≡ CommandForm.Redo → 7 ≤ length line.now }
-    ensures { ObeysForm slot m (lent log.old rows.old numbers.old book.old lists.old) line.now c result (lent log.new rows.new numbers.new book.new lists.new) }
+    ensures { ObeysForm slot m (lent log.old rows.old numbers.old book.old lists.old) line.now c result
+        (lent log.new rows.new numbers.new book.new lists.new) }
 {
     let form = c.form;
     let asked = c.asked;
@@ -132,7 +133,8 @@ pub extern "C" fn fm_line_parts(
     out: &mut [u8],
 ) -> usize
     requires { ValidState (words first.old second.old third.old fourth.old) slot (received log.old rows.old numbers.old book.old) }
-    ensures { AnswersLine slot (words first.old second.old third.old fourth.old) (lent log.old rows.old numbers.old book.old []) line.now result
+    ensures { AnswersLine slot (words first.old second.old third.old fourth.old) (lent log.old rows.old numbers.old book.old []) line.now
+        result
         (words first.new second.new third.new fourth.new) (lent log.new rows.new numbers.new book.new []) out.old out.new }
 {
     if out.len() < REPLY_BYTES {

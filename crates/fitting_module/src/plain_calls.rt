@@ -28,7 +28,8 @@ pub extern "C" fn fm_show_parts(
     history: u64,
 ) -> u64
     requires { ValidState (words first.old second.old third.old fourth.old) slot (received log.now rows.now numbers.now book.now) }
-    ensures { PerformsCall slot (words first.old second.old third.old fourth.old) (lent log.now rows.now numbers.now book.now []) (Call.Show history) result
+    ensures { PerformsCall slot (words first.old second.old third.old fourth.old) (lent log.now rows.now numbers.now book.now [])
+        (Call.Show history) result
         (words first.new second.new third.new fourth.new) (lent log.now rows.now numbers.now book.now []) answer.old answer.new }
 {
     let m = module_at(first, second, third, fourth);
@@ -77,7 +78,8 @@ pub extern "C" fn fm_redo_parts(
     line: &[u8],
 ) -> u64
     requires { ValidState (words first.old second.old third.old fourth.old) slot (received log.old rows.old numbers.old book.old) }
-    ensures { PerformsCall slot (words first.old second.old third.old fourth.old) (lent log.old rows.old numbers.old book.old []) (Call.Redo line.now) result
+    ensures { PerformsCall slot (words first.old second.old third.old fourth.old) (lent log.old rows.old numbers.old book.old [])
+        (Call.Redo line.now) result
         (words first.new second.new third.new fourth.new) (lent log.new rows.new numbers.new book.new []) answer.old answer.new }
 {
     let m = module_at(first, second, third, fourth);

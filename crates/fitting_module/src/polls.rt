@@ -39,7 +39,8 @@ pub extern "C" fn fm_poll_parts(
     history: u64,
 ) -> u64
     requires { ValidState (words first.now second.now third.now fourth.now) slot (received log.now rows.now numbers.now book.now) }
-    ensures { PollsSlot (words first.now second.now third.now fourth.now) slot (lent log.now rows.now numbers.now book.now []) history result }
+    ensures { PollsSlot (words first.now second.now third.now fourth.now) slot (lent log.now rows.now numbers.now book.now []) history
+        result }
 {
     let m = module_at(first, second, third, fourth);
     let p = m.poll(slot, book, history);

@@ -47,7 +47,8 @@ pub extern "C" fn fm_restart_parts(
     kept: usize,
 ) -> u64
     requires { ValidBefore (words first.old second.old third.old fourth.old) slot (received log.now rows.old numbers.old book.old) }
-    ensures { RestartsSlot slot (words first.old second.old third.old fourth.old) (lent log.now rows.old numbers.old book.old []) kept result
+    ensures { RestartsSlot slot (words first.old second.old third.old fourth.old) (lent log.now rows.old numbers.old book.old []) kept
+        result
         (words first.new second.new third.new fourth.new) (lent log.now rows.new numbers.new book.new []) }
 {
     let m = module_at(first, second, third, fourth);

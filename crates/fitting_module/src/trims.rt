@@ -32,7 +32,8 @@ pub extern "C" fn fm_trim_parts(
     used: &mut usize,
 ) -> u64
     requires { ValidState (words first.now second.now third.now fourth.now) slot (received log.now rows.now numbers.now book.now) }
-    ensures { TrimsSlot (words first.now second.now third.now fourth.now) slot (lent log.now rows.now numbers.now book.now []) n fresh.old result fresh.new
+    ensures { TrimsSlot (words first.now second.now third.now fourth.now) slot (lent log.now rows.now numbers.now book.now []) n
+        fresh.old result fresh.new
         used.old used.new }
 {
     let m = module_at(first, second, third, fourth);

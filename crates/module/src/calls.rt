@@ -136,7 +136,8 @@ impl Module {
     ) -> ModuleResult
         requires { ValidWith self slot (received log.now rows.now numbers.now book.now) }
         ensures { (ns : List ℕ) →
-            Moves self (Move.At slot (Call.Show h)) (lent log.now rows.now numbers.now book.now ns) result (lent log.now rows.now numbers.now book.now ns) }
+            Moves self (Move.At slot (Call.Show h)) (lent log.now rows.now numbers.now book.now ns) result
+            (lent log.now rows.now numbers.now book.now ns) }
     {
         if self.is_open(slot) {
             let slots = self.slots;
@@ -161,7 +162,8 @@ impl Module {
         lists: &mut ReplyNumbers,
     ) -> ModuleResult
         requires { ValidWith self slot (received log.now rows.now numbers.now book.now) }
-        ensures { Moves self (Move.At slot Call.End) (lent log.now rows.now numbers.now book.now lists.old) result (lent log.now rows.now numbers.now book.now lists.new) }
+        ensures { Moves self (Move.At slot Call.End) (lent log.now rows.now numbers.now book.now lists.old) result
+            (lent log.now rows.now numbers.now book.now lists.new) }
     {
         if self.is_open(slot) {
             let slots = self.slots;

@@ -51,7 +51,8 @@ impl Module {
     ) -> ModuleResult
         requires { ValidAnew self slot (received log.now rows.old numbers.old book.old) }
         ensures { (ns : List ℕ) →
-            MovesAnew self (Move.Restart slot log.now k) (lent log.now rows.old numbers.old book.old ns) result (lent log.now rows.new numbers.new book.new ns) }
+            MovesAnew self (Move.Restart slot log.now k) (lent log.now rows.old numbers.old book.old ns) result
+            (lent log.now rows.new numbers.new book.new ns) }
     {
         if slot < Module::SLOTS {
             let slots = self.slots;
@@ -147,7 +148,8 @@ impl Module {
     ) -> ModuleResult
         requires { ValidWith self slot (received log.old rows.old numbers.old book.old) }
         ensures { (ns : List ℕ) →
-            Moves self (Move.At slot (Call.Redo line.now)) (lent log.old rows.old numbers.old book.old ns) result (lent log.new rows.new numbers.new book.new ns) }
+            Moves self (Move.At slot (Call.Redo line.now)) (lent log.old rows.old numbers.old book.old ns) result
+            (lent log.new rows.new numbers.new book.new ns) }
     {
         if self.is_open(slot) {
             let slots = self.slots;

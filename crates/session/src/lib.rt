@@ -91,7 +91,8 @@ fn call(
     c: CommandRead,
 ) -> CallResult
     requires { Valid site (received log.old rows.old order.old book.old) }
-    ensures { DoesForm site (lent log.old rows.old order.old book.old lists.old) c result (lent log.new rows.new order.new book.new lists.new) }
+    ensures { DoesForm site (lent log.old rows.old order.old book.old lists.old) c result
+        (lent log.new rows.new order.new book.new lists.new) }
 {
     let form = c.form;
     let asked = c.asked;
@@ -186,7 +187,8 @@ impl Session {
         c: CommandRead,
     ) -> LineResult
         requires { ValidSession self (received log.old rows.old order.old book.old) }
-        ensures { TurnsForm self (lent log.old rows.old order.old book.old lists.old) c result (lent log.new rows.new order.new book.new lists.new) }
+        ensures { TurnsForm self (lent log.old rows.old order.old book.old lists.old) c result
+            (lent log.new rows.new order.new book.new lists.new) }
     {
         let form = c.form;
         if self.opened {

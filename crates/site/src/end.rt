@@ -19,7 +19,8 @@ impl Site {
         lists: &mut ReplyNumbers,
     ) -> CallResult
         requires { Valid self (received log.now rows.now order.now book.now) }
-        ensures { Steps self (lent log.now rows.now order.now book.now lists.old) Call.End result (lent log.now rows.now order.now book.now lists.new) }
+        ensures { Steps self (lent log.now rows.now order.now book.now lists.old) Call.End result
+            (lent log.now rows.now order.now book.now lists.new) }
     {
         let restoring = self.restoring;
         if restoring {
