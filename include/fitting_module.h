@@ -2,7 +2,7 @@
  * The fitting ledger for a compact module: up to four sites on one controller that share a table of 128 entries (02, (m)). They live
  * on from call to call, in memory that their owner lends.
  *
- * Link with libfitting_module.a (`rt staticlib fitting_module`), x86-64 Linux. C11 and C++17. docs/LIBRARY.md is the page to begin with.
+ * Link with libfitting_module.a (`tools/build fitting_module`), x86-64 Linux. C11 and C++17. docs/LIBRARY.md is the page to begin with.
  *
  * What is proved of the calls holds for a state that `fm_start` has filled and that nobody but these calls has changed since, neither the
  * state nor the bytes of the logs in use: that is all they ask. Each call is then what document 02 says of the module: of a slot that is not

@@ -1,16 +1,16 @@
 -- "A shorter log" (02, (h)): the code's `trim` copies the log of a site, and `Site::restart` from the copy shows the same histories, marks
 -- and log numbers as from the full log, by their contracts alone.
-use Rattle.std.specs.Prelude.{ℕ, ◌≤◌, ◌<◌, ◌≡◌, refl, not, List, leb, length, take}
+use Rattle.std.specs.Prelude.{ℕ, ◌≤◌, ◌≡◌, refl, not, List, leb, length, take}
 use Rattle.std.proofs.Common.{arith, sym, ap, ◌∙◌, subst, le→leb, length-take}
 use Rattle.std.proofs.Math.Option.{none, some}
 use Rattle.forms.specs.ListLaws.{T_true}
 use Rattle.forms.specs.Lists.{below}
-use Rattle.forms.specs.Limits.{log_limit, live_limit}
+use Rattle.forms.specs.Limits.{live_limit}
 use Rattle.forms.specs.Decimal.{top}
-use Rattle.forms.specs.Forms.{Answer, Restarted}
+use Rattle.forms.specs.Forms.{Restarted}
 use Rattle.forms.specs.declared.Refusal.TheVariants.{Unreadable}
 use Rattle.rule_laws.specs.CheckLaws.{unless_none, none_check}
-use Rattle.rules.specs.State.{State, Reply, ok, lines_in, start_of, done_in, log_bytes}
+use Rattle.rules.specs.State.{State, Reply, ok, start_of, done_in, log_bytes}
 use Rattle.rules.specs.Calls.{restart, restarted, show, Show, writable, perform, step}
 use Rattle.rules.specs.Log.{log_text}
 use Rattle.rule_laws.specs.LogLaws.{histories_most}
@@ -19,56 +19,13 @@ use Rattle.rules.specs.Trim.{trimmed_base, trimmed_lines, trim_text}
 use Rattle.rule_laws.specs.TrimLaws.{copied, changes_over_lem}
 use Rattle.rule_laws.specs.TrimShows.{ShowsAlike, shows_alike, Trims, trimmed_restarts, full_restart, full-restarts}
 use Rattle.recovery.proofs.Cuts.{lines-restarted}
-use Rattle.site.specs.declared.CallResult.{CallResult}
 use Rattle.site.specs.Representation.{Sound}
 use Rattle.site.specs.OpenLaws.{blank_site}
-use Rattle.site.specs.Model.{Lent, AcceptedAs, Opens}
-use Rattle.trim.specs.declared.Copied.{Copied}
-use Rattle.trim.specs.declared.Copied.TheVariants.{Used}
-use Rattle.trim.specs.Model.{CopiesLog}
+use Rattle.site.specs.Model.{AcceptedAs, Opens}
 use Rattle.end_to_end.specs.SiteCalls as site-calls
-use Rattle.end_to_end.specs.SiteCalls.{Memory, memory, state_in, ValidIn, log_in, StartsSite, AnswersCall}
+use Rattle.end_to_end.specs.SiteCalls.{Memory, memory, state_in, ValidIn, log_in}
 use Rattle.end_to_end.proofs.SiteCallsLaws.{log_bytes_lem, used_in_lem, good_in, answers, copy_made}
-
--- ### What is said
-
--- Two sites show the same histories, marks and log numbers.
-pub record AlikeIn (short full : Memory) : Type 0 where
-  -- "the same histories": whatever `show` of each hands back by its contract, the same reply
-  pub shows : (h : ℕ) → h < full.site.count → (answer : Answer) × AnswersCall short (Show h) answer × AnswersCall full (Show h) answer
-  -- .. "marks and log numbers": how many operations are done, persistent, stable, and have left the table, as the sites hold them
-  pub done : short.site.done.0 ≡ full.site.done.0
-  pub persistent : short.site.persistent.0 ≡ full.site.persistent.0
-  pub stable : short.site.stable.0 ≡ full.site.stable.0
-  pub left : short.site.left.0 ≡ full.site.left.0
-  -- .. and of the states, with the live operations
-  pub states : ShowsAlike (state_in short) (state_in full)
-
--- A trim of the site x to n operations left `copy` in a fresh buffer and replied the bytes used; `short` was restarted from all of these,
--- and `full` from all bytes of the log of x.
-pub record Shortened (x : Memory) (n : ℕ) (fresh copy : List ℕ) (used : ℕ) (short full : Memory) : Type 0 where
-  -- the bytes of the copy at the front, and "no byte of a lent buffer past those in use" altered
-  pub made : Trims n fresh (state_in x) copy used
-  -- the restart from the copy is accepted, and a list of calls may start there with all its lines counted persistent
-  pub starts : StartsSite (length (lines_in (state_in short))) short
-  pub valid : ValidIn short
-  pub bytes : log_in short ≡ trim_text n (state_in x)
-  pub in_use : short.site.used ≡ used
-  pub base : short.site.base.0 ≡ n
-  -- "Restart from the shorter log shows the same .. as from the full one."
-  pub alike : AlikeIn short full
-
--- For every valid site, any n and fresh buffer with which `trim` replies the bytes used, whatever is lent beside the copy and beside
--- another buffer that holds the full log.
-abbrev pub TrimClaim : Type 0
-TrimClaim =
-    (x : Memory) → ValidIn x →
-    (n : ℕ) (fresh : List ℕ) (c : Copied) (copy : List ℕ) → CopiesLog x.site x.lent.log n fresh c copy → (used : ℕ) → c ≡ Used used →
-    (buffer : Lent) → buffer.log ≡ copy →
-    (r : CallResult) (new : Lent) → Opens blank_site buffer (restart buffer.log used) r new →
-    (other : Lent) → take x.site.used other.log ≡ log_in x → length other.log ≤ log_limit →
-    (q : CallResult) (old : Lent) → Opens blank_site other (restart other.log x.site.used) q old →
-    Shortened x n fresh copy used (memory r.site new) (memory q.site old)
+use Rattle.end_to_end.specs.TrimCalls.{AlikeIn, TrimClaim}
 
 -- ### Proof
 

@@ -10,3 +10,6 @@ pub mod OlderExamples
 pub mod BesideLines
 pub mod RecordsCalls
 pub mod RecordsLimit
+pub mod CardCalls
+pub mod Changeover
+pub mod TrimCalls
