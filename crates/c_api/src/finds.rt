@@ -12,8 +12,7 @@ use table::rows::ROW;
 
 // Takes a site up from the first `kept` bytes of a log and names the smallest number of bytes of its log whose cut leaves these places: the
 // number of a refusal, of the restart or 21, or 1,000 more than that number.
-#[unsafe(no_mangle)]
-pub extern "C" fn log_find_cut(log: &[u8], kept: usize, places: &[u64]) -> u64
+pub fn log_find_cut(log: &[u8], kept: usize, places: &[u64]) -> u64
     ensures { result ≡ find_after places.now (restart log.now kept) }
 {
     let mut rows = [0u64; Site::LIVE * ROW];

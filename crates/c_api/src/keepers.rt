@@ -30,8 +30,7 @@ fn kept_number(r: Kept) -> u64
 }
 
 // Keeps a did line, given without its end: 1,000 more than the bytes in use after it.
-#[unsafe(no_mangle)]
-pub extern "C" fn keeper_keep(buf: &mut [u8], used: usize, line: &[u8]) -> u64
+pub fn keeper_keep(buf: &mut [u8], used: usize, line: &[u8]) -> u64
     ensures { Replies used buf.old (keep_line line.now (keeper_in used buf.old)) result
         buf.new }
 {
@@ -43,8 +42,7 @@ pub extern "C" fn keeper_keep(buf: &mut [u8], used: usize, line: &[u8]) -> u64
 }
 
 // Drops every line with that place or a lower one in that history: 1,000 more than the bytes in use after it.
-#[unsafe(no_mangle)]
-pub extern "C" fn keeper_drop(buf: &mut [u8], used: usize, history: u64, place: u64) -> u64
+pub fn keeper_drop(buf: &mut [u8], used: usize, history: u64, place: u64) -> u64
     ensures { Replies used buf.old (drop_lines history place (keeper_in used buf.old)) result buf.new }
 {
     let Resumed::Found(k) = Keeper::resume(buf, used) else {
@@ -80,8 +78,7 @@ fn handed_number(r: HandOut) -> u64
 }
 
 // Hands out every line with a place above its entry, of sixteen, into a second buffer: 1,000 more than the bytes handed out.
-#[unsafe(no_mangle)]
-pub extern "C" fn keeper_hand_out(buf: &[u8], used: usize, places: &[u64], out: &mut [u8]) -> u64
+pub fn keeper_hand_out(buf: &[u8], used: usize, places: &[u64], out: &mut [u8]) -> u64
     ensures { HandsOver used buf.now places.now out.old result out.new }
 {
     let Resumed::Found(k) = Keeper::resume(buf, used) else {

@@ -37,13 +37,7 @@ fn poll_each(session: Session, book: &BookWords, histories: &mut [u64])
 
 // A whole session, and each number of `histories` becomes what a poll of that history gives at its end: 1,001 if it is dry, 1,000
 // if not, a refusal's number if there is none. They stay as they are where `out` is too short, or nearly.
-#[unsafe(no_mangle)]
-pub extern "C" fn session_polls(
-    input: &[u8],
-    log: &mut [u8],
-    out: &mut [u8],
-    histories: &mut [u64],
-) -> usize
+pub fn session_polls(input: &[u8], log: &mut [u8], out: &mut [u8], histories: &mut [u64]) -> usize
     ensures { PlaysPolls input.now log.old result log.new out.old out.new histories.old histories.new }
 {
     let mut rows = [0u64; Site::LIVE * ROW];

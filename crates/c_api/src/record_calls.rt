@@ -47,8 +47,7 @@ fn result_number(r: RecordsResult) -> u64
 }
 
 // Records an operation with its masks and its threshold: 1,000 more than the records after it.
-#[unsafe(no_mangle)]
-pub extern "C" fn records_record(
+pub fn records_record(
     words: &mut [u64],
     count: usize,
     id: u64,
@@ -68,8 +67,7 @@ pub extern "C" fn records_record(
 }
 
 // A site reports an operation persistent: 1,001 if it then counts as persistent, else 1,000.
-#[unsafe(no_mangle)]
-pub extern "C" fn records_report(words: &mut [u64], count: usize, id: u64, site: u64) -> u64
+pub fn records_report(words: &mut [u64], count: usize, id: u64, site: u64) -> u64
     ensures { RepliesRecords count words.old (report id site (records_in count words.old)) result
         words.new }
 {
@@ -82,8 +80,7 @@ pub extern "C" fn records_report(words: &mut [u64], count: usize, id: u64, site:
 }
 
 // Whether an operation counts as persistent: 1,001 if it does, else 1,000.
-#[unsafe(no_mangle)]
-pub extern "C" fn records_question(words: &[u64], count: usize, id: u64) -> u64
+pub fn records_question(words: &[u64], count: usize, id: u64) -> u64
     ensures { result ≡ asked_number count words.now (question id (records_in count words.now)) }
 {
     if are_records(words, count) {
@@ -95,8 +92,7 @@ pub extern "C" fn records_question(words: &[u64], count: usize, id: u64) -> u64
 }
 
 // Forgets the record of an operation: 1,000 more than the records after it.
-#[unsafe(no_mangle)]
-pub extern "C" fn records_forget(words: &mut [u64], count: usize, id: u64) -> u64
+pub fn records_forget(words: &mut [u64], count: usize, id: u64) -> u64
     ensures { RepliesRecords count words.old (forget_record id (records_in count words.old)) result
         words.new }
 {

@@ -19,8 +19,7 @@ pub fn code(w: Written) -> usize
 }
 
 // "Restart takes the first K bytes": its reply, with its end, at the front of `out`.
-#[unsafe(no_mangle)]
-pub extern "C" fn site_restart(log: &[u8], k: usize, out: &mut [u8]) -> usize
+pub fn site_restart(log: &[u8], k: usize, out: &mut [u8]) -> usize
     ensures { PutsText (reply_text (restart log.now k)) out.old result out.new }
 {
     let mut rows = [0u64; Site::LIVE * ROW];

@@ -91,8 +91,7 @@ fn round(
 }
 
 // Opens a site of four histories, adds and finishes the operations with the ids below n, and gives the bytes of the log then in use.
-#[unsafe(no_mangle)]
-pub extern "C" fn site_add_and_finish(log: &mut [u8], n: u64) -> usize
+pub fn site_add_and_finish(log: &mut [u8], n: u64) -> usize
     ensures { Rounds (open_site 4 (length log.old)) n log.old result log.new }
 {
     let mut rows = [0u64; Site::LIVE * ROW];

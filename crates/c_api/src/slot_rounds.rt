@@ -106,8 +106,7 @@ fn slot_serve(
 
 // Opens a site of four histories in a slot of a module, adds and finishes the operations with the ids below n there, and gives the bytes of
 // its log then in use: what a site alone does, since nobody opens the others.
-#[unsafe(no_mangle)]
-pub extern "C" fn slot_add_and_finish(log: &mut [u8], slot: usize, n: u64) -> usize
+pub fn slot_add_and_finish(log: &mut [u8], slot: usize, n: u64) -> usize
     ensures { Rounds (reply_of (Move.Open slot 4 (length log.old)) made) n log.old result log.new }
 {
     let mut rows = [0u64; Module::ENTRIES * ROW];

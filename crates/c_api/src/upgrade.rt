@@ -19,8 +19,7 @@ fn changeover_number(r: Changeover) -> u64
 }
 
 // Gives the older log in the first `kept` bytes its stable line: a refusal's number, or 1,000 more than the bytes in use after it.
-#[unsafe(no_mangle)]
-pub extern "C" fn log_upgrade(log: &mut [u8], kept: usize) -> u64
+pub fn log_upgrade(log: &mut [u8], kept: usize) -> u64
     ensures { ChangesOver (upgrade log.old kept) log.old result log.new }
 {
     let r = upgrade(log, kept);

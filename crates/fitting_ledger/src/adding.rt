@@ -14,8 +14,7 @@ use table::order::Order;
 use table::rows::Rows;
 
 // Adds an operation: 0, or the number of the refusal; 1 where a rule's number is none.
-#[unsafe(no_mangle)]
-pub extern "C" fn fl_add_parts(
+pub fn fl_add_parts(
     counters: &mut Counters,
     log: &[u8],
     rows: &mut Rows,

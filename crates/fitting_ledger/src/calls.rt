@@ -15,8 +15,7 @@ use table::order::Order;
 use table::rows::Rows;
 
 // Finishes an operation that is in progress.
-#[unsafe(no_mangle)]
-pub extern "C" fn fl_finish_parts(
+pub fn fl_finish_parts(
     counters: &mut Counters,
     log: &mut [u8],
     rows: &mut Rows,
@@ -40,8 +39,7 @@ pub extern "C" fn fl_finish_parts(
 }
 
 // Withdraws a future operation.
-#[unsafe(no_mangle)]
-pub extern "C" fn fl_withdraw_parts(
+pub fn fl_withdraw_parts(
     counters: &mut Counters,
     log: &[u8],
     rows: &Rows,
@@ -65,8 +63,7 @@ pub extern "C" fn fl_withdraw_parts(
 }
 
 // Makes the first n operations persistent.
-#[unsafe(no_mangle)]
-pub extern "C" fn fl_persistent_parts(
+pub fn fl_persistent_parts(
     counters: &mut Counters,
     log: &[u8],
     rows: &Rows,
@@ -90,8 +87,7 @@ pub extern "C" fn fl_persistent_parts(
 }
 
 // Makes the first n operations stable.
-#[unsafe(no_mangle)]
-pub extern "C" fn fl_stable_parts(
+pub fn fl_stable_parts(
     counters: &mut Counters,
     log: &mut [u8],
     rows: &Rows,
@@ -115,8 +111,7 @@ pub extern "C" fn fl_stable_parts(
 }
 
 // Ends restoring.
-#[unsafe(no_mangle)]
-pub extern "C" fn fl_end_parts(
+pub fn fl_end_parts(
     counters: &mut Counters,
     log: &[u8],
     rows: &Rows,

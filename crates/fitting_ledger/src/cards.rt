@@ -32,8 +32,7 @@ fn put_lines(lines: &mut usize, r: Made) -> u64
 
 // Counts the card of the last w lines of the log: 0, the counts of the site's histories are the card's, and `lines` is how many lines
 // count; or the number of the refusal. Nothing else changes.
-#[unsafe(no_mangle)]
-pub extern "C" fn fl_card_parts(
+pub fn fl_card_parts(
     counters: &Counters,
     log: &[u8],
     rows: &Rows,

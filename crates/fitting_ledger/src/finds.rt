@@ -27,8 +27,7 @@ fn put_kept(kept: &mut usize, r: Found) -> u64
 
 // Names the smallest number of bytes of the log whose cut leaves these places: 0, and `kept` is that number; or the number of the refusal.
 // Nothing else changes.
-#[unsafe(no_mangle)]
-pub extern "C" fn fl_find_cut_parts(
+pub fn fl_find_cut_parts(
     counters: &Counters,
     log: &[u8],
     rows: &Rows,

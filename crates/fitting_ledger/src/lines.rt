@@ -14,8 +14,7 @@ use table::rows::Rows;
 
 // Obeys a line, given without its end, and writes its reply, with its end: the bytes of the reply. Where `out` has less room
 // than the longest reply nothing has happened, and the room needed is returned: more than there is.
-#[unsafe(no_mangle)]
-pub extern "C" fn fl_line_parts(
+pub fn fl_line_parts(
     counters: &mut Counters,
     log: &mut [u8],
     rows: &mut Rows,
@@ -42,8 +41,7 @@ pub extern "C" fn fl_line_parts(
 }
 
 // How many bytes of the log are in use: 0 "before site".
-#[unsafe(no_mangle)]
-pub extern "C" fn fl_log_used_parts(
+pub fn fl_log_used_parts(
     counters: &Counters,
     log: &[u8],
     rows: &Rows,

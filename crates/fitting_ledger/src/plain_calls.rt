@@ -14,8 +14,7 @@ use table::order::Order;
 use table::rows::Rows;
 
 // Shows a history.
-#[unsafe(no_mangle)]
-pub extern "C" fn fl_show_parts(
+pub fn fl_show_parts(
     counters: &mut Counters,
     log: &[u8],
     rows: &Rows,
@@ -38,8 +37,7 @@ pub extern "C" fn fl_show_parts(
 }
 
 // A supply cut that leaves the first k bytes of the log, and a restart from them.
-#[unsafe(no_mangle)]
-pub extern "C" fn fl_cut_parts(
+pub fn fl_cut_parts(
     counters: &mut Counters,
     log: &[u8],
     rows: &mut Rows,
@@ -62,8 +60,7 @@ pub extern "C" fn fl_cut_parts(
 }
 
 // Redoes a did line, given without its end.
-#[unsafe(no_mangle)]
-pub extern "C" fn fl_redo_parts(
+pub fn fl_redo_parts(
     counters: &mut Counters,
     log: &mut [u8],
     rows: &mut Rows,

@@ -12,8 +12,7 @@ use table::order::Order;
 use table::rows::Rows;
 
 // Polls a history: 1,001 if it is dry, 1,000 if not, or the number of the refusal. Nothing changes.
-#[unsafe(no_mangle)]
-pub extern "C" fn fl_poll_parts(
+pub fn fl_poll_parts(
     counters: &Counters,
     log: &[u8],
     rows: &Rows,

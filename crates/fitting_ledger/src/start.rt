@@ -33,8 +33,7 @@ fn begin(words: &mut Counters, c: CallResult) -> u64
 }
 
 // Opens a site of so many histories: 0, or the number of the refusal.
-#[unsafe(no_mangle)]
-pub extern "C" fn fl_start_parts(
+pub fn fl_start_parts(
     counters: &mut Counters,
     log: &mut [u8],
     rows: &Rows,
@@ -50,8 +49,7 @@ pub extern "C" fn fl_start_parts(
 }
 
 // "Restart takes the first K bytes": 0, or the number of the refusal.
-#[unsafe(no_mangle)]
-pub extern "C" fn fl_restart_parts(
+pub fn fl_restart_parts(
     counters: &mut Counters,
     log: &[u8],
     rows: &mut Rows,

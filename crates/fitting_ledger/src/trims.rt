@@ -15,8 +15,7 @@ use trim::trim;
 
 // Copies the log into a fresh buffer, with a base line in place of its first n operations: 0, and `used` is the bytes used there; or the
 // number of the refusal. Nothing else changes.
-#[unsafe(no_mangle)]
-pub extern "C" fn fl_trim_parts(
+pub fn fl_trim_parts(
     counters: &Counters,
     log: &[u8],
     rows: &Rows,

@@ -6,8 +6,7 @@ use forms::writer::refusal_number;
 use older_log::{Changeover, upgrade};
 
 // Gives the older log in the first `kept` bytes its stable line: 0, and `used` is the bytes in use after it; or the number of the refusal.
-#[unsafe(no_mangle)]
-pub extern "C" fn fl_upgrade(log: &mut [u8], kept: usize, used: &mut usize) -> u64
+pub fn fl_upgrade(log: &mut [u8], kept: usize, used: &mut usize) -> u64
     ensures { ChangesOver (upgrade log.old kept) log.old result log.new used.old used.new }
 {
     match upgrade(log, kept) {

@@ -16,48 +16,42 @@ use history::book::WIDTH;
 use table::rows::ROW;
 
 // The version of the calls and of what is lent to them.
-#[unsafe(no_mangle)]
-pub extern "C" fn fl_version() -> u64
+pub fn fl_version() -> u64
     ensures { result ≡ 4 }
 {
     4
 }
 
 // The bytes of a state: its counters, its table's rows and the numbers of its histories, of eight bytes each, and the order of its entries.
-#[unsafe(no_mangle)]
-pub extern "C" fn fl_state_bytes() -> usize
+pub fn fl_state_bytes() -> usize
     ensures { result ≡ 8 * (counter_words + live_limit * row_width + book_length) + live_limit }
 {
     8 * (COUNTERS + LIVE * ROW + HISTORIES * WIDTH) + LIVE
 }
 
 // The room that a line asks for its reply: what the longest has.
-#[unsafe(no_mangle)]
-pub extern "C" fn fl_reply_bytes() -> usize
+pub fn fl_reply_bytes() -> usize
     ensures { result ≡ reply_limit }
 {
     REPLY_BYTES
 }
 
 // How many numbers the answer of a call without text has, whatever it replies.
-#[unsafe(no_mangle)]
-pub extern "C" fn fl_answer_words() -> usize
+pub fn fl_answer_words() -> usize
     ensures { (r : ReplyLine) → length (answer_words r) ≡ result }
 {
     ANSWER_WORDS
 }
 
 // How many numbers its lists may have: a finish names the values of each update, and operations that were live.
-#[unsafe(no_mangle)]
-pub extern "C" fn fl_number_words() -> usize
+pub fn fl_number_words() -> usize
     ensures { result ≡ update_limit + live_limit }
 {
     UPDATES + LIVE
 }
 
 // How many counts a card has: inc, set and not of each history.
-#[unsafe(no_mangle)]
-pub extern "C" fn fl_card_words() -> usize
+pub fn fl_card_words() -> usize
     ensures { result ≡ counts_length }
 {
     CARD_WORDS

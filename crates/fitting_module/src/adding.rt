@@ -14,8 +14,7 @@ use forms::ReplyNumbers;
 use history::book::BookWords;
 
 // Adds an operation to a slot: 0, or the number of the refusal; 1 where a rule's number is none.
-#[unsafe(no_mangle)]
-pub extern "C" fn fm_add_parts(
+pub fn fm_add_parts(
     first: &mut SlotWords,
     second: &mut SlotWords,
     third: &mut SlotWords,

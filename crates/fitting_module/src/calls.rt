@@ -14,8 +14,7 @@ use forms::{LogNumber, ReplyNumbers};
 use history::book::BookWords;
 
 // Finishes an operation of a slot that is in progress.
-#[unsafe(no_mangle)]
-pub extern "C" fn fm_finish_parts(
+pub fn fm_finish_parts(
     first: &mut SlotWords,
     second: &mut SlotWords,
     third: &mut SlotWords,
@@ -40,8 +39,7 @@ pub extern "C" fn fm_finish_parts(
 }
 
 // Withdraws a future operation of a slot.
-#[unsafe(no_mangle)]
-pub extern "C" fn fm_withdraw_parts(
+pub fn fm_withdraw_parts(
     first: &mut SlotWords,
     second: &mut SlotWords,
     third: &mut SlotWords,
@@ -66,8 +64,7 @@ pub extern "C" fn fm_withdraw_parts(
 }
 
 // Makes the first n operations of a slot persistent.
-#[unsafe(no_mangle)]
-pub extern "C" fn fm_persistent_parts(
+pub fn fm_persistent_parts(
     first: &mut SlotWords,
     second: &mut SlotWords,
     third: &mut SlotWords,
@@ -92,8 +89,7 @@ pub extern "C" fn fm_persistent_parts(
 }
 
 // Makes the first n operations of a slot stable.
-#[unsafe(no_mangle)]
-pub extern "C" fn fm_stable_parts(
+pub fn fm_stable_parts(
     first: &mut SlotWords,
     second: &mut SlotWords,
     third: &mut SlotWords,
@@ -118,8 +114,7 @@ pub extern "C" fn fm_stable_parts(
 }
 
 // Ends a slot's restoring.
-#[unsafe(no_mangle)]
-pub extern "C" fn fm_end_parts(
+pub fn fm_end_parts(
     first: &mut SlotWords,
     second: &mut SlotWords,
     third: &mut SlotWords,

@@ -118,8 +118,7 @@ fn obey(
 
 // Obeys a line for a slot, given without its end, and writes its reply, with its end: the bytes of the reply. Where `out` has less room
 // than the longest reply nothing has happened, and the room needed is returned: more than there is.
-#[unsafe(no_mangle)]
-pub extern "C" fn fm_line_parts(
+pub fn fm_line_parts(
     first: &mut SlotWords,
     second: &mut SlotWords,
     third: &mut SlotWords,
@@ -150,8 +149,7 @@ pub extern "C" fn fm_line_parts(
 }
 
 // How many bytes of a slot's log are in use: 0 where the slot is not open, and above the last slot.
-#[unsafe(no_mangle)]
-pub extern "C" fn fm_log_used_parts(
+pub fn fm_log_used_parts(
     first: &SlotWords,
     second: &SlotWords,
     third: &SlotWords,

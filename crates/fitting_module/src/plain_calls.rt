@@ -13,8 +13,7 @@ use call_words::answer::Answer;
 use history::book::BookWords;
 
 // Shows a history of a slot.
-#[unsafe(no_mangle)]
-pub extern "C" fn fm_show_parts(
+pub fn fm_show_parts(
     first: &mut SlotWords,
     second: &mut SlotWords,
     third: &mut SlotWords,
@@ -38,8 +37,7 @@ pub extern "C" fn fm_show_parts(
 }
 
 // A supply cut that leaves the first k bytes of a slot's log, and a restart from them.
-#[unsafe(no_mangle)]
-pub extern "C" fn fm_cut_parts(
+pub fn fm_cut_parts(
     first: &mut SlotWords,
     second: &mut SlotWords,
     third: &mut SlotWords,
@@ -63,8 +61,7 @@ pub extern "C" fn fm_cut_parts(
 }
 
 // Redoes a did line, given without its end, in a slot.
-#[unsafe(no_mangle)]
-pub extern "C" fn fm_redo_parts(
+pub fn fm_redo_parts(
     first: &mut SlotWords,
     second: &mut SlotWords,
     third: &mut SlotWords,

@@ -25,8 +25,7 @@ fn slot_number(p: SlotPoll) -> u64
 }
 
 // Polls a history of a slot: 1,001 if it is dry, 1,000 if not, or the number of the refusal. Nothing changes.
-#[unsafe(no_mangle)]
-pub extern "C" fn fm_poll_parts(
+pub fn fm_poll_parts(
     first: &SlotWords,
     second: &SlotWords,
     third: &SlotWords,

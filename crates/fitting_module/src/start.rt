@@ -15,8 +15,7 @@ use module::Module;
 fn known_length(_rows: &[u64]) {}
 
 // A new module: no slot is open.
-#[unsafe(no_mangle)]
-pub extern "C" fn fm_start_parts(
+pub fn fm_start_parts(
     first: &mut SlotWords,
     second: &mut SlotWords,
     third: &mut SlotWords,
@@ -33,8 +32,7 @@ pub extern "C" fn fm_start_parts(
 
 // "Restart takes the first K bytes": 0, or the number of the refusal. Whatever site the slot had is replaced, in this buffer or another; a
 // refused restart leaves it.
-#[unsafe(no_mangle)]
-pub extern "C" fn fm_restart_parts(
+pub fn fm_restart_parts(
     first: &mut SlotWords,
     second: &mut SlotWords,
     third: &mut SlotWords,

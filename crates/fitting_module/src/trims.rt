@@ -16,8 +16,7 @@ use trim::trim;
 
 // Copies a slot's log into a fresh buffer, with a base line in place of its first n operations: 0, and `used` is the bytes used there; or
 // the number of the refusal. Nothing else changes.
-#[unsafe(no_mangle)]
-pub extern "C" fn fm_trim_parts(
+pub fn fm_trim_parts(
     first: &SlotWords,
     second: &SlotWords,
     third: &SlotWords,

@@ -16,8 +16,7 @@ use module::Module;
 use table::rows::ROW;
 
 // The version of the calls and of what is lent to them.
-#[unsafe(no_mangle)]
-pub extern "C" fn fm_version() -> u64
+pub fn fm_version() -> u64
     ensures { result ≡ 2 }
 {
     2
@@ -25,8 +24,7 @@ pub extern "C" fn fm_version() -> u64
 
 // The bytes of a state: the slots' counters, the table's rows and the numbers of the histories, of eight bytes each, and the numbers of its
 // entries.
-#[unsafe(no_mangle)]
-pub extern "C" fn fm_state_bytes() -> usize
+pub fn fm_state_bytes() -> usize
     ensures { result ≡ 8 * (4 * slot_words + table_room * row_width + 4 * book_length) + 4 * part_room }
 {
     let histories = Module::SLOTS * HISTORIES * WIDTH;
@@ -34,24 +32,21 @@ pub extern "C" fn fm_state_bytes() -> usize
 }
 
 // The room that a line asks for its reply: what the longest has.
-#[unsafe(no_mangle)]
-pub extern "C" fn fm_reply_bytes() -> usize
+pub fn fm_reply_bytes() -> usize
     ensures { result ≡ reply_limit }
 {
     REPLY_BYTES
 }
 
 // How many numbers the answer of a call without text has, whatever it replies.
-#[unsafe(no_mangle)]
-pub extern "C" fn fm_answer_words() -> usize
+pub fn fm_answer_words() -> usize
     ensures { (r : ReplyLine) → length (answer_words r) ≡ result }
 {
     ANSWER_WORDS
 }
 
 // How many numbers its lists may have: a finish names the values of each update, and operations that were live.
-#[unsafe(no_mangle)]
-pub extern "C" fn fm_number_words() -> usize
+pub fn fm_number_words() -> usize
     ensures { result ≡ update_limit + live_limit }
 {
     UPDATES + LIVE

@@ -34,8 +34,7 @@ fn answer_number(a: Answer) -> u64
 }
 
 // Begins without records, in numbers of any contents.
-#[unsafe(no_mangle)]
-pub extern "C" fn fl_records_start_parts(count: &mut usize, words: &RecordWords)
+pub fn fl_records_start_parts(count: &mut usize, words: &RecordWords)
     ensures { StartsRecords count.new words.now }
 {
     known_length(words);
@@ -44,12 +43,7 @@ pub extern "C" fn fl_records_start_parts(count: &mut usize, words: &RecordWords)
 }
 
 // Takes up the records that stand in the first numbers: 0, or 999 and no records where they would be more than 64.
-#[unsafe(no_mangle)]
-pub extern "C" fn fl_records_resume_parts(
-    count: &mut usize,
-    words: &RecordWords,
-    kept: usize,
-) -> u64
+pub fn fl_records_resume_parts(count: &mut usize, words: &RecordWords, kept: usize) -> u64
     ensures { ResumesRecords kept words.now result count.new }
 {
     known_length(words);
@@ -62,8 +56,7 @@ pub extern "C" fn fl_records_resume_parts(
 }
 
 // Records an operation with its masks and its threshold: 0, or the number of the refusal.
-#[unsafe(no_mangle)]
-pub extern "C" fn fl_records_record_parts(
+pub fn fl_records_record_parts(
     count: &mut usize,
     words: &mut RecordWords,
     id: u64,
@@ -84,8 +77,7 @@ pub extern "C" fn fl_records_record_parts(
 }
 
 // A site reports an operation persistent: whether it then counts as persistent, or the number of the refusal.
-#[unsafe(no_mangle)]
-pub extern "C" fn fl_records_report_parts(
+pub fn fl_records_report_parts(
     count: &mut usize,
     words: &mut RecordWords,
     id: u64,
@@ -104,8 +96,7 @@ pub extern "C" fn fl_records_report_parts(
 }
 
 // Whether an operation counts as persistent, or the number of the refusal. Nothing changes.
-#[unsafe(no_mangle)]
-pub extern "C" fn fl_records_question_parts(count: &usize, words: &RecordWords, id: u64) -> u64
+pub fn fl_records_question_parts(count: &usize, words: &RecordWords, id: u64) -> u64
     requires { ValidRecords (records_at count.now) words.now }
     ensures { result ≡ records_code (question id (records_in count.now words.now)) }
 {
@@ -115,12 +106,7 @@ pub extern "C" fn fl_records_question_parts(count: &usize, words: &RecordWords, 
 }
 
 // Forgets the record of an operation: 0, or the number of the refusal.
-#[unsafe(no_mangle)]
-pub extern "C" fn fl_records_forget_parts(
-    count: &mut usize,
-    words: &mut RecordWords,
-    id: u64,
-) -> u64
+pub fn fl_records_forget_parts(count: &mut usize, words: &mut RecordWords, id: u64) -> u64
     requires { ValidRecords (records_at count.old) words.old }
     ensures { PerformsRecords count.old words.old (forget_record id (records_in count.old words.old)) result
         count.new words.new }

@@ -25,8 +25,7 @@ fn put_named(named: &mut usize, r: Removals) -> u64
 
 // Names the lines that fall with those lost, by their log numbers, rising, at the front of `out`: 0, and `count` is how many they are; or
 // the number of the refusal. Pairs are line and transaction in turn; a last number without a partner is no pair.
-#[unsafe(no_mangle)]
-pub extern "C" fn fl_removals(
+pub fn fl_removals(
     log: &[u8],
     pairs: &[u64],
     lost: &[u64],

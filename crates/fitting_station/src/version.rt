@@ -9,32 +9,28 @@ use forms::limits::HISTORIES;
 use removal::fall::LINES;
 
 // The version of the calls and of what is lent to them.
-#[unsafe(no_mangle)]
-pub extern "C" fn fl_station_version() -> u64
+pub fn fl_station_version() -> u64
     ensures { result ≡ 4 }
 {
     4
 }
 
 // How many numbers the records have.
-#[unsafe(no_mangle)]
-pub extern "C" fn fl_record_words() -> usize
+pub fn fl_record_words() -> usize
     ensures { result ≡ width * record_limit }
 {
     RECORD_WORDS
 }
 
 // How many places a list of kept places has.
-#[unsafe(no_mangle)]
-pub extern "C" fn fl_place_words() -> usize
+pub fn fl_place_words() -> usize
     ensures { result ≡ history_limit }
 {
     HISTORIES
 }
 
 // How many numbers are room for every report of the lines that fall: no log has more did lines.
-#[unsafe(no_mangle)]
-pub extern "C" fn fl_log_lines() -> usize
+pub fn fl_log_lines() -> usize
     ensures { (result ≡ 2978) × ((log : List ℕ) (ps : List Pair) (lost : List ℕ) (room : ℕ) → result ≤ room →
         report log ps lost room ≡ refused 12 → ⊥) }
 {

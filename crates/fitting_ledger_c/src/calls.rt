@@ -1,0 +1,107 @@
+// Calls of an open site on numbers, whose replies have lists: 0, or the number of the refusal. The lists stand in `numbers`, the second
+// behind the first; `answer` has the rest of the reply. A refusal changes neither.
+ghost use Rattle.rules.specs.Calls.{Call};
+ghost use Rattle.site.specs.Model.{received, lent};
+ghost use Rattle.fitting_ledger.specs.Model.{ValidState};
+ghost use Rattle.fitting_ledger.specs.Calls.{PerformsCall};
+
+use call_words::answer::Answer;
+use fitting_ledger::counters::Counters;
+use forms::ReplyNumbers;
+use history::book::BookWords;
+use table::order::Order;
+use table::rows::Rows;
+
+// Finishes an operation that is in progress.
+#[unsafe(no_mangle)]
+pub extern "C" fn fl_finish_parts(
+    counters: &mut Counters,
+    log: &mut [u8],
+    rows: &mut Rows,
+    order: &mut Order,
+    book: &mut BookWords,
+    numbers: &mut ReplyNumbers,
+    answer: &mut Answer,
+    id: u64,
+) -> u64
+    requires { ValidState counters.old (received log.old rows.old order.old book.old) }
+    ensures { PerformsCall counters.old (lent log.old rows.old order.old book.old numbers.old) (Call.Finish id) result counters.new
+        (lent log.new rows.new order.new book.new numbers.new) answer.old answer.new }
+{
+    fitting_ledger::calls::fl_finish_parts(counters, log, rows, order, book, numbers, answer, id)
+}
+
+// Withdraws a future operation.
+#[unsafe(no_mangle)]
+pub extern "C" fn fl_withdraw_parts(
+    counters: &mut Counters,
+    log: &[u8],
+    rows: &Rows,
+    order: &mut Order,
+    book: &mut BookWords,
+    numbers: &mut ReplyNumbers,
+    answer: &mut Answer,
+    id: u64,
+) -> u64
+    requires { ValidState counters.old (received log.now rows.now order.old book.old) }
+    ensures { PerformsCall counters.old (lent log.now rows.now order.old book.old numbers.old) (Call.Withdraw id) result counters.new
+        (lent log.now rows.now order.new book.new numbers.new) answer.old answer.new }
+{
+    fitting_ledger::calls::fl_withdraw_parts(counters, log, rows, order, book, numbers, answer, id)
+}
+
+// Makes the first n operations persistent.
+#[unsafe(no_mangle)]
+pub extern "C" fn fl_persistent_parts(
+    counters: &mut Counters,
+    log: &[u8],
+    rows: &Rows,
+    order: &mut Order,
+    book: &mut BookWords,
+    numbers: &mut ReplyNumbers,
+    answer: &mut Answer,
+    n: u64,
+) -> u64
+    requires { ValidState counters.old (received log.now rows.now order.old book.old) }
+    ensures { PerformsCall counters.old (lent log.now rows.now order.old book.old numbers.old) (Call.Persistent n) result counters.new
+        (lent log.now rows.now order.new book.new numbers.new) answer.old answer.new }
+{
+    fitting_ledger::calls::fl_persistent_parts(counters, log, rows, order, book, numbers, answer, n)
+}
+
+// Makes the first n operations stable.
+#[unsafe(no_mangle)]
+pub extern "C" fn fl_stable_parts(
+    counters: &mut Counters,
+    log: &mut [u8],
+    rows: &Rows,
+    order: &Order,
+    book: &mut BookWords,
+    numbers: &mut ReplyNumbers,
+    answer: &mut Answer,
+    n: u64,
+) -> u64
+    requires { ValidState counters.old (received log.old rows.now order.now book.old) }
+    ensures { PerformsCall counters.old (lent log.old rows.now order.now book.old numbers.old) (Call.Stable n) result counters.new
+        (lent log.new rows.now order.now book.new numbers.new) answer.old answer.new }
+{
+    fitting_ledger::calls::fl_stable_parts(counters, log, rows, order, book, numbers, answer, n)
+}
+
+// Ends restoring.
+#[unsafe(no_mangle)]
+pub extern "C" fn fl_end_parts(
+    counters: &mut Counters,
+    log: &[u8],
+    rows: &Rows,
+    order: &Order,
+    book: &BookWords,
+    numbers: &mut ReplyNumbers,
+    answer: &mut Answer,
+) -> u64
+    requires { ValidState counters.old (received log.now rows.now order.now book.now) }
+    ensures { PerformsCall counters.old (lent log.now rows.now order.now book.now numbers.old) Call.End result counters.new
+        (lent log.now rows.now order.now book.now numbers.new) answer.old answer.new }
+{
+    fitting_ledger::calls::fl_end_parts(counters, log, rows, order, book, numbers, answer)
+}

@@ -1,0 +1,14 @@
+// What C and other languages link of `fitting_ledger`: each export calls the function of its name, with its clauses.
+#![tactic(auto)]
+
+mod adding;
+mod calls;
+mod cards;
+mod finds;
+mod lines;
+mod plain_calls;
+mod polls;
+mod start;
+mod trims;
+mod upgrade;
+mod version;

@@ -1,0 +1,26 @@
+// The poll of a history of the site.
+ghost use Rattle.std.specs.Prelude.{◌≡◌, []};
+ghost use Rattle.site.specs.Model.{received, lent};
+ghost use Rattle.fitting_ledger.specs.Model.{ValidState, state_at};
+ghost use Rattle.fitting_ledger.specs.Polls.{poll_of};
+
+use fitting_ledger::counters::Counters;
+use history::book::BookWords;
+use table::order::Order;
+use table::rows::Rows;
+
+// Polls a history: 1,001 if it is dry, 1,000 if not, or the number of the refusal. Nothing changes.
+#[unsafe(no_mangle)]
+pub extern "C" fn fl_poll_parts(
+    counters: &Counters,
+    log: &[u8],
+    rows: &Rows,
+    order: &Order,
+    book: &BookWords,
+    history: u64,
+) -> u64
+    requires { ValidState counters.now (received log.now rows.now order.now book.now) }
+    ensures { result ≡ poll_of (state_at counters.now (lent log.now rows.now order.now book.now [])) history }
+{
+    fitting_ledger::polls::fl_poll_parts(counters, log, rows, order, book, history)
+}

@@ -1,0 +1,11 @@
+// The changeover of a log that was written before there were stable lines.
+ghost use Rattle.rules.specs.OldLog.{upgrade};
+ghost use Rattle.fitting_ledger.specs.Changeovers.{ChangesOver};
+
+// Gives the older log in the first `kept` bytes its stable line: 0, and `used` is the bytes in use after it; or the number of the refusal.
+#[unsafe(no_mangle)]
+pub extern "C" fn fl_upgrade(log: &mut [u8], kept: usize, used: &mut usize) -> u64
+    ensures { ChangesOver (upgrade log.old kept) log.old result log.new used.old used.new }
+{
+    fitting_ledger::upgrade::fl_upgrade(log, kept, used)
+}

@@ -1,0 +1,11 @@
+// What C and other languages link of `fitting_module`: each export calls the function of its name, with its clauses.
+#![tactic(auto)]
+
+mod adding;
+mod calls;
+mod lines;
+mod plain_calls;
+mod polls;
+mod start;
+mod trims;
+mod version;

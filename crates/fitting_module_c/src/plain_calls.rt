@@ -1,0 +1,87 @@
+// Calls of a slot on numbers, whose replies have no lists: 0, or the number of the refusal.
+ghost use Rattle.std.specs.Prelude.{[], length};
+ghost use Rattle.rules.specs.Calls.{Call};
+ghost use Rattle.site.specs.Model.{received, lent};
+ghost use Rattle.fitting_module.specs.Model.{ValidState};
+ghost use Rattle.fitting_module.specs.Words.{words};
+ghost use Rattle.fitting_module.specs.Calls.{PerformsCall};
+
+use call_words::answer::Answer;
+use fitting_module::lines::{EntryNumbers, TableRows};
+use fitting_module::words::SlotWords;
+use history::book::BookWords;
+
+// Shows a history of a slot.
+#[unsafe(no_mangle)]
+pub extern "C" fn fm_show_parts(
+    first: &mut SlotWords,
+    second: &mut SlotWords,
+    third: &mut SlotWords,
+    fourth: &mut SlotWords,
+    log: &[u8],
+    rows: &TableRows,
+    numbers: &EntryNumbers,
+    book: &BookWords,
+    answer: &mut Answer,
+    slot: usize,
+    history: u64,
+) -> u64
+    requires { ValidState (words first.old second.old third.old fourth.old) slot (received log.now rows.now numbers.now book.now) }
+    ensures { PerformsCall slot (words first.old second.old third.old fourth.old) (lent log.now rows.now numbers.now book.now [])
+        (Call.Show history) result
+        (words first.new second.new third.new fourth.new) (lent log.now rows.now numbers.now book.now []) answer.old answer.new }
+{
+    fitting_module::plain_calls::fm_show_parts(
+        first, second, third, fourth, log, rows, numbers, book, answer, slot, history,
+    )
+}
+
+// A supply cut that leaves the first k bytes of a slot's log, and a restart from them.
+#[unsafe(no_mangle)]
+pub extern "C" fn fm_cut_parts(
+    first: &mut SlotWords,
+    second: &mut SlotWords,
+    third: &mut SlotWords,
+    fourth: &mut SlotWords,
+    log: &[u8],
+    rows: &mut TableRows,
+    numbers: &mut EntryNumbers,
+    book: &mut BookWords,
+    answer: &mut Answer,
+    slot: usize,
+    k: u64,
+) -> u64
+    requires { ValidState (words first.old second.old third.old fourth.old) slot (received log.now rows.old numbers.old book.old) }
+    ensures { PerformsCall slot (words first.old second.old third.old fourth.old) (lent log.now rows.old numbers.old book.old [])
+        (Call.Cut k (length log.now)) result
+        (words first.new second.new third.new fourth.new) (lent log.now rows.new numbers.new book.new []) answer.old answer.new }
+{
+    fitting_module::plain_calls::fm_cut_parts(
+        first, second, third, fourth, log, rows, numbers, book, answer, slot, k,
+    )
+}
+
+// Redoes a did line, given without its end, in a slot.
+#[unsafe(no_mangle)]
+pub extern "C" fn fm_redo_parts(
+    first: &mut SlotWords,
+    second: &mut SlotWords,
+    third: &mut SlotWords,
+    fourth: &mut SlotWords,
+    log: &mut [u8],
+    rows: &mut TableRows,
+    numbers: &mut EntryNumbers,
+    book: &mut BookWords,
+    answer: &mut Answer,
+    slot: usize,
+    line: &[u8],
+) -> u64
+    requires { ValidState (words first.old second.old third.old fourth.old) slot (received log.old rows.old numbers.old book.old) }
+    ensures { PerformsCall slot (words first.old second.old third.old fourth.old) (lent log.old rows.old numbers.old book.old [])
+        (Call.Redo line.now) result
+        (words first.new second.new third.new fourth.new) (lent log.new rows.new numbers.new book.new []) answer.old answer.new }
+{
+    fitting_module::plain_calls::fm_redo_parts(
+        first, second, third, fourth, log, rows, numbers, book, answer, slot, line,
+    )
+}
