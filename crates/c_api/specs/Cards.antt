@@ -1,13 +1,15 @@
 -- What a card gives over raw bytes: "over the last W did lines, how many updates of each rule each history had".
-use Rattle.std.specs.Prelude.{ℕ, ◌+◌, ◌*◌, ◌≡◌, List, [], ◌++◌, length, drop}
+use Rattle.std.specs.Prelude.{ℕ, ◌+◌, ◌*◌, ◌≤◌, ◌≡◌, List, ◌++◌, length, drop, Result, Ok}
 use Rattle.forms.specs.Refusals.{number_of}
+use Rattle.forms.specs.Limits.{window_limit}
+use Rattle.forms.specs.declared.Refusal.{Refusal}
 use Rattle.rules.specs.State.{State, Reply, refused, ok}
 use Rattle.rule_laws.specs.GrowLaws.{Continues}
 use Rattle.rules.specs.Card.{Carded, not_carded, carded, card, card_numbers, last_lines}
 use Rattle.site.specs.declared.Site.{Site}
-use Rattle.site.specs.Model.{lent, view, Valid}
 use Rattle.card.specs.Model.{row_width}
-use Rattle.c_api.specs.declared.cards.Taken.{Taken}
+use Rattle.c_api.specs.Codes.{replied_number}
+use Rattle.c_api.specs.Taken.{UpAs}
 
 -- A refusal's number, or 1,000 more than the lines that count.
 unfoldable pub card_answer : ℕ → State → Carded → ℕ
@@ -32,27 +34,14 @@ CardsAfter w (ok st a) (ok later b) old r new = Cards w later old r new
 
 -- ### Sites that are taken up
 
--- The site is valid with the log, and is this state.
-pub record UpAs (s : Site) (log : List ℕ) (st : State) : Type 0 where
-  pub rows : List ℕ
-  pub order : List ℕ
-  pub book : List ℕ
-  pub valid : Valid s (lent log rows order book [])
-  pub state : view s (lent log rows order book []) ≡ st
-
--- .. some state
-pub record SomeUp (s : Site) (log : List ℕ) : Type 0 where
-  pub after : State
-  pub up : UpAs s log after
-
--- What a restart gives: its refusal, or a site in the state that it says.
-abbrev pub TakesUp : Reply → List ℕ → Taken → Type 0
-TakesUp (refused q) log r = r ≡ Taken.Refused q
-TakesUp (ok st a) log r = (s : Site) × (r ≡ Taken.Up s) × UpAs s log st
+-- The card of a state's last lines, or why there is none: at most as many lines count as a window may have.
+pub record CardsSaid (w : ℕ) (st : State) (old : List ℕ) (r : Result ℕ Refusal) (new : List ℕ) : Type 0 where
+  pub cards : Cards w st old (replied_number r) new
+  pub few : (n : ℕ) → r ≡ Ok n → n ≤ window_limit
 
 -- the card of a site's state
-abbrev pub CardsOf : Site → List ℕ → ℕ → List ℕ → ℕ → List ℕ → Type 0
-CardsOf s log w old r new = (st : State) → UpAs s log st → Cards w st old r new
+abbrev pub CardsOf : Site → List ℕ → ℕ → List ℕ → Result ℕ Refusal → List ℕ → Type 0
+CardsOf s log w old r new = (st : State) → UpAs s log st → CardsSaid w st old r new
 
 -- Two sites of one buffer, of which the second's log goes on where the first's ends.
 pub record GoesOn (first s : Site) (log : List ℕ) (before st : State) : Type 0 where
@@ -65,5 +54,10 @@ pub record CanGoOn (first s : Site) (log : List ℕ) : Type 0 where
   pub after : State
   pub both : GoesOn first s log before after
 
-abbrev pub CardsOn : Site → Site → List ℕ → ℕ → List ℕ → ℕ → List ℕ → Type 0
-CardsOn first s log w old r new = (before st : State) → GoesOn first s log before st → Cards w st old r new
+abbrev pub CardsOn : Site → Site → List ℕ → ℕ → List ℕ → Result ℕ Refusal → List ℕ → Type 0
+CardsOn first s log w old r new = (before st : State) → GoesOn first s log before st → CardsSaid w st old r new
+
+-- .. that the second of two restarts gives
+pub record CardsTaken (w : ℕ) (first second : Reply) (old : List ℕ) (r : Result ℕ Refusal) (new : List ℕ) : Type 0 where
+  pub cards : CardsAfter w first second old (replied_number r) new
+  pub few : (n : ℕ) → r ≡ Ok n → n ≤ window_limit

@@ -2,15 +2,9 @@
 use Rattle.std.specs.Prelude.{ℕ, ◌+◌, ◌≡◌, List}
 use Rattle.forms.specs.Refusals.{number_of}
 use Rattle.rules.specs.OldLog.{Upgrade, not_upgraded, upgraded}
-use Rattle.older_log.specs.declared.Changeover.{Changeover}
-use Rattle.older_log.specs.declared.Changeover.TheVariants.{Used, Refused}
 use Rattle.older_log.specs.Model.{bytes_after}
 
 -- A refusal's number, or 1,000 more than the bytes in use.
-unfoldable pub changeover_number : Changeover → ℕ
-changeover_number (Used n) = n + 1000
-changeover_number (Refused r) = number_of r
-
 unfoldable pub upgrade_number : Upgrade → ℕ
 upgrade_number (not_upgraded r) = number_of r
 upgrade_number (upgraded bytes used) = used + 1000

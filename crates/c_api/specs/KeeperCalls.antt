@@ -1,26 +1,24 @@
 -- What the calls of a keeper give over raw bytes, by the specification's keeper.
-use Rattle.std.specs.Prelude.{ℕ, ◌+◌, ◌≡◌, cond, ◌&&◌, List, ◌++◌, eqb, length, drop}
+use Rattle.std.specs.Prelude.{ℕ, ◌+◌, ◌≡◌, cond, ◌&&◌, List, ◌++◌, eqb, length, drop, Result, Ok, Err}
 use Rattle.std.proofs.Math.Option.{Option, none, some}
 use Rattle.forms.specs.Refusals.{number_of}
 use Rattle.forms.specs.Limits.{history_limit}
 use Rattle.forms.specs.declared.Refusal.{Refusal}
 use Rattle.rules.specs.Keeper as book
 use Rattle.rules.specs.Keeper.{KeeperReply, kept_bytes, handed_out, hand_out_refusal}
-use Rattle.history.specs.declared.Verdict.{Verdict}
-use Rattle.history.specs.declared.Verdict.TheVariants.{Passes, Refused}
-use Rattle.keeper.specs.declared.HandOut.{HandOut}
-use Rattle.keeper.specs.declared.HandOut.TheVariants.{Handed, Withheld}
+use Rattle.keeper.specs.declared.Keeper.{Keeper}
 use Rattle.keeper.specs.Model.{keeper_view, resumable, hand_bytes}
 
 -- The specification's keeper that the first bytes of a buffer are, where they are one.
 abbrev pub keeper_in : ℕ → List ℕ → book.Keeper
 keeper_in used bytes = keeper_view (record { used = used }) bytes
 
--- A refusal's number, or 1,000 more than the bytes in use.
-unfoldable pub verdict_number : Verdict → ℕ → ℕ
-verdict_number Passes used = used + 1000
-verdict_number (Refused r) used = number_of r
+-- the bytes in use after a call, or its refusal
+abbrev pub used_in : Result Keeper Refusal → Result ℕ Refusal
+used_in (Ok k) = Ok k.used
+used_in (Err q) = Err q
 
+-- A refusal's number, or 1,000 more than the bytes in use.
 unfoldable pub reply_number : KeeperReply → ℕ
 reply_number (book.refused r) = number_of r
 reply_number (book.ok k) = length (kept_bytes k) + 1000
@@ -36,10 +34,6 @@ pub record Replies (used : ℕ) (old : List ℕ) (reply : KeeperReply) (n : ℕ)
   pub bytes : new ≡ cond (resumable used old) (reply_bytes reply old) old
 
 -- A refusal's number, or 1,000 more than the bytes handed out.
-unfoldable pub hand_out_number : HandOut → ℕ
-hand_out_number (Handed n) = n + 1000
-hand_out_number (Withheld r) = number_of r
-
 unfoldable pub handed_number : Option Refusal → List ℕ → ℕ
 handed_number (some r) bytes = number_of r
 handed_number none bytes = length bytes + 1000

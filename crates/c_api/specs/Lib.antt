@@ -1,7 +1,7 @@
 pub mod Codes
+pub mod Taken
 pub mod Play
 pub mod RestartLaws
-pub mod ArrayLaws
 pub mod KeeperCalls
 pub mod KeeperCallLaws
 pub mod Rounds

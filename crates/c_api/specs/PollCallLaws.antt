@@ -1,5 +1,5 @@
 -- Laws of polls at the end of a session.
-use Rattle.std.specs.Prelude.{ℕ, suc, ◌+◌, ◌≤◌, ◌<◌, ◌≡◌, refl, Bool, true, false, cond, List, [], ◌∷◌, ◌++◌, map, length, get_or, set, take, drop}
+use Rattle.std.specs.Prelude.{ℕ, suc, ◌+◌, ◌≤◌, ◌<◌, ◌≡◌, refl, Bool, true, false, cond, List, [], ◌∷◌, ◌++◌, map, length, get_or, set, take, drop, Option as Held, Some, None}
 use Rattle.std.proofs.Common.{arith, add-one, sym, ap, ap₂, subst, ◌∙◌, length-set, take-suc, take-suc-set, take_all, drop-set-lt, drop-cons}
 use Rattle.std.proofs.lemmas.List.{map-append}
 use Rattle.std.proofs.Math.Option.{Option, none}
@@ -9,9 +9,10 @@ use Rattle.rules.specs.Log.{lines_of}
 use Rattle.rules.specs.State.{State}
 use Rattle.rules.specs.Session.{after_lines}
 use Rattle.rules.specs.Poll.{Polled, poll}
+use Rattle.site.specs.declared.Site.{Site}
 use Rattle.site.specs.Model.{Lent, view}
 use Rattle.session.specs.declared.Session.{Session}
-use Rattle.session.specs.Model.{view_if, session_view}
+use Rattle.session.specs.Model.{view_of, session_view}
 use Rattle.stream.specs.declared.SessionRun.{SessionRun}
 use Rattle.stream.specs.Model.{RunsIf, ran_of, RunsSession}
 use Rattle.c_api.specs.Play.{whole_code}
@@ -85,15 +86,15 @@ mapped_all f i old new m h =
 -- ### One poll
 
 -- of an open site
-pub poll-opened : (s : Session) (m : Lent) (h n : ℕ) (p : Polled) → s.opened ≡ true → n ≡ polled_number p → p ≡ poll h (view s.site m) →
+pub poll-opened : (s : Session) (x : Site) (m : Lent) (h n : ℕ) (p : Polled) → s.site ≡ Some x → n ≡ polled_number p → p ≡ poll h (view x m) →
     n ≡ session_poll (session_view s m) h
 unfolding session_poll
-poll-opened s m h n p o e f = e ∙ ap polled_number f ∙ sym (ap (λ (b : Bool). session_poll (view_if b s.site m) h) o)
+poll-opened s x m h n p o e f = e ∙ ap polled_number f ∙ sym (ap (λ (y : Held Site). session_poll (view_of y m) h) o)
 
 -- "before site"
-pub poll-before : (s : Session) (m : Lent) (h : ℕ) → s.opened ≡ false → 14 ≡ session_poll (session_view s m) h
+pub poll-before : (s : Session) (m : Lent) (h : ℕ) → s.site ≡ None → 14 ≡ session_poll (session_view s m) h
 unfolding session_poll number_of
-poll-before s m h o = sym (ap (λ (b : Bool). session_poll (view_if b s.site m) h) o)
+poll-before s m h o = sym (ap (λ (y : Held Site). session_poll (view_of y m) h) o)
 
 -- ### A session with its polls
 

@@ -1,5 +1,5 @@
 -- A whole session for callers in other languages, and polls of its site's histories at its end.
-use Rattle.std.specs.Prelude.{ℕ, ◌≡◌, true, cond, List, map, length}
+use Rattle.std.specs.Prelude.{ℕ, ◌≡◌, cond, List, map, length, Some}
 use Rattle.std.proofs.Math.Option.{Option, none, some}
 use Rattle.forms.specs.Refusals.{number_of}
 use Rattle.forms.specs.declared.Refusal.TheVariants.{OutOfTurn}
@@ -7,6 +7,7 @@ use Rattle.rules.specs.Log.{lines_of}
 use Rattle.rules.specs.State.{State}
 use Rattle.rules.specs.Session.{after_lines}
 use Rattle.rules.specs.Poll.{poll}
+use Rattle.site.specs.declared.Site.{Site}
 use Rattle.site.specs.Model.{lent}
 use Rattle.site.specs.Polls.{ValidWith}
 use Rattle.session.specs.declared.Session.{Session}
@@ -21,7 +22,7 @@ session_poll (some st) h = polled_number (poll h st)
 
 -- A session whose site, once it is open, is valid with these numbers of its histories.
 abbrev pub OpenWith : Session → List ℕ → Type 0
-OpenWith s book = s.opened ≡ true → ValidWith s.site book
+OpenWith s book = (x : Site) → s.site ≡ Some x → ValidWith x book
 
 -- What holds of the specification's session, whatever is lent to the code's session beside the numbers of the histories: only they
 -- are read.

@@ -1,11 +1,13 @@
 -- What the calls about records give over raw numbers, by the specification's records.
-use Rattle.std.specs.Prelude.{ℕ, ◌+◌, ◌*◌, ◌≡◌, Bool, true, false, cond, ◌&&◌, List, leb, length, drop}
+use Rattle.std.specs.Prelude.{ℕ, ◌+◌, ◌*◌, ◌≡◌, Bool, true, false, cond, ◌&&◌, List, leb, length, drop, Result, Ok, Err}
 use Rattle.forms.specs.Refusals.{number_of}
+use Rattle.forms.specs.declared.Refusal.{Refusal}
 use Rattle.rules.specs.Records as book
 use Rattle.forms.specs.Limits.{record_limit}
 use Rattle.rules.specs.Records.{RecordReply}
+use Rattle.records.specs.declared.Records.{Records}
 use Rattle.records.specs.declared.Answer.{Answer}
-use Rattle.records.specs.declared.Answer.TheVariants.{Refused, Done, Persistent, NotPersistent}
+use Rattle.records.specs.declared.Answer.TheVariants.{Done, Persistent, NotPersistent}
 use Rattle.records.specs.Model.{width, records_view}
 
 -- The specification's records that the first numbers are.
@@ -16,13 +18,23 @@ records_in count ws = records_view (record { count = count }) ws
 unfoldable pub are_records : ℕ → List ℕ → Bool
 are_records count ws = leb count record_limit && leb (width * record_limit) (length ws)
 
--- A refusal's number; 1,000 more than the records after the call; 1,001 for "persistent", 1,000 for "not persistent".
+-- 1,000 more than the records after the call; 1,001 for "persistent", 1,000 for "not persistent".
 unfoldable pub answer_number : Answer → ℕ → ℕ
-answer_number (Refused r) count = number_of r
 answer_number Done count = count + 1000
 answer_number Persistent count = 1001
 answer_number NotPersistent count = 1000
 
+-- .. or a refusal's number
+unfoldable pub answered_number : Result Answer Refusal → ℕ → ℕ
+answered_number (Ok a) count = answer_number a count
+answered_number (Err r) count = number_of r
+
+-- .. of the records after a call and its answer
+abbrev pub result_number : Result (Records × Answer) Refusal → ℕ
+result_number (Ok p) = answer_number p.1 p.0.count
+result_number (Err r) = number_of r
+
+-- .. of the specification's reply
 unfoldable pub records_number : RecordReply → ℕ
 records_number (book.refused r) = number_of r
 records_number (book.ok rs) = length rs + 1000

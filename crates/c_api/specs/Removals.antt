@@ -1,16 +1,15 @@
 -- What a report of the lines that fall gives over raw numbers.
-use Rattle.std.specs.Prelude.{ℕ, ◌+◌, ◌≡◌, List, length}
+use Rattle.std.specs.Prelude.{ℕ, ◌+◌, ◌≡◌, List, length, Option, Some, None, Result, Ok, Err}
 use Rattle.forms.specs.Refusals.{number_of}
+use Rattle.forms.specs.declared.Refusal.{Refusal}
 use Rattle.recovery.specs.Removal.{Report, refused, named}
 use Rattle.removal.specs.Model.{after}
-use Rattle.removal.specs.declared.Removals.{Removals}
-use Rattle.removal.specs.declared.Removals.TheVariants.{Named, Refused, NotAmong}
 
 -- A refusal's number, or 1,000 more than how many log numbers are named.
-unfoldable pub removals_number : Removals → ℕ
-removals_number (Named k) = k + 1000
-removals_number (Refused q) = number_of q
-removals_number NotAmong = 16
+unfoldable pub removals_number : Result (Option ℕ) Refusal → ℕ
+removals_number (Ok (Some k)) = k + 1000
+removals_number (Ok None) = 16
+removals_number (Err q) = number_of q
 
 -- .. of the specification's report
 unfoldable pub report_number : Report → ℕ

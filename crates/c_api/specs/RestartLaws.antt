@@ -1,5 +1,5 @@
 -- The reply of a restart, written.
-use Rattle.std.specs.Prelude.{ℕ, ◌≡◌, List, [], take}
+use Rattle.std.specs.Prelude.{ℕ, ◌≡◌, List, [], take, Option as Place}
 use Rattle.std.proofs.Common.{sym, ap, ap₂, subst, ◌∙◌}
 use Rattle.std.proofs.Math.Option.{none}
 use Rattle.std.proofs.Math.Seq.{take-nil, drop-nil}
@@ -12,7 +12,6 @@ use Rattle.rules.specs.Session.{turn_of}
 use Rattle.site.specs.declared.Site.{Site}
 use Rattle.site.specs.declared.CallResult.{CallResult}
 use Rattle.site.specs.Model.{Lent, lent, Says, Opens}
-use Rattle.forms.specs.declared.writer.Written.{Written}
 use Rattle.forms.specs.Write.{Writes, with_end}
 use Rattle.c_api.specs.Codes.{code_of, PutsText, reply_text}
 
@@ -30,7 +29,7 @@ unlisted r = ap₂ (λ (xs ys : List ℕ). outcome_with r.form xs ys) (take-nil 
     (ap (λ (l : List ℕ). take r.second l) (drop-nil r.first) ∙ take-nil r.second)
 
 -- What is written of it is the specification's reply.
-pub puts_reply : (s : Site) (old : Lent) (reply : Reply) (r : CallResult) (log rows order book out written : List ℕ) (w : Written) (n : ℕ) →
+pub puts_reply : (s : Site) (old : Lent) (reply : Reply) (r : CallResult) (log rows order book out written : List ℕ) (w : Place ℕ) (n : ℕ) →
     Opens s old reply r (lent log rows order book []) →
     Writes out 0 (with_end (outcome_text (outcome_with r.reply.form [] []))) w written →
     n ≡ code_of w →

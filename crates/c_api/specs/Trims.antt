@@ -3,16 +3,9 @@ use Rattle.std.specs.Prelude.{ℕ, ◌+◌, ◌≡◌, List}
 use Rattle.forms.specs.Refusals.{number_of}
 use Rattle.rules.specs.State.{Reply, refused, ok}
 use Rattle.rules.specs.Trim.{Trimmed, not_trimmed, trimmed, trim}
-use Rattle.trim.specs.declared.Copied.{Copied}
-use Rattle.trim.specs.declared.Copied.TheVariants.{Used, Refused}
 use Rattle.trim.specs.Model.{fresh_after}
 
 -- A refusal's number, or 1,000 more than the bytes used.
-unfoldable pub copied_number : Copied → ℕ
-copied_number (Used n) = n + 1000
-copied_number (Refused q) = number_of q
-
--- .. of the specification's trim
 unfoldable pub trim_number : Trimmed → ℕ
 trim_number (not_trimmed q) = number_of q
 trim_number (trimmed bytes used) = used + 1000

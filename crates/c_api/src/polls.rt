@@ -15,23 +15,20 @@ fn session_poll(session: Session, book: &BookWords, h: u64) -> u64
     requires { OpenWith session book.now }
     ensures { WithBook session book.now (λ st. result ≡ session_poll st h) }
 {
-    let site = session.site;
-    if session.opened {
-        return poll_number(site.poll(book, h));
+    match session.site {
+        Some(site) => poll_number(site.poll(book, h)),
+        None => OUT_OF_TURN,
     }
-    OUT_OF_TURN
 }
 
-// Each number becomes what the poll of the history with this number gives.
+// Each number becomes what the poll of the history with this number gives. By index, so that `polled_by_place` shows number and place
+// apart.
 fn poll_each(session: Session, book: &BookWords, histories: &mut [u64])
     requires { OpenWith session book.now }
     ensures { WithBook session book.now (λ st. histories.new ≡ map (session_poll st) histories.old) }
 {
-    let mut i: usize = 0;
-    while i < histories.len() {
-        let h = histories[i];
-        histories[i] = session_poll(session, book, h);
-        i += 1;
+    for i in 0..histories.len() {
+        histories[i] = session_poll(session, book, histories[i]);
     }
 }
 
@@ -47,10 +44,9 @@ pub fn session_polls(input: &[u8], log: &mut [u8], out: &mut [u8], histories: &m
     let r = run_session(
         input, log, &mut rows, &mut order, &mut book, &mut lists, out,
     );
-    let session = r.session;
-    if r.whole {
-        poll_each(session, &book, histories);
-        return r.written;
+    if !r.whole {
+        return usize::MAX;
     }
-    18446744073709551615
+    poll_each(r.session, &book, histories);
+    r.written
 }

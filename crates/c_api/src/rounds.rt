@@ -1,4 +1,5 @@
-// Calls of a site without text, one round after the other: for measuring what a call costs.
+// Calls of a site without text, one round after the other: for measuring what a call costs. Site and arrays are handed on one by one, as
+// the site's calls take them.
 ghost use Rattle.std.specs.Prelude.{◌≡◌, [], ◌∷◌, ◌<◌, length};
 ghost use Rattle.rules.specs.Calls.{open_site};
 ghost use Rattle.site.specs.Model.{received, Valid, lent};
@@ -43,8 +44,7 @@ fn one_operation(
 {
     let asked = asked_inc(id % 4, id / 4 + 1);
     let a = site.add(log, rows, order, book, lists, id, asked);
-    let added = a.site;
-    let f = added.finish(log, rows, order, book, lists, id);
+    let f = a.site.finish(log, rows, order, book, lists, id);
     f.site
 }
 
@@ -63,8 +63,7 @@ fn mark(
         (lent log.new rows.now order.new book.new lists.new) }
 {
     let p = site.persistent(log, rows, order, book, lists, LogNumber(n));
-    let kept = p.site;
-    let s = kept.stable(log, rows, order, book, lists, LogNumber(n));
+    let s = p.site.stable(log, rows, order, book, lists, LogNumber(n));
     s.site
 }
 
@@ -103,10 +102,8 @@ pub fn site_add_and_finish(log: &mut [u8], n: u64) -> usize
         return 0;
     }
     let mut lists = [0u64; Site::UPDATES + Site::LIVE];
-    let mut id: u64 = 0;
-    while id < n {
+    for id in 0..n {
         site = round(site, log, &mut rows, &mut order, &mut book, &mut lists, id);
-        id += 1;
     }
     site.used
 }

@@ -1,4 +1,5 @@
-// Calls of a slot of a module without text, one round after the other: for measuring what they cost beside those of a site (rounds.rt).
+// Calls of a slot of a module without text, one round after the other: for measuring what they cost beside those of a site (rounds.rt). A
+// trait over both would say again what each call of a site and of a slot is lent and promises, and call the same calls.
 ghost use Rattle.std.specs.Prelude.{[], ◌<◌, length};
 ghost use Rattle.compact.specs.Module.{Move, reply_of, made};
 ghost use Rattle.site.specs.Model.{lent, received};
@@ -28,10 +29,8 @@ fn slot_operation(
         (lent log.new rows.new numbers.new book.new lists.new) }
 {
     let asked = asked_inc(id % 4, id / 4 + 1);
-    let mut w = m;
-    let a = w.add(slot, log, rows, numbers, book, lists, id, asked);
-    w = a.after;
-    let f = w.finish(slot, log, rows, numbers, book, lists, id);
+    let a = m.add(slot, log, rows, numbers, book, lists, id, asked);
+    let f = a.after.finish(slot, log, rows, numbers, book, lists, id);
     f.after
 }
 
@@ -51,8 +50,9 @@ fn slot_mark(
         (lent log.new rows.now numbers.new book.new lists.new) }
 {
     let p = m.persistent(slot, log, rows, numbers, book, lists, LogNumber(n));
-    let kept = p.after;
-    let s = kept.stable(slot, log, rows, numbers, book, lists, LogNumber(n));
+    let s = p
+        .after
+        .stable(slot, log, rows, numbers, book, lists, LogNumber(n));
     s.after
 }
 
@@ -94,14 +94,10 @@ fn slot_serve(
 {
     let mut m = first;
     let mut lists = [0u64; 68];
-    let mut id: u64 = 0;
-    while id < n {
+    for id in 0..n {
         m = slot_round(m, slot, log, rows, numbers, book, &mut lists, id);
-        id += 1;
     }
-    let own = m.slots[slot];
-    let site = own.site;
-    site.used
+    m.slots[slot].site.used
 }
 
 // Opens a site of four histories in a slot of a module, adds and finishes the operations with the ids below n there, and gives the bytes of
@@ -113,14 +109,9 @@ pub fn slot_add_and_finish(log: &mut [u8], slot: usize, n: u64) -> usize
     let mut numbers = [0u8; 256];
     let mut book = [0u64; Site::HISTORIES * WIDTH];
     let empty = Module::new(&mut numbers);
-    let c = empty.open(slot, log, &mut book, 4);
-    let m = c.after;
-    if slot < Module::SLOTS {
-        let own = m.slots[slot];
-        if own.opened {
-            return slot_serve(m, slot, log, &mut rows, &mut numbers, &mut book, n);
-        }
-        return 0;
+    let m = empty.open(slot, log, &mut book, 4).after;
+    if slot < Module::SLOTS && m.slots[slot].opened {
+        return slot_serve(m, slot, log, &mut rows, &mut numbers, &mut book, n);
     }
     0
 }

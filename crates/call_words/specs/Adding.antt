@@ -1,7 +1,7 @@
 -- The updates of an add, in numbers.
 use Rattle.std.specs.Prelude.{ℕ, Bool, ◌&&◌, List, [], ◌∷◌, leb, get_or}
 use Rattle.forms.specs.declared.Asked.{Asked}
-use Rattle.forms.specs.declared.AskedHeld.{AskedHeld}
+use Rattle.forms.specs.Held.{AskedHeld}
 use Rattle.table.specs.Rows.{rule_named}
 
 -- An update of its four numbers: rule (0 inc, 1 set, 2 not, 3 unk), history, version, operand.

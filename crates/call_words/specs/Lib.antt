@@ -2,6 +2,6 @@ pub mod Answers
 pub mod AnswerLaws
 pub mod Counters
 pub mod Adding
-pub mod AddingLaws
+pub mod Said
 pub mod Trims
 pub mod Used

@@ -1,31 +1,21 @@
 -- What a trim gives its owner: "copies the log into a fresh lent buffer and replies the bytes used".
-use Rattle.std.specs.Prelude.{ℕ, ◌≡◌, refl, List}
+use Rattle.std.specs.Prelude.{ℕ, ◌≡◌, refl, List, Result}
 use Rattle.std.proofs.Common.{ap, ◌∙◌}
 use Rattle.std.proofs.Math.Option.{Option, none, some}
 use Rattle.forms.specs.Refusals.{number_of}
+use Rattle.forms.specs.declared.Refusal.{Refusal}
 use Rattle.forms.specs.declared.Refusal.TheVariants.{OutOfTurn}
 use Rattle.rules.specs.State.{State}
 use Rattle.rules.specs.Trim.{Trimmed, not_trimmed, trimmed, trim}
-use Rattle.trim.specs.declared.Copied.{Copied}
-use Rattle.trim.specs.declared.Copied.TheVariants.{Used, Refused}
 use Rattle.trim.specs.Model.{reply_of, fresh_after, Copies}
+use Rattle.call_words.specs.Said.{said_number, said_value}
 
 -- 0, or a refusal's number
-unfoldable pub copied_number : Copied → ℕ
-copied_number (Used n) = 0
-copied_number (Refused q) = number_of q
-
--- .. of the specification's trim
 unfoldable pub trim_number : Trimmed → ℕ
 trim_number (not_trimmed q) = number_of q
 trim_number (trimmed bytes used) = 0
 
 -- the bytes used, which a refusal leaves unsaid
-unfoldable pub copied_used : Copied → ℕ → ℕ
-copied_used (Used n) before = n
-copied_used (Refused q) before = before
-
--- .. of the specification's trim
 unfoldable pub trim_used : Trimmed → ℕ → ℕ
 trim_used (not_trimmed q) before = before
 trim_used (trimmed bytes used) before = used
@@ -43,20 +33,20 @@ pub record Trims (t : Trimmed) (old : List ℕ) (r : ℕ) (new : List ℕ) (befo
   pub used : after ≡ trim_used t before
 
 -- The number and the bytes used of a copy are those of the specification's trim.
-pub trims : (t : Trimmed) (old : List ℕ) (c : Copied) (new : List ℕ) (r before after : ℕ) → Copies t old c new → r ≡ copied_number c
-    → after ≡ copied_used c before → Trims t old r new before after
-unfolding copied_number trim_number copied_used trim_used
+pub trims : (t : Trimmed) (old : List ℕ) (c : Result ℕ Refusal) (new : List ℕ) (r before after : ℕ) → Copies t old c new → r ≡ said_number c
+    → after ≡ said_value c before → Trims t old r new before after
+unfolding said_number trim_number said_value trim_used
 trims t old c new r before after h e f =
     record {
-      answer = e ∙ ap copied_number h.reply ∙ number t;
+      answer = e ∙ ap said_number h.reply ∙ number t;
       bytes = h.bytes;
-      used = f ∙ ap (λ (x : Copied). copied_used x before) h.reply ∙ used t;
+      used = f ∙ ap (λ (x : Result ℕ Refusal). said_value x before) h.reply ∙ used t;
     }
   where
-    number : (v : Trimmed) → copied_number (reply_of v) ≡ trim_number v
+    number : (v : Trimmed) → said_number (reply_of v) ≡ trim_number v
     number (not_trimmed q) = refl
     number (trimmed bytes n) = refl
 
-    used : (v : Trimmed) → copied_used (reply_of v) before ≡ trim_used v before
+    used : (v : Trimmed) → said_value (reply_of v) before ≡ trim_used v before
     used (not_trimmed q) = refl
     used (trimmed bytes n) = refl

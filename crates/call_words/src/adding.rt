@@ -1,33 +1,20 @@
 // The updates of an add in numbers: four for each.
 ghost use Rattle.std.specs.Prelude.{◌≡◌};
-ghost use Rattle.table.specs.Rows.{rule_named};
 ghost use Rattle.call_words.specs.Adding.{asked_of, held_in, rules_known};
 
 use forms::limits::UPDATES;
-use forms::{Asked, AskedHeld, Rule, Version};
+use forms::{Asked, AskedHeld, Version};
+use table::rows::rule_named;
 
 // Room for as many updates as an operation may have: of each its rule (0 inc, 1 set, 2 not, 3 unk), history, version and operand.
 pub type Updates = [u64; UPDATES * 4];
-
-// The rule of a number.
-fn rule_of(n: u64) -> Rule
-    ensures { result ≡ rule_named n }
-{
-    match n {
-        0 => Rule::Inc,
-        1 => Rule::Set,
-        2 => Rule::Not,
-        _ => Rule::Unk,
-    }
-}
 
 // An update of its four numbers.
 fn asked_of(rule: u64, history: u64, version: u64, operand: u64) -> Asked
     ensures { result ≡ asked_of rule history version operand }
 {
-    let named = rule_of(rule);
     Asked {
-        rule: named,
+        rule: rule_named(rule),
         history,
         version: Version(version),
         operand,
@@ -35,6 +22,7 @@ fn asked_of(rule: u64, history: u64, version: u64, operand: u64) -> Asked
 }
 
 // The updates that numbers are.
+#[tactic(auto, unfolding(crate::specs::Adding::held_in))]
 pub fn held_in(words: &Updates, count: usize) -> AskedHeld
     ensures { result ≡ held_in count words.now }
 {
@@ -49,15 +37,9 @@ pub fn held_in(words: &Updates, count: usize) -> AskedHeld
 }
 
 // Whether the four rules' numbers are those of rules.
+#[tactic(auto, unfolding(crate::specs::Adding::rules_known))]
 pub fn rules_known(words: &Updates) -> bool
     ensures { result ≡ rules_known words.now }
 {
-    if words[0] <= 3 {
-        if words[4] <= 3 {
-            if words[8] <= 3 {
-                return words[12] <= 3;
-            }
-        }
-    }
-    false
+    words[0] <= 3 && words[4] <= 3 && words[8] <= 3 && words[12] <= 3
 }

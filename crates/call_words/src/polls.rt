@@ -12,6 +12,7 @@ pub const BUSY: u64 = 1000;
 pub const DRY: u64 = 1001;
 
 // The number for what a poll says.
+#[tactic(auto, unfolding(site::specs::Polls::polled_of, session::specs::Polls::polled_number, forms::specs::Refusals::number_of))]
 pub fn poll_number(p: PollAnswer) -> u64
     ensures { result ≡ polled_number (polled_of p) }
 {

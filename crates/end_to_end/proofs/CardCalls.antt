@@ -1,10 +1,11 @@
 -- The last W lines on one card (02, (j)): "after every call and cut the card equals one counted afresh from the log then held", of the
 -- code's site and the code's card, by their contracts alone.
-use Rattle.std.specs.Prelude.{◌≡◌, refl, false, List, [], ◌∷◌, ◌++◌, ℕ, ◌*◌, drop}
+use Rattle.std.specs.Prelude.{◌≡◌, refl, false, List, [], ◌∷◌, ◌++◌, ℕ, ◌*◌, drop, Result, Ok, Err}
 use Rattle.std.proofs.Common.{sym, ap, ◌∙◌, subst, append-nil, append_assoc, arith}
 use mathlib.Core.List.Memᴰ.{head as here}
 use mathlib.Core.List.Memᴰ.{tail as there}
 use mathlib.Core.List.{Memᴰ as Mem}
+use Rattle.forms.specs.declared.Refusal.{Refusal}
 use Rattle.forms.specs.Forms.{Line}
 use Rattle.rules.specs.State.{State, settle, lines_in}
 use Rattle.rules.specs.Calls.{Call, step}
@@ -16,7 +17,6 @@ use Rattle.rules.specs.Card.{Carded, not_carded, carded, card, takes_back}
 use Rattle.recovery.proofs.Recovery.{run-append}
 use Rattle.site.specs.Representation.{Sound}
 use Rattle.card.specs.declared.Card.{Card}
-use Rattle.card.specs.declared.Made.{Made}
 use Rattle.card.specs.Model.{row_width, LogOf, IsCard, MadeAs, CountsAfresh}
 use Rattle.end_to_end.specs.SiteCalls.{Memory, state_in, ValidIn, Alone, log_in}
 use Rattle.end_to_end.proofs.SiteCallsLaws.{log_bytes_lem, good_in, calls-run, starts_at}
@@ -48,12 +48,12 @@ unfolding Sound
 log_of_lem x v = record { good = good_in x v; text = log_bytes_lem x v; count = refl; head_is = v.sound.carries.head }
 
 -- A card that was made is the state's.
-made-card : (q : Carded) (w : ℕ) (st : State) (old : List ℕ) (made : Made) (new : List ℕ) → MadeAs q w st old made new → (c : Card) →
-    made ≡ Made.Counted c → (past : List ℕ) × IsCard w st c new past
+made-card : (q : Carded) (w : ℕ) (st : State) (old : List ℕ) (made : Result Card Refusal) (new : List ℕ) → MadeAs q w st old made new → (c : Card) →
+    made ≡ Ok c → (past : List ℕ) × IsCard w st c new past
 made-card (not_carded r) w st old made new (e, same) c is =
-    let clash : Made.Refused r ≡ Made.Counted c = sym e ∙ is in let z : ◌≡◌ {A = ℕ} 0 1 = cc in absurd (omega arith)
+    let clash : Err r ≡ Ok c = sym e ∙ is in let z : ◌≡◌ {A = ℕ} 0 1 = cc in absurd (omega arith)
 made-card (carded rows) w st old made new (d, e, K) c is =
-    let both : Made.Counted d ≡ Made.Counted c = sym e ∙ is in
+    let both : Ok d ≡ Ok c = sym e ∙ is in
     let same : d ≡ c = cc in
     (drop (row_width * st.histories) old, subst (λ (r : Card). IsCard w st r new (drop (row_width * st.histories) old)) same K)
 
@@ -61,8 +61,8 @@ card_is : (w : ℕ) (x : Memory) (c : Card) (counts past : List ℕ) → ValidIn
     CardIs w x (record { card = c; counts = counts }) (state_in x)
 card_is w x c counts past v one K = record { valid = v; alone = one; state = refl; past = past; numbers = K.numbers; goes_on = K }
 
-afresh_is : (w : ℕ) (x : Memory) (old : List ℕ) (made : Made) (new : List ℕ) → ValidIn x → Alone x →
-    CountsAfresh w (log_in x) x.site.count x.site.head old made new → (c : Card) → made ≡ Made.Counted c →
+afresh_is : (w : ℕ) (x : Memory) (old : List ℕ) (made : Result Card Refusal) (new : List ℕ) → ValidIn x → Alone x →
+    CountsAfresh w (log_in x) x.site.count x.site.head old made new → (c : Card) → made ≡ Ok c →
     CardIs w x (record { card = c; counts = new }) (state_in x)
 afresh_is w x old made new v one A c is =
     let K = made-card (card w (state_in x)) w (state_in x) old made new (A (state_in x) (log_of_lem x v)) c is in

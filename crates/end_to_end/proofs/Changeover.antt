@@ -1,8 +1,9 @@
 -- "At the changeover" (02, (g)): an older log, changed over by the code's `upgrade` and then restarted by its `Site::restart`, starts a
 -- list of calls of the recovery claim (`SiteCallsClaim`), with its own did lines, all of them persistent and stable, and nothing live.
 use Rattle.std.proofs.Common.{arith, sym, ap, ap₂, ◌∙◌, subst}
-use Rattle.std.specs.Prelude.{◌≡◌, refl, List, ◌++◌, map, ℕ, ◌^◌, ◌<◌, length, take, drop}
+use Rattle.std.specs.Prelude.{◌≡◌, refl, List, ◌++◌, map, ℕ, ◌^◌, ◌<◌, length, take, drop, Result, Ok, Err}
 use Rattle.std.proofs.Math.Option.{Option, none}
+use Rattle.forms.specs.declared.Refusal.{Refusal}
 use Rattle.forms.specs.Lists.{below}
 use Rattle.forms.specs.Forms.{Base, Did, Line, did_line, Restarted}
 use Rattle.forms.specs.Limits.{live_limit}
@@ -15,8 +16,6 @@ use Rattle.rule_laws.specs.OldLogLaws.{Upgraded, upgrade-holds, RestartsAs, upgr
 use Rattle.rule_laws.specs.OlderLogs.{read_alike}
 use Rattle.rule_laws.specs.WeaveLaws.{dids-map}
 use Rattle.recovery.proofs.Cuts.{lines-restarted}
-use Rattle.older_log.specs.declared.Changeover.{Changeover}
-use Rattle.older_log.specs.declared.Changeover.TheVariants.{Used, Refused}
 use Rattle.older_log.specs.Model.{Upgrades}
 use Rattle.site.specs.OpenLaws.{blank_site}
 use Rattle.site.specs.Model.{AcceptedAs, Opens}
@@ -39,12 +38,12 @@ same_lines : (n m : ℕ) (a b : List Line) → journal n none a ≡ journal m no
 same_lines n m a b e = cc
 
 -- A changeover that replies the bytes used has written what the specification writes.
-written_by : (u : Upgrade) (old : List ℕ) (c : Changeover) (buffer : List ℕ) → Upgrades u old c buffer → (used : ℕ) → c ≡ Used used →
+written_by : (u : Upgrade) (old : List ℕ) (c : Result ℕ Refusal) (buffer : List ℕ) → Upgrades u old c buffer → (used : ℕ) → c ≡ Ok used →
     u ≡ upgraded buffer used
 written_by (not_upgraded q) old c buffer U used e =
-    let clash : Refused q ≡ Used used = sym U.reply ∙ e in let z : ◌≡◌ {A = ℕ} 0 1 = cc in absurd (omega arith)
+    let clash : Err q ≡ Ok used = sym U.reply ∙ e in let z : ◌≡◌ {A = ℕ} 0 1 = cc in absurd (omega arith)
 written_by (upgraded bytes n) old c buffer U used e =
-    let same : Used n ≡ Used used = sym U.reply ∙ e in
+    let same : Ok n ≡ Ok used = sym U.reply ∙ e in
     let counts : n ≡ used = cc in ap₂ upgraded (sym U.bytes) counts
 
 -- By the two contracts, from what the changeover writes.

@@ -1,5 +1,5 @@
 -- The recovery claim of the code's site, proved: a chain of calls that keep their contracts is `run` of the list of calls.
-use Rattle.std.specs.Prelude.{◌≡◌, refl, Bool, true, false, not, ◌||◌, List, ◌∷◌, ◌++◌, ℕ, ◌≤◌, leb, ltb, length, take}
+use Rattle.std.specs.Prelude.{◌≡◌, refl, Bool, true, false, not, ◌||◌, List, ◌∷◌, ◌++◌, ℕ, ◌≤◌, leb, ltb, length, take, Result, Ok, Err}
 use Rattle.std.proofs.Common.{sym, ap, ap₂, ◌∙◌, subst, inl, inr, arith, le→leb, length-take-le, take-take}
 use Rattle.std.proofs.Math.Option.{Option}
 use Rattle.std.proofs.Math.Option as option
@@ -14,8 +14,6 @@ use Rattle.rules.specs.Book.{Cell, base_of, cell}
 use Rattle.rules.specs.Trim.{Trimmed, not_trimmed, trimmed, trim_unless, trim_text, trim_refusal, trim}
 use Rattle.rule_laws.specs.TrimLaws.{bounds, copied, changes_over_lem}
 use Rattle.rule_laws.specs.TrimShows.{Trims, trim-holds, trimmed_restarts}
-use Rattle.trim.specs.declared.Copied.{Copied}
-use Rattle.trim.specs.declared.Copied.TheVariants.{Used, Refused}
 use Rattle.trim.specs.Model.{Copies, CopiesLog}
 use Rattle.rules.specs.Checks.{check}
 use Rattle.rule_laws.specs.CheckLaws.{unless_none, none_check, le_not_lt}
@@ -113,21 +111,21 @@ plain_restarts x v buffer k low e le same =
 -- ### Trim, and the changeover
 
 -- What the code's `trim` of a site does is what the specification says of its state.
-pub copies_state : (x : Memory) → ValidIn x → (n : ℕ) (fresh : List ℕ) (c : Copied) (copy : List ℕ) →
+pub copies_state : (x : Memory) → ValidIn x → (n : ℕ) (fresh : List ℕ) (c : Result ℕ Refusal) (copy : List ℕ) →
     CopiesLog x.site x.lent.log n fresh c copy → Copies (trim n fresh (state_in x)) fresh c copy
 copies_state x v n fresh c copy T = T x.lent.rows x.lent.order x.lent.book v
 
 -- A trim that replies the bytes used has made the copy.
-copied_by : (t : Trimmed) (fresh : List ℕ) (c : Copied) (copy : List ℕ) → Copies t fresh c copy → (used : ℕ) → c ≡ Used used →
+copied_by : (t : Trimmed) (fresh : List ℕ) (c : Result ℕ Refusal) (copy : List ℕ) → Copies t fresh c copy → (used : ℕ) → c ≡ Ok used →
     t ≡ trimmed copy used
 copied_by (not_trimmed q) fresh c copy T used e =
-    let clash : Refused q ≡ Used used = sym T.reply ∙ e in let z : ◌≡◌ {A = ℕ} 0 1 = cc in absurd (omega arith)
+    let clash : Err q ≡ Ok used = sym T.reply ∙ e in let z : ◌≡◌ {A = ℕ} 0 1 = cc in absurd (omega arith)
 copied_by (trimmed bytes n) fresh c copy T used e =
-    let same : Used n ≡ Used used = sym T.reply ∙ e in
+    let same : Ok n ≡ Ok used = sym T.reply ∙ e in
     let counts : n ≡ used = cc in ap₂ trimmed (sym T.bytes) counts
 
-pub copy_made : (x : Memory) → ValidIn x → (n : ℕ) (fresh : List ℕ) (c : Copied) (copy : List ℕ) →
-    CopiesLog x.site x.lent.log n fresh c copy → (used : ℕ) → c ≡ Used used → Trims n fresh (state_in x) copy used
+pub copy_made : (x : Memory) → ValidIn x → (n : ℕ) (fresh : List ℕ) (c : Result ℕ Refusal) (copy : List ℕ) →
+    CopiesLog x.site x.lent.log n fresh c copy → (used : ℕ) → c ≡ Ok used → Trims n fresh (state_in x) copy used
 copy_made x v n fresh c copy T used e =
     trim-holds n fresh (state_in x) copy used (copied_by (trim n fresh (state_in x)) fresh c copy (copies_state x v n fresh c copy T) used e)
 
@@ -136,18 +134,18 @@ pub record RefusedCopy (n : ℕ) (fresh : List ℕ) (st : State) (q : Refusal) (
   pub number : trim_refusal n (length fresh) st ≡ option.some q
   pub kept : copy ≡ fresh
 
-pub copy_refused : (x : Memory) → ValidIn x → (n : ℕ) (fresh : List ℕ) (c : Copied) (copy : List ℕ) →
-    CopiesLog x.site x.lent.log n fresh c copy → (q : Refusal) → c ≡ Refused q → RefusedCopy n fresh (state_in x) q copy
+pub copy_refused : (x : Memory) → ValidIn x → (n : ℕ) (fresh : List ℕ) (c : Result ℕ Refusal) (copy : List ℕ) →
+    CopiesLog x.site x.lent.log n fresh c copy → (q : Refusal) → c ≡ Err q → RefusedCopy n fresh (state_in x) q copy
 unfolding trim
 copy_refused x v n fresh c copy T q e = go (trim_refusal n (length fresh) (state_in x)) refl (copies_state x v n fresh c copy T)
   where
     go : (o : Option Refusal) → trim_refusal n (length fresh) (state_in x) ≡ o →
         Copies (trim_unless o fresh (trim_text n (state_in x))) fresh c copy → RefusedCopy n fresh (state_in x) q copy
     go (option.some p) f C =
-        let clash : Refused p ≡ Refused q = sym C.reply ∙ e in
+        let clash : Err p ≡ Err q = sym C.reply ∙ e in
         let same : p ≡ q = cc in record { number = f ∙ ap (λ (y : Refusal). option.some y) same; kept = C.bytes }
     go option.none f C =
-        let clash : Used (length (trim_text n (state_in x))) ≡ Refused q = sym C.reply ∙ e in
+        let clash : Ok (length (trim_text n (state_in x))) ≡ Err q = sym C.reply ∙ e in
         let z : ◌≡◌ {A = ℕ} 0 1 = cc in absurd (omega arith)
 
 -- A changeover that the specification does not refuse is a call with a number of 64 bits.

@@ -1,7 +1,7 @@
 -- A changeover of a slot's log (02, (h) and (m)): the code's `trim` of the slot's site and `Module::restart` from the whole copy are the
 -- one step `Changeover` of the slot, by their contracts alone. It is accepted whenever the trim is: it leaves no more live, so 10 is never
 -- met.
-use Rattle.std.specs.Prelude.{ℕ, ◌≡◌, Bool, not, List, leb, length}
+use Rattle.std.specs.Prelude.{ℕ, ◌≡◌, Bool, not, List, leb, length, Result, Ok, Err}
 use native.Mathlib.Omega.{arith}
 use Rattle.std.proofs.Math.Path.{refl, sym, ap}
 use Rattle.std.proofs.Common.{subst, ◌∙◌, le-ltb}
@@ -29,8 +29,6 @@ use Rattle.compact.specs.Fits.{claims, Fits}
 use Rattle.compact.proofs.Fits.{uncovered_is, parted}
 use Rattle.compact.proofs.FitsLaws.{below, site-good, live_is, call_is}
 use Rattle.site.specs.Model.{Lent, lent, Valid}
-use Rattle.trim.specs.declared.Copied.{Copied}
-use Rattle.trim.specs.declared.Copied.TheVariants.{Used, Refused}
 use Rattle.trim.specs.Model.{CopiesLog}
 use Rattle.module.specs.declared.ModuleResult.{ModuleResult}
 use Rattle.module.specs.Model.{slot_in, lent_at, state_at, Memory, ValidModule, view_of, around, AcceptedIn, DoesFrom, MovesAnew}
@@ -117,7 +115,7 @@ module _ (i : ℕ) (m : ModuleState) (F : Fits m) (st : State) (at : (slot_at i 
 
 -- ### By the code
 
-module _ (u : World) (v : ValidWorld u) (i : ℕ) (on : (slot_in u.code.slots i).opened ≡ true) (n : ℕ) (fresh : List ℕ) (c : Copied)
+module _ (u : World) (v : ValidWorld u) (i : ℕ) (on : (slot_in u.code.slots i).opened ≡ true) (n : ℕ) (fresh : List ℕ) (c : Result ℕ Refusal)
     (copy : List ℕ) (T : CopiesLog (slot_in u.code.slots i).site (u.memory.logs i) n fresh c copy) where
   abbrev st : State
   st = state_at u.code.slots u.memory i
@@ -129,7 +127,7 @@ module _ (u : World) (v : ValidWorld u) (i : ℕ) (on : (slot_in u.code.slots i)
   valid = v.each i (opened-below u.code.slots u.memory v i on) on
 
   -- "the owner changes over, by a restart from the whole fresh log": the module's step, and its reply.
-  pub slot_changes_over : (used : ℕ) → c ≡ Used used → (book ns : List ℕ) (r : ModuleResult) (new : Lent) →
+  pub slot_changes_over : (used : ℕ) → c ≡ Ok used → (book ns : List ℕ) (r : ModuleResult) (new : Lent) →
       MovesAnew u.code (Restart i copy used) (lent copy u.memory.rows u.memory.numbers book ns) r new →
       StepsTo u (At i (Changeover n (length fresh))) (world r.after (around i new u.memory.logs u.memory.books))
       × (said_by r new ≡ outcome_from (reply_of (At i (Changeover n (length fresh))) (state_of u)))
@@ -154,7 +152,7 @@ module _ (u : World) (v : ValidWorld u) (i : ℕ) (on : (slot_in u.code.slots i)
       )
 
   -- A refused trim is a refused changeover: the module stays, and the fresh buffer too.
-  pub slot_stays : (q : Refusal) → c ≡ Refused q → (next_of (At i (Changeover n (length fresh))) (state_of u) ≡ state_of u) × (copy ≡ fresh)
+  pub slot_stays : (q : Refusal) → c ≡ Err q → (next_of (At i (Changeover n (length fresh))) (state_of u) ≡ state_of u) × (copy ≡ fresh)
   slot_stays q e =
       let k = copy_refused (memory (slot_in u.code.slots i).site (lent_at u.code.slots u.memory i)) valid n fresh c copy T q e in
       (refused_over i (state_of u) v.fits st at n (length fresh) q k.number, k.kept)

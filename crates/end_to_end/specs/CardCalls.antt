@@ -1,13 +1,13 @@
 -- The last W lines on one card (02, (j)): "after every call and cut the card equals one counted afresh from the log then held", of the
 -- code's site and the code's card, by their contracts alone.
-use Rattle.std.specs.Prelude.{◌≡◌, false, List, [], ◌++◌, ℕ}
+use Rattle.forms.specs.declared.Refusal.{Refusal}
+use Rattle.std.specs.Prelude.{◌≡◌, false, List, [], ◌++◌, ℕ, Result, Ok}
 use mathlib.Core.List.{Memᴰ as Mem}
 use Rattle.rules.specs.State.{State}
 use Rattle.rules.specs.Calls.{Call}
 use Rattle.rules.specs.Run.{run}
 use Rattle.rules.specs.Card.{card_afresh, card_numbers, card, takes_back}
 use Rattle.card.specs.declared.Card.{Card}
-use Rattle.card.specs.declared.Made.{Made}
 use Rattle.card.specs.Model.{IsCard, CountsAfresh, Follows}
 use Rattle.end_to_end.specs.SiteCalls.{Memory, state_in, ValidIn, Alone, log_in, Execution, StartsSite}
 
@@ -26,8 +26,8 @@ pub data CardStep (w : ℕ) (x : Memory) (k : CardMemory) : List Call → Memory
       CardStep w x k cs y (record { card = r; counts = new })
   -- any calls, cuts and changeovers too: `Card::afresh` keeps its contract, and made a card
   afresh : (cs : List Call) (y : Memory) → Execution x cs y →
-      (made : Made) (new : List ℕ) → CountsAfresh w (log_in y) y.site.count y.site.head k.counts made new →
-      (r : Card) → made ≡ Made.Counted r → CardStep w x k cs y (record { card = r; counts = new })
+      (made : Result Card Refusal) (new : List ℕ) → CountsAfresh w (log_in y) y.site.count y.site.head k.counts made new →
+      (r : Card) → made ≡ Ok r → CardStep w x k cs y (record { card = r; counts = new })
 
 -- .. again and again
 pub data CardSteps (w : ℕ) : Memory → CardMemory → List Call → Memory → CardMemory → Type 0 where
@@ -48,7 +48,7 @@ pub record CardIs (w : ℕ) (x : Memory) (k : CardMemory) (st : State) : Type 0 
 abbrev pub CardClaim : Type 0
 CardClaim =
     (w m : ℕ) (start : Memory) → StartsSite m start →
-    (old : List ℕ) (made : Made) (new : List ℕ) → CountsAfresh w (log_in start) start.site.count start.site.head old made new →
-    (c : Card) → made ≡ Made.Counted c →
+    (old : List ℕ) (made : Result Card Refusal) (new : List ℕ) → CountsAfresh w (log_in start) start.site.count start.site.head old made new →
+    (c : Card) → made ≡ Ok c →
     (cs : List Call) (x : Memory) (k : CardMemory) → CardSteps w start (record { card = c; counts = new }) cs x k →
     CardIs w x k (run cs (state_in start))

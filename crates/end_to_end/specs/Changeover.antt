@@ -1,7 +1,8 @@
 -- "At the changeover" (02, (g)): an older log, changed over by the code's `upgrade` and then restarted by its `Site::restart`, starts a
 -- list of calls of the recovery claim (`SiteCallsClaim`), with its own did lines, all of them persistent and stable, and nothing live.
-use Rattle.std.specs.Prelude.{◌≡◌, List, ◌++◌, map, ℕ, ◌^◌, ◌<◌, length, take, drop}
+use Rattle.std.specs.Prelude.{◌≡◌, List, ◌++◌, map, ℕ, ◌^◌, ◌<◌, length, take, drop, Result, Ok}
 use Rattle.std.proofs.Math.Option.{none}
+use Rattle.forms.specs.declared.Refusal.{Refusal}
 use Rattle.forms.specs.Forms.{Did, Line, did_line}
 use Rattle.rules.specs.Book.{blank_base, cell, cell_with}
 use Rattle.rules.specs.Log.{dids, closing, journal, log_text}
@@ -9,8 +10,6 @@ use Rattle.rules.specs.State.{lines_in, stable_to, live}
 use Rattle.rules.specs.Calls.{restart}
 use Rattle.rules.specs.OldLog.{read_old_with, read_old, upgrade}
 use Rattle.rule_laws.specs.OlderLogs.{older_parts}
-use Rattle.older_log.specs.declared.Changeover.{Changeover}
-use Rattle.older_log.specs.declared.Changeover.TheVariants.{Used}
 use Rattle.older_log.specs.Model.{Upgrades}
 use Rattle.site.specs.declared.CallResult.{CallResult}
 use Rattle.site.specs.OpenLaws.{blank_site}
@@ -47,6 +46,6 @@ pub record ChangedOver (old : List ℕ) (k used : ℕ) (x : Memory) : Type 0 whe
 -- used and leaves `buffer`, and of `Site::restart`.
 abbrev pub ChangeoverClaim : Type 0
 ChangeoverClaim =
-    (old : List ℕ) (k : ℕ) (c : Changeover) (buffer : List ℕ) → Upgrades (upgrade old k) old c buffer → (used : ℕ) → c ≡ Used used →
+    (old : List ℕ) (k : ℕ) (c : Result ℕ Refusal) (buffer : List ℕ) → Upgrades (upgrade old k) old c buffer → (used : ℕ) → c ≡ Ok used →
     (m : Lent) → m.log ≡ buffer → (r : CallResult) (new : Lent) → Opens blank_site m (restart m.log used) r new →
     ChangedOver old k used (memory r.site new)

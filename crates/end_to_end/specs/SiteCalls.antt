@@ -1,6 +1,6 @@
 -- "The calls are the site's own, not the session's": the recovery claim of what the code's site does, by its contracts alone.
 -- Proved in SiteCallsLaws.
-use Rattle.std.specs.Prelude.{◌≡◌, ◌⊎◌, Bool, List, [], ◌∷◌, ◌++◌, ℕ, ◌≤◌, ◌<◌, T, length, take, get_or}
+use Rattle.std.specs.Prelude.{◌≡◌, ◌⊎◌, Bool, List, [], ◌∷◌, ◌++◌, ℕ, ◌≤◌, ◌<◌, T, length, take, get_or, Result, Ok, Err, Option}
 use Rattle.std.proofs.Math.Option as option
 use mathlib.Core.List.{Memᴰ as Mem}
 use Rattle.forms.specs.Limits.{live_limit}
@@ -17,14 +17,12 @@ use Rattle.site.specs.declared.Site.{Site}
 use Rattle.site.specs.declared.CallResult.{CallResult}
 use Rattle.site.specs.declared.poll.PollAnswer.{PollAnswer}
 use Rattle.history.specs.Words.{busy_in}
-use Rattle.table.specs.declared.Lookup.{Lookup}
+use Rattle.table.specs.declared.EntryNumber.{EntryNumber}
 use Rattle.table.specs.Tables.{live_numbers, entry_of}
 use Rattle.site.specs.OpenLaws.{blank_site}
 use Rattle.site.specs.EntryOf.{EntryIs}
 use Rattle.site.specs.Polls.{polled_of, Polls}
 use Rattle.forms.specs.declared.Refusal.{Refusal}
-use Rattle.trim.specs.declared.Copied.{Copied}
-use Rattle.trim.specs.declared.Copied.TheVariants.{Used, Refused}
 use Rattle.trim.specs.Model.{CopiesLog}
 use Rattle.site.specs.Model.{Lent, view, Valid, AcceptedAs, Opens, Steps, StepsWithin}
 
@@ -75,12 +73,12 @@ pub data Transition (x : Memory) : Call → Memory → Type 0 where
       Transition x (Cut k (length buffer.log)) (goes_on_from (restart buffer.log k) x (memory r.site new))
   -- 02 (h): "A new call copies the log into a fresh lent buffer and replies the bytes used", and "the owner changes over, by a restart
   -- from the whole fresh log": `trim` keeps its contract, and so does `Site::restart` with all bytes that it replied
-  changes_over : (n : ℕ) (fresh : List ℕ) (c : Copied) (copy : List ℕ) → CopiesLog x.site x.lent.log n fresh c copy →
-      (used : ℕ) → c ≡ Used used → (buffer : Lent) → buffer.log ≡ copy → (r : CallResult) (new : Lent) →
+  changes_over : (n : ℕ) (fresh : List ℕ) (c : Result ℕ Refusal) (copy : List ℕ) → CopiesLog x.site x.lent.log n fresh c copy →
+      (used : ℕ) → c ≡ Ok used → (buffer : Lent) → buffer.log ≡ copy → (r : CallResult) (new : Lent) →
       Opens blank_site buffer (restart buffer.log used) r new → Transition x (Changeover n (length fresh)) (memory r.site new)
   -- .. and where `trim` refuses, there is nothing to restart from: site and log are as they were
-  stays_with : (n : ℕ) (fresh : List ℕ) (c : Copied) (copy : List ℕ) → CopiesLog x.site x.lent.log n fresh c copy →
-      (q : Refusal) → c ≡ Refused q → Transition x (Changeover n (length fresh)) x
+  stays_with : (n : ℕ) (fresh : List ℕ) (c : Result ℕ Refusal) (copy : List ℕ) → CopiesLog x.site x.lent.log n fresh c copy →
+      (q : Refusal) → c ≡ Err q → Transition x (Changeover n (length fresh)) x
 
 -- A list of calls, one after the other: an execution.
 pub data Execution : Memory → List Call → Memory → Type 0 where
@@ -147,7 +145,7 @@ SiteCallsClaim =
 -- ### The entry of an id
 
 -- What `Site::entry_of` gives, by its contract.
-abbrev pub entry_in : Memory → ℕ → Lookup
+abbrev pub entry_in : Memory → ℕ → Option EntryNumber
 entry_in x id = entry_of x.lent.rows id (live_numbers x.site.table x.lent.order)
 
 -- In every state that calls reach from a site just opened or restarted, `entry_of` gives the one entry of a live id, and none exactly if

@@ -1,6 +1,7 @@
 -- "A shorter log" (02, (h)): the code's `trim` copies the log of a site, and `Site::restart` from the copy shows the same histories, marks
 -- and log numbers as from the full log, by their contracts alone.
-use Rattle.std.specs.Prelude.{ℕ, ◌≤◌, ◌<◌, ◌≡◌, List, length, take}
+use Rattle.std.specs.Prelude.{ℕ, ◌≤◌, ◌<◌, ◌≡◌, List, length, take, Result, Ok}
+use Rattle.forms.specs.declared.Refusal.{Refusal}
 use Rattle.forms.specs.Limits.{log_limit}
 use Rattle.forms.specs.Forms.{Answer}
 use Rattle.rules.specs.State.{lines_in}
@@ -10,8 +11,6 @@ use Rattle.rule_laws.specs.TrimShows.{ShowsAlike, Trims}
 use Rattle.site.specs.declared.CallResult.{CallResult}
 use Rattle.site.specs.OpenLaws.{blank_site}
 use Rattle.site.specs.Model.{Lent, Opens}
-use Rattle.trim.specs.declared.Copied.{Copied}
-use Rattle.trim.specs.declared.Copied.TheVariants.{Used}
 use Rattle.trim.specs.Model.{CopiesLog}
 use Rattle.end_to_end.specs.SiteCalls.{Memory, memory, state_in, ValidIn, log_in, StartsSite, AnswersCall}
 
@@ -48,7 +47,7 @@ pub record Shortened (x : Memory) (n : ℕ) (fresh copy : List ℕ) (used : ℕ)
 abbrev pub TrimClaim : Type 0
 TrimClaim =
     (x : Memory) → ValidIn x →
-    (n : ℕ) (fresh : List ℕ) (c : Copied) (copy : List ℕ) → CopiesLog x.site x.lent.log n fresh c copy → (used : ℕ) → c ≡ Used used →
+    (n : ℕ) (fresh : List ℕ) (c : Result ℕ Refusal) (copy : List ℕ) → CopiesLog x.site x.lent.log n fresh c copy → (used : ℕ) → c ≡ Ok used →
     (buffer : Lent) → buffer.log ≡ copy →
     (r : CallResult) (new : Lent) → Opens blank_site buffer (restart buffer.log used) r new →
     (other : Lent) → take x.site.used other.log ≡ log_in x → length other.log ≤ log_limit →

@@ -1,16 +1,17 @@
 -- An add is a call where its rules' numbers are those of rules, and refused with 1 where not.
-use Rattle.std.specs.Prelude.{ℕ, ◌≡◌, refl, Bool, true, false, List}
-use Rattle.std.proofs.Common.{sym, subst}
+use Rattle.std.specs.Prelude.{ℕ, ◌≡◌, refl, Bool, true, false, List, Option as Held, Some, None}
+use Rattle.std.proofs.Common.{subst}
 use Rattle.forms.specs.Refusals.{number_of}
-use Rattle.forms.specs.declared.AskedHeld.{AskedHeld}
+use Rattle.forms.specs.Held.{AskedHeld}
 use Rattle.forms.specs.declared.Refusal.{Refusal}
 use Rattle.forms.specs.declared.Refusal.TheVariants.{Unreadable}
 use Rattle.rules.specs.State.{refused}
 use Rattle.rules.specs.Calls.{Call}
 use Rattle.rules.specs.Session.{turn_of}
+use Rattle.site.specs.declared.Site.{Site}
 use Rattle.site.specs.Model.{Lent}
 use Rattle.site.specs.Trim.{updates_held}
-use Rattle.session.specs.Model.{view_if}
+use Rattle.session.specs.Model.{view_of, ValidOpened}
 use Rattle.stream.specs.Logging.{overlaid}
 use Rattle.stream.specs.LoggingLaws.{over-site}
 use Rattle.call_words.specs.Adding.{held_in, rules_known}
@@ -23,11 +24,11 @@ use Rattle.fitting_ledger.specs.Adding.{adding, PerformsAdd}
 refused_takes : (ws : List ℕ) (old : Lent) (q : Refusal) → ValidState ws old → Takes ws old (turn_of (refused q) (state_at ws old)) ws old
 unfolding turn_of overlaid
 refused_takes ws old q v =
-    record { state = refl; valid = v; log = by_opened (session_at ws).opened refl; keeps = record { counters = refl; kept = refl } }
+    record { state = refl; valid = v; log = by_site (session_at ws).site v.session; keeps = record { counters = refl; kept = refl } }
   where
-    by_opened : (b : Bool) → b ≡ (session_at ws).opened → old.log ≡ overlaid (view_if b (session_at ws).site old) old.log
-    by_opened true e = over-site (session_at ws).site old old.log (v.session.site (sym e)) refl
-    by_opened false e = refl
+    by_site : (h : Held Site) → ValidOpened h old.log old.rows old.order old.book → old.log ≡ overlaid (view_of h old) old.log
+    by_site (Some s) o = over-site s old old.log (o.site s refl) refl
+    by_site None o = refl
 
 -- All rules are known: it is the call.
 pub performs_add : (ws : List ℕ) (old : Lent) (id count : ℕ) (updates : List ℕ) (held : AskedHeld) (n : ℕ) (after : List ℕ) (new : Lent)

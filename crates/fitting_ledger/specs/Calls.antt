@@ -5,8 +5,8 @@ use Rattle.rules.specs.Session.{Turn, calling}
 use Rattle.site.specs.declared.CallResult.{CallResult}
 use Rattle.site.specs.Model.{Lent}
 use Rattle.call_words.specs.Answers.{SaysAs, PutsAnswer}
-use Rattle.fitting_ledger.specs.Counters.{words_of}
-use Rattle.fitting_ledger.specs.Model.{state_at, begun_as, Takes}
+use Rattle.fitting_ledger.specs.Counters.{site_counters}
+use Rattle.fitting_ledger.specs.Model.{state_at, Takes}
 
 -- The state takes the turn t, and the answer, which was `head` and is `said`, is its reply.
 pub record Performs (ws : List ℕ) (old : Lent) (t : Turn) (n : ℕ) (after : List ℕ) (new : Lent) (head said : List ℕ) : Type 0 where
@@ -19,5 +19,5 @@ PerformsCall ws old c n after new head said = Performs ws old (calling c (state_
 
 -- What an open site handed back is put away: its counters, and its reply.
 pub record PutsCall (r : CallResult) (n : ℕ) (after head said : List ℕ) : Type 0 where
-  pub counters : after ≡ words_of (begun_as 0 r.site)
+  pub counters : after ≡ site_counters r.site
   pub reply : PutsAnswer r.reply n head said

@@ -1,24 +1,19 @@
 -- The card of the last W lines of the site's log, as its owner gets it: "over the last W did lines, how many updates of each rule each
 -- history had".
-use Rattle.std.specs.Prelude.{ℕ, ◌*◌, ◌≡◌, List, ◌++◌, length, drop}
+use Rattle.std.specs.Prelude.{ℕ, ◌*◌, ◌≡◌, List, ◌++◌, length, drop, Result, Ok, Err}
 use Rattle.std.proofs.Math.Option.{Option, none, some}
 use Rattle.forms.specs.Refusals.{number_of}
 use Rattle.forms.specs.declared.Refusal.{Refusal}
 use Rattle.forms.specs.declared.Refusal.TheVariants.{OutOfTurn}
 use Rattle.rules.specs.State.{State}
 use Rattle.rules.specs.Card.{CardRow, Carded, not_carded, carded, card, card_numbers, last_lines}
-use Rattle.card.specs.declared.Made.{Made}
+use Rattle.card.specs.declared.Card.{Card}
 use Rattle.card.specs.Model.{row_width}
 
--- 0, or a refusal's number
-unfoldable pub made_number : Made → ℕ
-made_number (Made.Counted c) = 0
-made_number (Made.Refused q) = number_of q
-
--- how many lines count, which a refusal leaves unsaid
-unfoldable pub made_lines : Made → ℕ → ℕ
-made_lines (Made.Counted c) before = c.lines
-made_lines (Made.Refused q) before = before
+-- how many lines count, or why there is no card
+abbrev pub lines_in : Result Card Refusal → Result ℕ Refusal
+lines_in (Ok c) = Ok c.lines
+lines_in (Err q) = Err q
 
 -- "A refusal returns its number only": every count is as it was, and so is the number of lines.
 pub record CardsNot (q : Refusal) (old : List ℕ) (before n : ℕ) (new : List ℕ) (after : ℕ) : Type 0 where

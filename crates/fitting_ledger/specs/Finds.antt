@@ -6,26 +6,14 @@ use Rattle.forms.specs.declared.Refusal.TheVariants.{OutOfTurn}
 use Rattle.rules.specs.State.{State}
 use Rattle.rules.specs.FindCut.{FoundCut, not_found, keep, find_cut}
 use Rattle.site.specs.Model.{Lent}
-use Rattle.find_cut.specs.declared.Found.{Found}
-use Rattle.find_cut.specs.declared.Found.TheVariants.{Keep, Refused}
 use Rattle.fitting_ledger.specs.Model.{state_at}
 
 -- 0, or a refusal's number
-unfoldable pub found_number : Found → ℕ
-found_number (Keep k) = 0
-found_number (Refused q) = number_of q
-
--- .. of the specification's answer
 unfoldable pub find_number : FoundCut → ℕ
 find_number (not_found q) = number_of q
 find_number (keep k) = 0
 
 -- the bytes kept, which a refusal leaves unsaid
-unfoldable pub found_kept : Found → ℕ → ℕ
-found_kept (Keep k) before = k
-found_kept (Refused q) before = before
-
--- .. of the specification's answer
 unfoldable pub find_kept : FoundCut → ℕ → ℕ
 find_kept (not_found q) before = before
 find_kept (keep k) before = k

@@ -1,5 +1,5 @@
 -- The state that a library's owner lends, as the specification has it: its invariant, and what a call makes of it.
-use Rattle.std.specs.Prelude.{ℕ, ◌≡◌, Bool, true, false, List, eqb, leb, length, drop}
+use Rattle.std.specs.Prelude.{ℕ, ◌≡◌, Bool, true, false, List, eqb, leb, length, drop, Option as Held}
 use Rattle.std.proofs.Math.Option.{Option, none, some}
 use Rattle.forms.specs.Forms.{Outcome, Refused, Accepted, outcome_text}
 use Rattle.forms.specs.Limits.{reply_limit}
@@ -8,16 +8,14 @@ use Rattle.forms.specs.declared.Refusal.{Refusal}
 use Rattle.rules.specs.State.{State, Reply, refused, ok}
 use Rattle.rules.specs.Log.{ended}
 use Rattle.rules.specs.Session.{Turn}
-use Rattle.table.specs.declared.Table.{Table}
 use Rattle.table.specs.Tables.{Frame}
 use Rattle.site.specs.declared.Site.{Site}
-use Rattle.site.specs.Representation.{Representation}
-use Rattle.site.specs.Model.{Lent, represented}
+use Rattle.site.specs.Model.{Lent}
 use Rattle.session.specs.declared.Session.{Session}
-use Rattle.session.specs.Model.{session_view, ValidOpened, held_if, live_if}
+use Rattle.session.specs.Model.{session_view, ValidOpened, words_used, live_of}
 use Rattle.stream.specs.Logging.{overlaid}
 use Rattle.stream.specs.Model.{Fronts}
-use Rattle.fitting_ledger.specs.Counters.{session_at, words_of}
+use Rattle.fitting_ledger.specs.Counters.{site_if, session_at, words_again}
 
 -- ### The state
 
@@ -25,14 +23,13 @@ use Rattle.fitting_ledger.specs.Counters.{session_at, words_of}
 abbrev pub state_at : List ℕ → Lent → Option State
 state_at ws m = session_view (session_at ws) m
 
--- The invariant: the words are a session's counters, and a site that is open is valid.
-pub record ValidWords (ws : List ℕ) (opened : Bool) (w : Representation) (t : Table) (log order rows : List ℕ) : Type 0 where
-  pub words : words_of (session_at ws) ≡ ws
-  pub session : ValidOpened opened w t log order rows
+-- The invariant: the words are counters, of a site that is open or not, and a site that is open is valid.
+pub record ValidWords (ws : List ℕ) (site : Held Site) (log rows order book : List ℕ) : Type 0 where
+  pub words : words_again ws ≡ ws
+  pub session : ValidOpened site log rows order book
 
 abbrev pub ValidState : List ℕ → Lent → Type 0
-ValidState ws m =
-    ValidWords ws (session_at ws).opened (represented (session_at ws).site m) (session_at ws).site.table m.log m.order m.rows
+ValidState ws m = ValidWords ws (session_at ws).site m.log m.rows m.order m.book
 
 -- ### What a call does
 
@@ -44,8 +41,8 @@ pub record Same (ws : List ℕ) (old : Lent) (after : List ℕ) (new : Lent) : T
 -- "An accepted call alters no byte of a lent buffer past those in use": of the table's rows, those of the entries that are live after it;
 -- of the histories' numbers, those of the site's histories. (Of the log's buffer, see `log` below.)
 pub record UnusedLeft (old : Lent) (s : Session) (new : Lent) : Type 0 where
-  pub frame : Frame (live_if s.opened s.site new.order) old.rows new.rows
-  pub past_histories : drop (held_if s.opened s.site) new.book ≡ drop (held_if s.opened s.site) old.book
+  pub frame : Frame (live_of s.site new.order) old.rows new.rows
+  pub past_histories : drop (words_used s.site) new.book ≡ drop (words_used s.site) old.book
 
 abbrev pub KeepsAs : Outcome → List ℕ → Lent → List ℕ → Lent → Type 0
 KeepsAs (Refused q) ws old after new = Same ws old after new
@@ -84,7 +81,7 @@ AnswersIfRoom ws old t n after new out page = AnswersIf (leb reply_limit (length
 
 -- the session with the site that was handed back: open if the number is 0
 abbrev pub begun_as : ℕ → Site → Session
-begun_as n s = record { opened = eqb n 0; site = s }
+begun_as n s = record { site = site_if (eqb n 0) s }
 
 -- It is refused: the state is "before site", and nothing that is lent beside the counters has changed.
 pub record BeginsNot (old : Lent) (q : Refusal) (n : ℕ) (after : List ℕ) (new : Lent) : Type 0 where

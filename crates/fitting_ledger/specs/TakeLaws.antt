@@ -1,25 +1,31 @@
 -- A turn of the session that the counters are, and its reply written.
-use Rattle.std.specs.Prelude.{ℕ, ◌≤◌, ◌<◌, ◌≡◌, refl, Bool, true, false, List, [], ◌++◌, length, drop}
+use Rattle.std.specs.Prelude.{ℕ, ◌≤◌, ◌<◌, ◌≡◌, refl, Bool, List, [], ◌++◌, length, drop, Option as Held, Some, None}
 use Rattle.std.proofs.Common.{arith, sym, ap, subst, ◌∙◌, le-leb}
-use Rattle.std.proofs.Math.Option.{Option}
+use Rattle.std.proofs.Math.Option.{Option, none, some}
 use Rattle.std.proofs.lemmas.Bool.{lt-leb}
-use Rattle.forms.specs.Forms.{Outcome, Refused, Accepted, outcome_text}
+use Rattle.forms.specs.Decimal.{Step}
+use Rattle.forms.specs.Decimal.Step.{got, bad}
+use Rattle.forms.specs.Forms.{Command, Outcome, Refused, Accepted, outcome_text, did_text}
+use Rattle.forms.specs.Reading.{read_command}
+use Rattle.forms.specs.declared.Refusal.TheVariants.{Unreadable, OutOfTurn}
 use Rattle.forms.specs.Limits.{reply_limit}
 use Rattle.forms.specs.Held.{replied, outcome_of}
 use Rattle.forms.specs.Write.{placed, Wrote, with_end}
-use Rattle.rules.specs.State.{State}
+use Rattle.rules.specs.State.{State, Reply, refused, ok}
+use Rattle.rules.specs.Calls.{Call, step}
 use Rattle.rules.specs.Log.{ended}
-use Rattle.rules.specs.Session.{Turn, turn}
-use Rattle.site.specs.Model.{Lent, lent}
+use Rattle.rules.specs.Session.{Turn, turn_of, opening, calling, obey, on_command, turn}
+use Rattle.site.specs.declared.Site.{Site}
+use Rattle.site.specs.Model.{Lent, lent, view}
 use Rattle.session.specs.declared.Session.{Session}
 use Rattle.session.specs.declared.LineResult.{LineResult}
-use Rattle.session.specs.Model.{view_if, session_view, used_if, Keeps, Turns, TurnsLine}
+use Rattle.session.specs.Model.{view_of, session_view, used_of, ValidOpened, ValidSession, Keeps, Turns, TurnsLine}
 use Rattle.stream.specs.Model.{Fronts}
 use Rattle.stream.specs.LoggingLaws.{turn_logs}
 use Rattle.call_words.specs.Used.{used_by, site_used}
-use Rattle.fitting_ledger.specs.Counters.{session_at, words_of}
+use Rattle.fitting_ledger.specs.Counters.{session_at, held_counters, words_of, counters_after, words_again}
 use Rattle.fitting_ledger.specs.Model.{state_at, ValidState, UnusedLeft, KeepsAs, Takes, Answers, AnswersIf, AnswersIfRoom}
-use Rattle.fitting_ledger.specs.CounterLaws.{session_of, words_valid}
+use Rattle.fitting_ledger.specs.CounterLaws.{session_of, words_valid, opened-words}
 
 -- What is lent, without the lists of a reply.
 abbrev bare : Lent → Lent
@@ -27,41 +33,103 @@ bare m = lent m.log m.rows m.order m.book []
 
 -- The state does not look at them.
 view-bare : (s : Session) (m : Lent) → session_view s m ≡ session_view s (bare m)
-view-bare s m = by_opened s.opened
+view-bare s m = by_site s.site
   where
-    by_opened : (b : Bool) → view_if b s.site m ≡ view_if b s.site (bare m)
-    by_opened true = refl
-    by_opened false = refl
+    by_site : (h : Held Site) → view_of h m ≡ view_of h (bare m)
+    by_site (Some x) = refl
+    by_site None = refl
+
+-- A site that is open stays open.
+open_stays : (r : Reply) (st : State) → (turn_of r (some st)).after ≡ none → ⊥
+unfolding turn_of
+open_stays (refused q) st e = let z : ◌≡◌ {A = ℕ} 0 1 = cc in omega arith
+open_stays (ok st' a) st e = let z : ◌≡◌ {A = ℕ} 0 1 = cc in omega arith
+
+form_stays : (room : ℕ) (c : Command) (st : State) → (obey room c (some st)).after ≡ none → ⊥
+unfolding obey opening calling
+form_stays room (Command.SiteOf n) st e = open_stays (refused OutOfTurn) st e
+form_stays room (Command.Add i us) st e = open_stays (step (Call.Add i us) st) st e
+form_stays room (Command.Finish i) st e = open_stays (step (Call.Finish i) st) st e
+form_stays room (Command.Withdraw i) st e = open_stays (step (Call.Withdraw i) st) st e
+form_stays room (Command.Persistent n) st e = open_stays (step (Call.Persistent n) st) st e
+form_stays room (Command.Stable n) st e = open_stays (step (Call.Stable n) st) st e
+form_stays room (Command.Show h) st e = open_stays (step (Call.Show h) st) st e
+form_stays room (Command.Cut k) st e = open_stays (step (Call.Cut k room) st) st e
+form_stays room (Command.Redo d) st e = open_stays (step (Call.Redo (did_text d)) st) st e
+form_stays room Command.End st e = open_stays (step Call.End st) st e
+
+line_stays : (room : ℕ) (line : List ℕ) (st : State) → (turn room line (some st)).after ≡ none → ⊥
+unfolding turn on_command
+line_stays room line st e = go (read_command line) e
+  where
+    go : (x : Step Command) → (on_command room x (some st)).after ≡ none → ⊥
+    go bad h = open_stays (refused Unreadable) st h
+    go (got c rest) h = form_stays room c st h
+
+-- .. so a session that a line's turn leaves without a site had none
+had_none : (room : ℕ) (line : List ℕ) (s : Session) (old : Lent) (r : LineResult) (new : Lent) →
+    Turns s old (turn room line (session_view s old)) r new → r.session.site ≡ None → s.site ≡ None
+had_none room line s old r new h o =
+    go s.site (sym (ap (λ (x : Held Site). view_of x new) o) ∙ h.after)
+  where
+    go : (x : Held Site) → none ≡ (turn room line (view_of x old)).after → x ≡ None
+    go (Some x) e = absurd (line_stays room line (view x old) (sym e))
+    go None e = refl
 
 -- The counters of the session after its turn.
-pub takes : (ws : List ℕ) (old : Lent) (t : Turn) (r : LineResult) (new : Lent) (after : List ℕ) → ValidState ws (bare old) →
-    Turns (session_at ws) old t r new → after ≡ words_of r.session → Takes ws (bare old) t after (bare new)
-takes ws old t r new after v h e =
-    record {
-      state = ap (λ (x : Session). session_view x (bare new)) is ∙ sym (view-bare r.session new) ∙ h.after;
-      valid = words_valid r.session after (bare new) e h.valid;
-      log = turn_logs (session_at ws) old t r new v.session h;
-      keeps = by_reply t.reply h.keeps;
-    }
-  where
-    is : session_at after ≡ r.session
-    is = session_of r.session after e
+module _ (ws : List ℕ) (old : Lent) (t : Turn) (r : LineResult) (new : Lent) (after : List ℕ) (v : ValidState ws (bare old))
+    (h : Turns (session_at ws) old t r new) (none-was : r.session.site ≡ None → (session_at ws).site ≡ None)
+    (e : after ≡ counters_after ws r.session.site) where
+  -- what they say, whether there is a site or not
+  after_by : (x : Held Site) → r.session.site ≡ x → after ≡ counters_after ws x → (session_at after ≡ r.session) × (words_again after ≡ after)
+  unfolding words_of
+  after_by (Some x) o k =
+      let w : after ≡ words_of r.session = k ∙ ap held_counters (sym o) in
+      (session_of r.session after w, (words_valid r.session after (bare new) w h.valid).words)
+  after_by None o k = (
+    ap session_at k ∙ (λ i. record { site = (none-was o ∙ sym o) i }),
+    subst (λ (x : List ℕ). words_again x ≡ x) (sym k) v.words,
+  )
 
-    by_reply : (o : Outcome) → Keeps o (session_at ws) old r new → KeepsAs o ws (bare old) after (bare new)
-    by_reply (Refused q) k = record { counters = e ∙ ap words_of k.session ∙ v.words; kept = ap bare k.kept }
-    by_reply (Accepted a) k =
-        subst (λ (x : Session). UnusedLeft (bare old) x (bare new)) (sym is)
-        (record { frame = k.frame; past_histories = k.past_histories })
+  said-session : session_at after ≡ r.session
+  said-session = (after_by r.session.site refl e).0
+
+  -- a session that is as it was has the counters that were
+  same-counters : r.session ≡ session_at ws → after ≡ ws
+  same-counters k = by_site r.session.site refl e
+    where
+      by_site : (x : Held Site) → r.session.site ≡ x → after ≡ counters_after ws x → after ≡ ws
+      by_site (Some x) o z = z ∙ opened-words ws x v.words (sym (ap (λ (y : Session). y.site) k) ∙ o)
+      by_site None o z = z
+
+  pub takes : Takes ws (bare old) t after (bare new)
+  takes =
+      record {
+        state = ap (λ (x : Session). session_view x (bare new)) said-session ∙ sym (view-bare r.session new) ∙ h.after;
+        valid = record {
+          words = (after_by r.session.site refl e).1;
+          session = subst (λ (x : Session). ValidSession x (bare new)) (sym said-session) h.valid;
+        };
+        log = turn_logs (session_at ws) old t r new v.session h;
+        keeps = by_reply t.reply h.keeps;
+      }
+    where
+      by_reply : (o : Outcome) → Keeps o (session_at ws) old r new → KeepsAs o ws (bare old) after (bare new)
+      by_reply (Refused q) k = record { counters = same-counters k.session; kept = ap bare k.kept }
+      by_reply (Accepted a) k =
+          subst (λ (x : Session). UnusedLeft (bare old) x (bare new)) (sym said-session)
+          (record { frame = k.frame; past_histories = k.past_histories })
 
 -- .. with its reply written
 answers : (ws : List ℕ) (old : Lent) (t : Turn) (r : LineResult) (new : Lent) (after out page : List ℕ) (n : ℕ) →
-    ValidState ws (bare old) → Turns (session_at ws) old t r new → after ≡ words_of r.session →
+    ValidState ws (bare old) → Turns (session_at ws) old t r new → (r.session.site ≡ None → (session_at ws).site ≡ None) →
+    after ≡ counters_after ws r.session.site →
     Wrote out 0 (with_end (outcome_text (outcome_of (replied r.reply new.lists)))) n page →
     Answers ws (bare old) t n after (bare new) out page
 unfolding ended placed
-answers ws old t r new after out page n v h e w =
+answers ws old t r new after out page n v h o e w =
     record {
-      takes = takes ws old t r new after v h e;
+      takes = takes ws old t r new after v h o e;
       reply = fronts (subst (λ (o : Outcome). Wrote out 0 (with_end (outcome_text o)) n page) h.answer.outcome w);
     }
   where
@@ -74,20 +142,26 @@ answers ws old t r new after out page n v h e w =
 -- A line is answered where there is room for the longest reply.
 pub answers-line : (s : Session) (ws : List ℕ) (old : Lent) (line : List ℕ) (r : LineResult) (new : Lent) (after out page : List ℕ)
     (n : ℕ) → s ≡ session_at ws → reply_limit ≤ length out → ValidState ws (bare old) → TurnsLine s old line r new →
-    after ≡ words_of r.session → Wrote out 0 (with_end (outcome_text (outcome_of (replied r.reply new.lists)))) n page →
+    after ≡ counters_after ws r.session.site → Wrote out 0 (with_end (outcome_text (outcome_of (replied r.reply new.lists)))) n page →
     AnswersIfRoom ws (bare old) (turn (length old.log) line (state_at ws (bare old))) n after (bare new) out page
 answers-line s ws old line r new after out page n is room v h e w =
     subst (λ (b : Bool). AnswersIf b ws (bare old) t n after (bare new) out page) (sym (le-leb reply_limit (length out) room))
-    (answers ws old t r new after out page n v turns e w)
+    (answers ws old t r new after out page n v turns closed e w)
   where
     t : Turn
     t = turn (length old.log) line (state_at ws (bare old))
+
+    own : TurnsLine (session_at ws) old line r new
+    own = subst (λ (x : Session). TurnsLine x old line r new) is h
 
     turns : Turns (session_at ws) old t r new
     turns =
         subst (λ (x : Turn). Turns (session_at ws) old x r new)
         (ap (λ (x : Option State). turn (length old.log) line x) (view-bare (session_at ws) old))
-        (subst (λ (x : Session). TurnsLine x old line r new) is h)
+        own
+
+    closed : r.session.site ≡ None → (session_at ws).site ≡ None
+    closed = had_none (length old.log) line (session_at ws) old r new own
 
 -- Too little room.
 pub answers-short : (ws : List ℕ) (old : Lent) (t : Turn) (out : List ℕ) → length out < reply_limit
@@ -99,11 +173,10 @@ answers-short ws old t out short =
 -- ### The bytes in use
 
 -- The bytes in use are those of the specification's log.
-pub used_is : (s : Session) (ws : List ℕ) (m : Lent) → s ≡ session_at ws → ValidState ws m →
-    used_if s.opened s.site ≡ used_by (state_at ws m)
+pub used_is : (ws : List ℕ) (m : Lent) → ValidState ws m → used_of (session_at ws).site ≡ used_by (state_at ws m)
 unfolding used_by
-used_is s ws m is v = ap (λ (x : Session). used_if x.opened x.site) is ∙ by_opened (session_at ws).opened refl
+used_is ws m v = by_site (session_at ws).site v.session
   where
-    by_opened : (b : Bool) → b ≡ (session_at ws).opened → used_if b (session_at ws).site ≡ used_by (view_if b (session_at ws).site m)
-    by_opened true e = site_used (session_at ws).site m (v.session.site (sym e))
-    by_opened false e = refl
+    by_site : (h : Held Site) → ValidOpened h m.log m.rows m.order m.book → used_of h ≡ used_by (view_of h m)
+    by_site (Some x) o = site_used x m (o.site x refl)
+    by_site None o = refl

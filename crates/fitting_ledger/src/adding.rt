@@ -4,7 +4,7 @@ ghost use Rattle.fitting_ledger.specs.Model.{ValidState};
 ghost use Rattle.fitting_ledger.specs.Adding.{PerformsAdd};
 
 use super::answer::put_call;
-use super::counters::{Counters, session_at};
+use super::counters::{Counters, site_in};
 use call_words::adding::{Updates, held_in, rules_known};
 use call_words::answer::Answer;
 use call_words::{OUT_OF_TURN, UNREADABLE};
@@ -30,15 +30,13 @@ pub fn fl_add_parts(
     ensures { PerformsAdd counters.old (lent log.now rows.old order.now book.old numbers.old) id count updates.now result counters.new
         (lent log.now rows.new order.now book.new numbers.new) answer.old answer.new }
 {
-    if rules_known(updates) {
-        let asked = held_in(updates, count);
-        let s = session_at(counters);
-        if s.opened {
-            let site = s.site;
-            let r = site.add(log, rows, order, book, numbers, id, asked);
-            return put_call(counters, answer, r);
-        }
-        return OUT_OF_TURN;
+    if !rules_known(updates) {
+        return UNREADABLE;
     }
-    UNREADABLE
+    let Some(site) = site_in(counters) else {
+        return OUT_OF_TURN;
+    };
+    let asked = held_in(updates, count);
+    let r = site.add(log, rows, order, book, numbers, id, asked);
+    put_call(counters, answer, r)
 }

@@ -1,12 +1,13 @@
 // Calls of an open site on numbers, whose replies have lists: 0, or the number of the refusal. The lists stand in `numbers`, the second
-// behind the first; `answer` has the rest of the reply. A refusal changes neither.
+// behind the first; `answer` has the rest of the reply. A refusal changes neither. The calls here and in `plain_calls` are alike, and
+// functions of their own, since C calls each by its name.
 ghost use Rattle.rules.specs.Calls.{Call};
 ghost use Rattle.site.specs.Model.{received, lent};
 ghost use Rattle.fitting_ledger.specs.Model.{ValidState};
 ghost use Rattle.fitting_ledger.specs.Calls.{PerformsCall};
 
 use super::answer::put_call;
-use super::counters::{Counters, session_at};
+use super::counters::{Counters, site_in};
 use call_words::OUT_OF_TURN;
 use call_words::answer::Answer;
 use forms::{LogNumber, ReplyNumbers};
@@ -29,13 +30,11 @@ pub fn fl_finish_parts(
     ensures { PerformsCall counters.old (lent log.old rows.old order.old book.old numbers.old) (Call.Finish id) result counters.new
         (lent log.new rows.new order.new book.new numbers.new) answer.old answer.new }
 {
-    let s = session_at(counters);
-    if s.opened {
-        let site = s.site;
-        let r = site.finish(log, rows, order, book, numbers, id);
-        return put_call(counters, answer, r);
-    }
-    OUT_OF_TURN
+    let Some(site) = site_in(counters) else {
+        return OUT_OF_TURN;
+    };
+    let r = site.finish(log, rows, order, book, numbers, id);
+    put_call(counters, answer, r)
 }
 
 // Withdraws a future operation.
@@ -53,13 +52,11 @@ pub fn fl_withdraw_parts(
     ensures { PerformsCall counters.old (lent log.now rows.now order.old book.old numbers.old) (Call.Withdraw id) result counters.new
         (lent log.now rows.now order.new book.new numbers.new) answer.old answer.new }
 {
-    let s = session_at(counters);
-    if s.opened {
-        let site = s.site;
-        let r = site.withdraw(log, rows, order, book, numbers, id);
-        return put_call(counters, answer, r);
-    }
-    OUT_OF_TURN
+    let Some(site) = site_in(counters) else {
+        return OUT_OF_TURN;
+    };
+    let r = site.withdraw(log, rows, order, book, numbers, id);
+    put_call(counters, answer, r)
 }
 
 // Makes the first n operations persistent.
@@ -77,13 +74,11 @@ pub fn fl_persistent_parts(
     ensures { PerformsCall counters.old (lent log.now rows.now order.old book.old numbers.old) (Call.Persistent n) result counters.new
         (lent log.now rows.now order.new book.new numbers.new) answer.old answer.new }
 {
-    let s = session_at(counters);
-    if s.opened {
-        let site = s.site;
-        let r = site.persistent(log, rows, order, book, numbers, LogNumber(n));
-        return put_call(counters, answer, r);
-    }
-    OUT_OF_TURN
+    let Some(site) = site_in(counters) else {
+        return OUT_OF_TURN;
+    };
+    let r = site.persistent(log, rows, order, book, numbers, LogNumber(n));
+    put_call(counters, answer, r)
 }
 
 // Makes the first n operations stable.
@@ -101,13 +96,11 @@ pub fn fl_stable_parts(
     ensures { PerformsCall counters.old (lent log.old rows.now order.now book.old numbers.old) (Call.Stable n) result counters.new
         (lent log.new rows.now order.now book.new numbers.new) answer.old answer.new }
 {
-    let s = session_at(counters);
-    if s.opened {
-        let site = s.site;
-        let r = site.stable(log, rows, order, book, numbers, LogNumber(n));
-        return put_call(counters, answer, r);
-    }
-    OUT_OF_TURN
+    let Some(site) = site_in(counters) else {
+        return OUT_OF_TURN;
+    };
+    let r = site.stable(log, rows, order, book, numbers, LogNumber(n));
+    put_call(counters, answer, r)
 }
 
 // Ends restoring.
@@ -124,11 +117,9 @@ pub fn fl_end_parts(
     ensures { PerformsCall counters.old (lent log.now rows.now order.now book.now numbers.old) Call.End result counters.new
         (lent log.now rows.now order.now book.now numbers.new) answer.old answer.new }
 {
-    let s = session_at(counters);
-    if s.opened {
-        let site = s.site;
-        let r = site.end(log, rows, order, book, numbers);
-        return put_call(counters, answer, r);
-    }
-    OUT_OF_TURN
+    let Some(site) = site_in(counters) else {
+        return OUT_OF_TURN;
+    };
+    let r = site.end(log, rows, order, book, numbers);
+    put_call(counters, answer, r)
 }

@@ -1,34 +1,21 @@
 // The card of the last W lines of the site's log (02 (j)), counted afresh whenever it is asked for.
-ghost use Rattle.std.specs.Prelude.{◌≡◌, []};
+ghost use Rattle.std.specs.Prelude.{[]};
 ghost use Rattle.site.specs.Model.{received, lent};
 ghost use Rattle.fitting_ledger.specs.Model.{ValidState, state_at};
-ghost use Rattle.fitting_ledger.specs.Cards.{made_number, made_lines, CardsState};
+ghost use Rattle.fitting_ledger.specs.Cards.{CardsState};
 
-use super::counters::{Counters, session_at};
+use super::counters::{Counters, site_in};
 use call_words::OUT_OF_TURN;
+use call_words::said::put_said;
+use card::Card;
 use card::counts::{Counts, ROW};
-use card::{Card, Made};
 use forms::limits::HISTORIES;
-use forms::writer::refusal_number;
 use history::book::BookWords;
 use table::order::Order;
 use table::rows::Rows;
 
 // How many counts a card has: inc, set and not of each history.
 pub const CARD_WORDS: usize = HISTORIES * ROW;
-
-// 0 for a card, and `lines` is how many lines count; or the number of the refusal.
-fn put_lines(lines: &mut usize, r: Made) -> u64
-    ensures { (result ≡ made_number r) × (lines.new ≡ made_lines r lines.old) }
-{
-    match r {
-        Made::Counted(c) => {
-            *lines = c.lines;
-            0
-        }
-        Made::Refused(q) => refusal_number(q),
-    }
-}
 
 // Counts the card of the last w lines of the log: 0, the counts of the site's histories are the card's, and `lines` is how many lines
 // count; or the number of the refusal. Nothing else changes.
@@ -46,12 +33,9 @@ pub fn fl_card_parts(
     ensures { CardsState w (state_at counters.now (lent log.now rows.now order.now book.now [])) counts.old lines.old result
         counts.new lines.new }
 {
-    let s = session_at(counters);
-    if s.opened {
-        let site = s.site;
-        let used = site.used;
-        let made = Card::afresh(w, &log[..used], site.count, site.head, counts);
-        return put_lines(lines, made);
-    }
-    OUT_OF_TURN
+    let Some(site) = site_in(counters) else {
+        return OUT_OF_TURN;
+    };
+    let made = Card::afresh(w, &log[..site.used], site.count, site.head, counts);
+    put_said(lines, made.map(|c| c.lines))
 }

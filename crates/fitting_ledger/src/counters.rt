@@ -1,6 +1,7 @@
 // A session's counters in words: from call to call they stand in an array that is lent.
 ghost use Rattle.std.specs.Prelude.{◌≡◌};
-ghost use Rattle.fitting_ledger.specs.Counters.{session_at, words_of};
+ghost use Rattle.call_words.specs.Counters.{site_at};
+ghost use Rattle.fitting_ledger.specs.Counters.{session_at, site_counters, counters_after};
 
 use call_words::bit;
 use forms::LogNumber;
@@ -15,15 +16,12 @@ pub const COUNTERS: usize = 13;
 
 pub type Counters = [u64; COUNTERS];
 
-// The session whose counters these are.
-pub fn session_at(words: &Counters) -> Session
-    ensures { result ≡ session_at words.now }
+// The site whose counters these are, if it is open.
+#[tactic(auto, unfolding(call_words::specs::Counters::site_at))]
+fn site_at(words: &Counters) -> Site
+    ensures { result ≡ site_at words.now }
 {
-    let table = Table {
-        finished: words[11] as usize,
-        queue: words[12] as usize,
-    };
-    let site = Site {
+    Site {
         count: words[1] as usize,
         used: words[2] as usize,
         head: words[3] as usize,
@@ -34,45 +32,65 @@ pub fn session_at(words: &Counters) -> Session
         left: LogNumber(words[8]),
         restoring: words[9] == 1,
         reserved: words[10] as usize,
-        table,
-    };
-    Session {
-        opened: words[0] == 1,
-        site,
+        table: Table {
+            finished: words[11] as usize,
+            queue: words[12] as usize,
+        },
     }
 }
 
-// The counters of a session.
-fn words_of(s: Session) -> Counters
-    ensures { result ≡ words_of s }
+// The session whose counters these are.
+#[tactic(auto, unfolding(crate::specs::Counters::session_at))]
+pub fn session_at(words: &Counters) -> Session
+    ensures { result ≡ session_at words.now }
 {
-    let site = s.site;
-    let table = site.table;
-    let base = site.base;
-    let done = site.done;
-    let persistent = site.persistent;
-    let stable = site.stable;
-    let left = site.left;
+    let site = site_at(words);
+    Session {
+        site: if words[0] == 1 { Some(site) } else { None },
+    }
+}
+
+// The site that is open, if one is.
+pub(crate) fn site_in(words: &Counters) -> Option<Site>
+    ensures { result ≡ (session_at words.now).site }
+{
+    session_at(words).site
+}
+
+// The counters of an open site.
+#[tactic(auto, unfolding(call_words::specs::Counters::site_words))]
+pub(crate) fn words_of(site: Site) -> Counters
+    ensures { result ≡ site_counters site }
+{
     [
-        bit(s.opened),
+        1,
         site.count as u64,
         site.used as u64,
         site.head as u64,
-        base.0,
-        done.0,
-        persistent.0,
-        stable.0,
-        left.0,
+        site.base.0,
+        site.done.0,
+        site.persistent.0,
+        site.stable.0,
+        site.left.0,
         bit(site.restoring),
         site.reserved as u64,
-        table.finished as u64,
-        table.queue as u64,
+        site.table.finished as u64,
+        site.table.queue as u64,
     ]
 }
 
-// The counters become those of a session.
-pub(crate) fn put_session(words: &mut Counters, s: Session)
-    ensures { words.new ≡ words_of s }
+// The counters become those of an open site.
+pub(crate) fn put_site(words: &mut Counters, site: Site)
+    ensures { words.new ≡ site_counters site }
 {
-    *words = words_of(s);
+    *words = words_of(site);
+}
+
+// .. or, without a site, stay as they are.
+pub(crate) fn put_session(words: &mut Counters, s: Session)
+    ensures { words.new ≡ counters_after words.old s.site }
+{
+    if let Some(site) = s.site {
+        put_site(words, site);
+    }
 }

@@ -5,7 +5,7 @@ ghost use Rattle.site.specs.Model.{received, lent};
 ghost use Rattle.call_words.specs.Used.{used_by};
 ghost use Rattle.fitting_ledger.specs.Model.{ValidState, state_at, AnswersIfRoom};
 
-use super::counters::{Counters, put_session, session_at};
+use super::counters::{Counters, put_session, session_at, site_in};
 use call_words::text::put_reply;
 use forms::limits::{LIVE, REPLY_BYTES, UPDATES};
 use history::book::BookWords;
@@ -34,10 +34,8 @@ pub fn fl_line_parts(
     let mut lists = [0u64; UPDATES + LIVE];
     let s = session_at(counters);
     let t = s.turn(log, rows, order, book, &mut lists, line);
-    let session = t.session;
-    let reply = t.reply;
-    put_session(counters, session);
-    put_reply(out, reply, &lists)
+    put_session(counters, t.session);
+    put_reply(out, t.reply, &lists)
 }
 
 // How many bytes of the log are in use: 0 "before site".
@@ -51,7 +49,8 @@ pub fn fl_log_used_parts(
     requires { ValidState counters.now (received log.now rows.now order.now book.now) }
     ensures { result ≡ used_by (state_at counters.now (lent log.now rows.now order.now book.now [])) }
 {
-    let s = session_at(counters);
-    let site = s.site;
-    if s.opened { site.used } else { 0 }
+    match site_in(counters) {
+        Some(site) => site.used,
+        None => 0,
+    }
 }

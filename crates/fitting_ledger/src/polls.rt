@@ -4,7 +4,7 @@ ghost use Rattle.site.specs.Model.{received, lent};
 ghost use Rattle.fitting_ledger.specs.Model.{ValidState, state_at};
 ghost use Rattle.fitting_ledger.specs.Polls.{poll_of};
 
-use super::counters::{Counters, session_at};
+use super::counters::{Counters, site_in};
 use call_words::OUT_OF_TURN;
 use call_words::polls::poll_number;
 use history::book::BookWords;
@@ -23,11 +23,8 @@ pub fn fl_poll_parts(
     requires { ValidState counters.now (received log.now rows.now order.now book.now) }
     ensures { result ≡ poll_of (state_at counters.now (lent log.now rows.now order.now book.now [])) history }
 {
-    let s = session_at(counters);
-    if s.opened {
-        let site = s.site;
-        let p = site.poll(book, history);
-        return poll_number(p);
-    }
-    OUT_OF_TURN
+    let Some(site) = site_in(counters) else {
+        return OUT_OF_TURN;
+    };
+    poll_number(site.poll(book, history))
 }

@@ -6,29 +6,24 @@ ghost use Rattle.call_words.specs.Answers.{form_number};
 ghost use Rattle.fitting_ledger.specs.Counters.{words_of};
 ghost use Rattle.fitting_ledger.specs.Model.{begun_as, Begins};
 
-use super::counters::{Counters, put_session};
+use super::counters::{COUNTERS, Counters, words_of};
 use call_words::answer::reply_number;
 use history::book::BookWords;
-use session::Session;
 use site::{CallResult, Site};
 use table::order::Order;
 use table::rows::Rows;
 
 // The counters of the site that was opened; "before site" where it was refused.
+#[tactic(auto, unfolding(crate::specs::Counters::words_of))]
 fn begin(words: &mut Counters, c: CallResult) -> u64
     ensures { (result ≡ form_number c.reply.form) × (words.new ≡ words_of (begun_as (form_number c.reply.form) c.site)) }
 {
-    let site = c.site;
-    let reply = c.reply;
-    let form = reply.form;
-    let n = reply_number(form);
-    put_session(
-        words,
-        Session {
-            opened: n == 0,
-            site,
-        },
-    );
+    let n = reply_number(c.reply.form);
+    *words = if n == 0 {
+        words_of(c.site)
+    } else {
+        [0; COUNTERS]
+    };
     n
 }
 

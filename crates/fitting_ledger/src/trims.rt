@@ -4,9 +4,9 @@ ghost use Rattle.site.specs.Model.{received, lent};
 ghost use Rattle.fitting_ledger.specs.Model.{ValidState};
 ghost use Rattle.fitting_ledger.specs.Trims.{TrimsState};
 
-use super::counters::{Counters, session_at};
+use super::counters::{Counters, site_in};
 use call_words::OUT_OF_TURN;
-use call_words::trims::put_used;
+use call_words::said::put_said;
 use forms::LogNumber;
 use history::book::BookWords;
 use table::order::Order;
@@ -29,11 +29,9 @@ pub fn fl_trim_parts(
     ensures { TrimsState counters.now (lent log.now rows.now order.now book.now []) n fresh.old result fresh.new
         used.old used.new }
 {
-    let s = session_at(counters);
-    if s.opened {
-        let site = s.site;
-        let c = trim(site, log, LogNumber(n), fresh);
-        return put_used(used, c);
-    }
-    OUT_OF_TURN
+    let Some(site) = site_in(counters) else {
+        return OUT_OF_TURN;
+    };
+    let copied = trim(site, log, LogNumber(n), fresh);
+    put_said(used, copied)
 }

@@ -3,7 +3,7 @@ use Rattle.std.specs.Prelude.{ℕ, ◌≡◌, refl, Bool, true, false, List, len
 use Rattle.std.proofs.Common.{subst}
 use Rattle.std.proofs.Math.Option.{Option, some}
 use Rattle.forms.specs.Refusals.{number_of}
-use Rattle.forms.specs.declared.AskedHeld.{AskedHeld}
+use Rattle.forms.specs.Held.{AskedHeld}
 use Rattle.forms.specs.declared.Refusal.TheVariants.{Unreadable}
 use Rattle.rules.specs.State.{Reply, refused, ok}
 use Rattle.rules.specs.Calls.{Call}

@@ -1,6 +1,7 @@
 -- What a line's reading gives is the call that the line is: with what is held of its updates, and with the bytes of its did line.
 use Rattle.std.specs.Prelude.{ℕ, ◌-◌, ◌≤◌, ◌≡◌, refl, Bool, not, List, [], ◌++◌, length, take, T}
-use Rattle.std.proofs.Common.{arith, ap, subst, ◌∙◌, length-append}
+use Rattle.std.specs.Prelude.{Option as Answer, Some}
+use Rattle.std.proofs.Common.{arith, ap, subst, sym, ◌∙◌, length-append}
 use Rattle.std.proofs.Math.Option.{Option, none, some}
 use Rattle.std.proofs.Math.Seq.{take-append_seam}
 use Rattle.forms.specs.Decimal.{Step, top}
@@ -11,12 +12,12 @@ use Rattle.forms.specs.Forms.{Update, Command, SiteOf, Add, Finish, Withdraw, Pe
 use Rattle.forms.specs.Forms.{Did, did_text, redo_text, command_text}
 use Rattle.forms.specs.Held.{held_updates}
 use Rattle.forms.specs.Reading.{read_command}
-use Rattle.forms.specs.Read.{command_answer}
+use Rattle.forms.specs.Read.{answer_of, command_answer}
 use Rattle.forms.specs.Writable.{WritableCommand}
 use Rattle.forms.specs.CommandLaws.{command_read}
-use Rattle.fitting_module.specs.CommandSaid.{command_of, command_said}
+use Rattle.fitting_module.specs.CommandSaid.{command_said}
 use Rattle.forms.specs.declared.reader.CommandForm.{CommandForm}
-use Rattle.forms.specs.declared.reader.CommandRead.{CommandRead}
+use Rattle.forms.specs.declared.DidLine.{DidLine}
 use Rattle.forms.specs.declared.Refusal.TheVariants.{Unreadable, OutOfTurn}
 use Rattle.rules.specs.Checks.{check}
 use Rattle.rules.specs.State.{State, Reply, refused}
@@ -62,13 +63,24 @@ pub redo-bytes : (line : List ℕ) (d : Did) (rest : List ℕ) → read_command 
 unfolding command_text redo_text
 redo-bytes line d rest e = ap did_in (command_read line (Redo d) rest e).0 ∙ between (did_text d)
 
-pub redo_long : (line : List ℕ) (c : CommandRead) → c ≡ command_answer (read_command line) → c.form ≡ CommandForm.Redo →
-    7 ≤ length line
+pub redo_long : (line : List ℕ) (c : CommandForm) → Some c ≡ command_answer (read_command line) → (q : DidLine) →
+    c ≡ CommandForm.Redo q → 7 ≤ length line
 unfolding command_text redo_text
-redo_long line c e f =
-    let k = command_said line c e in
-    let z = ap length (command_read line (Redo k.d) [] (k.read ∙ ap (λ (x : CommandForm). command_of x k.us k.d) f)).0 in
-    omega (arith, z, length-append (bytes "(redo ") (did_text k.d ++ bytes ")"), length-append (did_text k.d) (bytes ")"))
+redo_long line c e q f = let k = command_said line c e in go k.command k.read (sym k.form ∙ f)
+  where
+    go : (x : Command) → read_command line ≡ got x [] → answer_of x ≡ CommandForm.Redo q → 7 ≤ length line
+    go (Redo d) p g =
+        let z = ap length (command_read line (Redo d) [] p).0 in
+        omega (arith, z, length-append (bytes "(redo ") (did_text d ++ bytes ")"), length-append (did_text d) (bytes ")"))
+    go (SiteOf n) p g = absurd (cc)
+    go (Add i us) p g = absurd (cc)
+    go (Finish i) p g = absurd (cc)
+    go (Withdraw i) p g = absurd (cc)
+    go (Persistent n) p g = absurd (cc)
+    go (Stable n) p g = absurd (cc)
+    go (Show h) p g = absurd (cc)
+    go (Cut k) p g = absurd (cc)
+    go End p g = absurd (cc)
 
 -- ### Every form
 
@@ -85,7 +97,7 @@ same_as x y s e = record { reply = ap (λ (z : Option Move). line_reply z s) e; 
 
 reads : (i room : ℕ) (line : List ℕ) (c : Command) (rest : List ℕ) (s : ModuleState) → WritableCommand c →
     read_command line ≡ got c rest →
-    SameCall (form_move i room line (command_answer (got c rest)).form (command_answer (got c rest)).asked) (some (move_of i room c)) s
+    SameCall (form_move i room line (command_answer (got c rest))) (some (move_of i room c)) s
 unfolding form_move command_answer line_reply line_next
 reads i room line (SiteOf n) rest s w e = same _ s
 reads i room line (Add id us) rest s w e =
@@ -102,29 +114,29 @@ reads i room line (Redo d) rest s w e =
 reads i room line End rest s w e = same _ s
 
 unread : (i room : ℕ) (line : List ℕ) (s : ModuleState) →
-    SameCall (form_move i room line (command_answer bad).form (command_answer bad).asked) none s
+    SameCall (form_move i room line (command_answer bad)) none s
 unfolding form_move command_answer
 unread i room line s = same _ s
 
 line_is : (i room : ℕ) (line : List ℕ) (s : ModuleState) →
-    let c : CommandRead = command_answer (read_command line) in SameCall (form_move i room line c.form c.asked) (line_move i room line) s
+    SameCall (form_move i room line (command_answer (read_command line))) (line_move i room line) s
 unfolding line_move
 line_is i room line s = go (read_command line) refl
   where
     go : (x : Step Command) → read_command line ≡ x →
-        SameCall (form_move i room line (command_answer x).form (command_answer x).asked) (move_in i room x) s
+        SameCall (form_move i room line (command_answer x)) (move_in i room x) s
     go (got c rest) e = reads i room line c rest s (command_read line c rest e).2 e
     go bad e = unread i room line s
 
 -- What is done for the form that was read is done for the line.
-pub obeys_line : (i : ℕ) (m : Module) (old : Lent) (line : List ℕ) (c : CommandRead) (r : ModuleResult) (new : Lent) →
+pub obeys_line : (i : ℕ) (m : Module) (old : Lent) (line : List ℕ) (c : Answer CommandForm) (r : ModuleResult) (new : Lent) →
     c ≡ command_answer (read_command line) → ObeysForm i m old line c r new → Obeys i m (line_move i (length old.log) line) old r new
 obeys_line i m old line c r new e h logs books v =
     let s = view_of m (around i old logs books) in
     let k = line_is i (length old.log) line s in
     subst (λ (y : Reply). DoesCall i m old logs books y (line_next (line_move i (length old.log) line) s) r new) k.reply
     (subst (λ (z : ModuleState). DoesCall i m old logs books (line_reply (by (command_answer (read_command line))) s) z r new) k.next
-    (subst (λ (x : CommandRead). ObeysForm i m old line x r new) e h logs books v))
+    (subst (λ (x : Answer CommandForm). ObeysForm i m old line x r new) e h logs books v))
   where
-    by : CommandRead → Option Move
-    by x = form_move i (length old.log) line x.form x.asked
+    by : Answer CommandForm → Option Move
+    by x = form_move i (length old.log) line x

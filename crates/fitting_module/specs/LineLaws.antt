@@ -1,5 +1,5 @@
 -- A call of a slot, with the module's counters put away and its reply written, is what the line asks for.
-use Rattle.std.specs.Prelude.{ℕ, ◌≤◌, ◌<◌, ◌≡◌, refl, Bool, List, [], ◌++◌, length, drop}
+use Rattle.std.specs.Prelude.{ℕ, ◌≤◌, ◌<◌, ◌≡◌, refl, Bool, List, [], ◌++◌, length, drop, Some}
 use Rattle.std.proofs.Common.{arith, sym, ap, subst, ◌∙◌, le-leb}
 use Rattle.std.proofs.Math.Option.{Option, none, some}
 use Rattle.std.proofs.lemmas.Bool.{lt-leb}
@@ -10,7 +10,6 @@ use Rattle.forms.specs.Write.{placed, Wrote, with_end}
 use Rattle.forms.specs.declared.Refusal.{Refusal}
 use Rattle.forms.specs.declared.Refusal.TheVariants.{Unreadable}
 use Rattle.forms.specs.declared.reader.CommandForm.{CommandForm}
-use Rattle.forms.specs.declared.reader.CommandRead.{CommandRead}
 use Rattle.rules.specs.State.{Reply, refused, ok}
 use Rattle.rules.specs.Log.{ended}
 use Rattle.compact.specs.Module.{Module as ModuleState, slot_at, Move, slot_of, reply_of, promise_of, settle_in, next_of}
@@ -51,10 +50,10 @@ unfolding line_reply line_next
 unread_obeys i m old r d logs books v = d
 
 -- What is asked of the form that was told: it is this call of the slot's.
-pub formed : (i : ℕ) (m : Module) (old : Lent) (line : List ℕ) (c : CommandRead) (r : ModuleResult) (new : Lent) (f : CommandForm) →
-    c.form ≡ f → Obeys i m (form_move i (length old.log) line f c.asked) old r new → ObeysForm i m old line c r new
+pub formed : (i : ℕ) (m : Module) (old : Lent) (line : List ℕ) (c : CommandForm) (r : ModuleResult) (new : Lent) (f : CommandForm) →
+    c ≡ f → Obeys i m (form_move i (length old.log) line (Some f)) old r new → ObeysForm i m old line (Some c) r new
 formed i m old line c r new f e h =
-    subst (λ (z : CommandForm). Obeys i m (form_move i (length old.log) line z c.asked) old r new) (sym e) h
+    subst (λ (z : CommandForm). Obeys i m (form_move i (length old.log) line (Some z)) old r new) (sym e) h
 
 -- A refused call leaves the module.
 pub stays : (x : Option Move) (s : ModuleState) (q : Refusal) → line_reply x s ≡ refused q → line_next x s ≡ s

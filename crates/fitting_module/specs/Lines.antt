@@ -1,14 +1,13 @@
 -- A line of a session, for a slot: which call of the module it is, and what its reply is.
 use Rattle.std.specs.Prelude.{ℕ, ◌-◌, ◌≡◌, Bool, true, false, List, leb, length, take, drop}
+use Rattle.std.specs.Prelude.{Option as Answer, Some, None}
 use Rattle.std.proofs.Math.Option.{Option, none, some}
 use Rattle.forms.specs.Decimal.{Step}
 use Rattle.forms.specs.Decimal.Step.{got, bad}
 use Rattle.forms.specs.Forms.{Command, outcome_text, did_text}
 use Rattle.forms.specs.Limits.{reply_limit}
 use Rattle.forms.specs.Reading.{read_command}
-use Rattle.forms.specs.declared.AskedHeld.{AskedHeld}
 use Rattle.forms.specs.declared.reader.CommandForm.{CommandForm}
-use Rattle.forms.specs.declared.reader.CommandRead.{CommandRead}
 use Rattle.forms.specs.declared.Refusal.TheVariants.{Unreadable}
 use Rattle.rules.specs.State.{Reply, refused, ok}
 use Rattle.rules.specs.Log.{ended}
@@ -89,18 +88,18 @@ abbrev pub did_in : List ℕ → List ℕ
 did_in line = take (length line - 1 - 6) (drop 6 line)
 
 -- The call of a form that was read, for every value that the code can have.
-unfoldable pub form_move : ℕ → ℕ → List ℕ → CommandForm → AskedHeld → Option Move
-form_move i room line CommandForm.Bad a = none
-form_move i room line (CommandForm.SiteOf n) a = some (Move.Open i n room)
-form_move i room line (CommandForm.Add id) a = some (Move.At i (Call.Add id (updates_held a)))
-form_move i room line (CommandForm.Finish id) a = some (Move.At i (Call.Finish id))
-form_move i room line (CommandForm.Withdraw id) a = some (Move.At i (Call.Withdraw id))
-form_move i room line (CommandForm.Persistent n) a = some (Move.At i (Call.Persistent n))
-form_move i room line (CommandForm.Stable n) a = some (Move.At i (Call.Stable n))
-form_move i room line (CommandForm.Show h) a = some (Move.At i (Call.Show h))
-form_move i room line (CommandForm.Cut k) a = some (Move.At i (Call.Cut k room))
-form_move i room line CommandForm.Redo a = some (Move.At i (Call.Redo (did_in line)))
-form_move i room line CommandForm.End a = some (Move.At i Call.End)
+unfoldable pub form_move : ℕ → ℕ → List ℕ → Answer CommandForm → Option Move
+form_move i room line None = none
+form_move i room line (Some (CommandForm.SiteOf n)) = some (Move.Open i n room)
+form_move i room line (Some (CommandForm.Add id asked)) = some (Move.At i (Call.Add id (updates_held asked)))
+form_move i room line (Some (CommandForm.Finish id)) = some (Move.At i (Call.Finish id))
+form_move i room line (Some (CommandForm.Withdraw id)) = some (Move.At i (Call.Withdraw id))
+form_move i room line (Some (CommandForm.Persistent n)) = some (Move.At i (Call.Persistent n))
+form_move i room line (Some (CommandForm.Stable n)) = some (Move.At i (Call.Stable n))
+form_move i room line (Some (CommandForm.Show h)) = some (Move.At i (Call.Show h))
+form_move i room line (Some (CommandForm.Cut k)) = some (Move.At i (Call.Cut k room))
+form_move i room line (Some (CommandForm.Redo d)) = some (Move.At i (Call.Redo (did_in line)))
+form_move i room line (Some CommandForm.End) = some (Move.At i Call.End)
 
 -- The module m, to which `old` was lent and is `new` after it, does what the specification replies to the call of slot i.
 abbrev pub DoesCall : ℕ → Module → Lent → (ℕ → List ℕ) → (ℕ → List ℕ) → Reply → ModuleState → ModuleResult → Lent → Type 0
@@ -113,5 +112,5 @@ Obeys i m x old r new =
     DoesCall i m old logs books (line_reply x (view_of m (around i old logs books))) (line_next x (view_of m (around i old logs books))) r new
 
 -- .. of the form that was read
-abbrev pub ObeysForm : ℕ → Module → Lent → List ℕ → CommandRead → ModuleResult → Lent → Type 0
-ObeysForm i m old line c r new = Obeys i m (form_move i (length old.log) line c.form c.asked) old r new
+abbrev pub ObeysForm : ℕ → Module → Lent → List ℕ → Answer CommandForm → ModuleResult → Lent → Type 0
+ObeysForm i m old line c r new = Obeys i m (form_move i (length old.log) line c) old r new

@@ -8,7 +8,7 @@ use Rattle.site.specs.Model.{Lent}
 use Rattle.module.specs.declared.Module.{Module}
 use Rattle.module.specs.Parts.{part_room, part_of}
 use Rattle.module.specs.Model.{slot_in, live_in, held_in, Memory, ValidModule, view_of, around}
-use Rattle.fitting_module.specs.Words.{Words, words, module_at, words_in}
+use Rattle.fitting_module.specs.Words.{Words, module_at, words_in}
 
 -- ### The state
 

@@ -1,11 +1,11 @@
 -- The poll of a history of a slot's site, in a number.
-use Rattle.std.specs.Prelude.{ℕ, ◌≡◌, List}
+use Rattle.std.specs.Prelude.{ℕ, ◌≡◌, List, Option}
 use Rattle.std.proofs.Common.{sym, ap, subst, ◌∙◌}
 use Rattle.compact.specs.Module.{slot_at}
 use Rattle.site.specs.Model.{Lent}
 use Rattle.session.specs.Polls.{polled_number}
 use Rattle.module.specs.declared.Module.{Module}
-use Rattle.module.specs.declared.poll.SlotPoll.{SlotPoll}
+use Rattle.site.specs.declared.poll.PollAnswer.{PollAnswer}
 use Rattle.module.specs.Polls.{slot_polled, poll_at, ValidBook, PollsIn}
 use Rattle.module.specs.Model.{around}
 use Rattle.fitting_module.specs.Words.{Words, module_at}
@@ -23,7 +23,8 @@ module _ (ws : Words) (i : ℕ) (m : Lent) (c : Module) (is : c ≡ module_at ws
   poll_valid (logs, books, v) =
       subst (λ (k : Module). ValidBook k i m.book) (sym is) (m.log, m.rows, m.order, logs, books, v.valid)
 
-  pub polls_slot : (h : ℕ) (p : SlotPoll) (n : ℕ) → PollsIn c i m.book h p → n ≡ polled_number (slot_polled p) → PollsSlot ws i m h n
+  pub polls_slot : (h : ℕ) (p : Option PollAnswer) (n : ℕ) → PollsIn c i m.book h p → n ≡ polled_number (slot_polled p) →
+      PollsSlot ws i m h n
   polls_slot h p n P e logs books v =
       e
       ∙ ap polled_number (subst (λ (k : Module). PollsIn k i m.book h p) is P m.log m.rows m.order logs books v.valid)

@@ -1,21 +1,22 @@
 -- A copy of a slot's log, with a base line in place of its first operations.
-use Rattle.std.specs.Prelude.{ℕ, ◌≤◌, ◌≡◌, true, false, List, []}
+use Rattle.std.specs.Prelude.{ℕ, ◌≤◌, ◌≡◌, true, false, Result, List, []}
 use Rattle.std.proofs.Common.{arith, sym, ap, ◌∙◌}
 use Rattle.std.proofs.Math.Path.{refl, subst}
 use Rattle.std.proofs.Math.Option.{Option, some}
 use Rattle.forms.specs.Refusals.{number_of}
+use Rattle.forms.specs.declared.Refusal.{Refusal}
 use Rattle.forms.specs.declared.Refusal.TheVariants.{OutOfTurn}
 use Rattle.rules.specs.State.{State}
 use Rattle.rules.specs.Trim.{trim}
 use Rattle.compact.specs.Module.{slot_at}
 use Rattle.site.specs.Model.{Lent, lent, view, Valid, ValidLog}
-use Rattle.trim.specs.declared.Copied.{Copied}
 use Rattle.trim.specs.Model.{CopiesLog}
 use Rattle.module.specs.declared.Module.{Module}
 use Rattle.module.specs.Parts.{part_of}
 use Rattle.module.specs.Model.{slot_in, live_in, view_of, around, ValidModule}
 use Rattle.module.specs.CallLaws.{site-some, site_none, past_last, gathers_none, li, valid_lent, view-lent}
-use Rattle.call_words.specs.Trims.{copied_number, trim_number, copied_used, trim_used, trim_of, Trims, trims}
+use Rattle.call_words.specs.Said.{said_number, said_value}
+use Rattle.call_words.specs.Trims.{trim_number, trim_used, trim_of, Trims, trims}
 use Rattle.fitting_module.specs.Words.{Words, module_at}
 use Rattle.fitting_module.specs.Model.{state_at, ValidWords, ValidState}
 
@@ -55,8 +56,8 @@ module _ (ws : Words) (i : ℕ) (m : Lent) (c : Module) (is : c ≡ module_at ws
   log_valid (logs, books, v) on = (own.rows, own.order, own.book, own_valid logs books v on)
 
   -- A copy of an open slot's log.
-  pub trims_opened : (n : ℕ) (old : List ℕ) (k : Copied) (new : List ℕ) (r before after : ℕ) → (slot_in c.slots i).opened ≡ true →
-      CopiesLog (slot_in c.slots i).site m.log n old k new → r ≡ copied_number k → after ≡ copied_used k before →
+  pub trims_opened : (n : ℕ) (old : List ℕ) (k : Result ℕ Refusal) (new : List ℕ) (r before after : ℕ) → (slot_in c.slots i).opened ≡ true →
+      CopiesLog (slot_in c.slots i).site m.log n old k new → r ≡ said_number k → after ≡ said_value k before →
       TrimsSlot ws i m n old r new before after
   unfolding trim_of
   trims_opened n old k new r before after on h e f logs books v =

@@ -35,11 +35,11 @@ pub fn fm_add_parts(
         id count updates.now result
         (words first.new second.new third.new fourth.new) (lent log.now rows.new numbers.new book.new lists.new) answer.old answer.new }
 {
-    if rules_known(updates) {
-        let asked = held_in(updates, count);
-        let m = module_at(first, second, third, fourth);
-        let r = m.add(slot, log, rows, numbers, book, lists, id, asked);
-        return put_call(first, second, third, fourth, answer, r);
+    if !rules_known(updates) {
+        return UNREADABLE;
     }
-    UNREADABLE
+    let asked = held_in(updates, count);
+    let m = module_at(first, second, third, fourth);
+    let r = m.add(slot, log, rows, numbers, book, lists, id, asked);
+    put_call(first, second, third, fourth, answer, r)
 }

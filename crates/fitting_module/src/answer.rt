@@ -19,8 +19,6 @@ pub(crate) fn put_call(
     requires { length r.after.slots ≡ 4 }
     ensures { PutsCall r result (words first.new second.new third.new fourth.new) answer.old answer.new }
 {
-    let after = r.after;
-    let reply = r.reply;
-    put_module(first, second, third, fourth, after);
-    put_answer(answer, reply)
+    put_module(first, second, third, fourth, r.after);
+    put_answer(answer, r.reply)
 }

@@ -1,5 +1,6 @@
 // Calls of a slot on numbers, whose replies have lists: 0, or the number of the refusal. The lists stand in `lists`, the second behind the
-// first; `answer` has the rest of the reply. A refusal changes neither.
+// first; `answer` has the rest of the reply. A refusal changes neither. The calls here and in `plain_calls` are alike, and functions of
+// their own, since C calls each by its name.
 ghost use Rattle.rules.specs.Calls.{Call};
 ghost use Rattle.site.specs.Model.{received, lent};
 ghost use Rattle.fitting_module.specs.Model.{ValidState};

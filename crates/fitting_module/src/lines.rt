@@ -1,5 +1,6 @@
 // A line in, a reply out, and how much of a slot's log is in use.
-ghost use Rattle.std.specs.Prelude.{ℕ, ◌≤◌, ◌≡◌, List, [], length};
+ghost use Rattle.std.specs.Prelude.{ℕ, ◌≤◌, ◌≡◌, Some, List, [], length};
+ghost use Rattle.forms.specs.declared.DidLine.{DidLine};
 ghost use Rattle.forms.specs.declared.reader.CommandForm.{CommandForm};
 ghost use Rattle.rules.specs.Calls.{Call};
 ghost use Rattle.compact.specs.Module.{Move};
@@ -13,7 +14,7 @@ ghost use Rattle.fitting_module.specs.Used.{UsedIn};
 use super::words::{SlotWords, module_at, put_module};
 use call_words::text::put_reply;
 use forms::limits::{LIVE, REPLY_BYTES, UPDATES};
-use forms::reader::{CommandForm, CommandRead, read_command};
+use forms::reader::{CommandForm, read_command};
 use forms::{LogNumber, Refusal, ReplyNumbers};
 use history::book::BookWords;
 use module::{Module, ModuleResult};
@@ -26,7 +27,7 @@ pub type TableRows = [u64; Module::ENTRIES * ROW];
 // The numbers of its entries, in a part of 64 places for each slot.
 pub type EntryNumbers = [u8; 256];
 
-// A line that is refused before it comes to a slot.
+// A line that is refused before it comes to a slot, so that no call of the module says it.
 fn refused(m: Module, q: Refusal) -> ModuleResult
     ensures { (w : Lent) → RefusedIn m w q result w }
 {
@@ -65,19 +66,16 @@ fn call(
     book: &mut BookWords,
     lists: &mut ReplyNumbers,
     line: &[u8],
-    c: CommandRead,
+    c: CommandForm,
 ) -> ModuleResult
     requires valid_with { ValidWith m slot (received log.old rows.old numbers.old book.old) }
-    requires in_bounds { c.form ≡ CommandForm.Redo → 7 ≤ length line.now }
-    ensures { ObeysForm slot m (lent log.old rows.old numbers.old book.old lists.old) line.now c result
+    requires in_bounds { (d : DidLine) → c ≡ CommandForm.Redo d → 7 ≤ length line.now }
+    ensures { ObeysForm slot m (lent log.old rows.old numbers.old book.old lists.old) line.now (Some c) result
         (lent log.new rows.new numbers.new book.new lists.new) }
 {
-    let form = c.form;
-    let asked = c.asked;
-    match form {
-        CommandForm::Bad => refused(m, Refusal::Unreadable),
+    match c {
         CommandForm::SiteOf(n) => m.open(slot, log, book, n),
-        CommandForm::Add(i) => m.add(slot, log, rows, numbers, book, lists, i, asked),
+        CommandForm::Add(i, asked) => m.add(slot, log, rows, numbers, book, lists, i, asked),
         CommandForm::Finish(i) => m.finish(slot, log, rows, numbers, book, lists, i),
         CommandForm::Withdraw(i) => m.withdraw(slot, log, rows, numbers, book, lists, i),
         CommandForm::Persistent(n) => m.persistent(
@@ -92,7 +90,7 @@ fn call(
         CommandForm::Stable(n) => m.stable(slot, log, rows, numbers, book, lists, LogNumber(n)),
         CommandForm::Show(h) => m.show(slot, log, rows, numbers, book, h),
         CommandForm::Cut(k) => m.cut(slot, log, rows, numbers, book, k),
-        CommandForm::Redo => redo(m, slot, log, rows, numbers, book, line),
+        CommandForm::Redo(_) => redo(m, slot, log, rows, numbers, book, line),
         CommandForm::End => m.end(slot, log, rows, numbers, book, lists),
     }
 }
@@ -112,7 +110,9 @@ fn obey(
     ensures { Obeys slot m (line_move slot (length log.old) line.now) (lent log.old rows.old numbers.old book.old lists.old) result
         (lent log.new rows.new numbers.new book.new lists.new) }
 {
-    let c = read_command(line);
+    let Some(c) = read_command(line) else {
+        return refused(m, Refusal::Unreadable);
+    };
     call(m, slot, log, rows, numbers, book, lists, line, c)
 }
 
@@ -142,10 +142,8 @@ pub fn fm_line_parts(
     let mut lists = [0u64; UPDATES + LIVE];
     let m = module_at(first, second, third, fourth);
     let r = obey(m, slot, log, rows, numbers, book, &mut lists, line);
-    let after = r.after;
-    let reply = r.reply;
-    put_module(first, second, third, fourth, after);
-    put_reply(out, reply, &lists)
+    put_module(first, second, third, fourth, r.after);
+    put_reply(out, r.reply, &lists)
 }
 
 // How many bytes of a slot's log are in use: 0 where the slot is not open, and above the last slot.
@@ -164,14 +162,8 @@ pub fn fm_log_used_parts(
     ensures { UsedIn (words first.now second.now third.now fourth.now) slot (lent log.now rows.now numbers.now book.now []) result }
 {
     let m = module_at(first, second, third, fourth);
-    if slot < Module::SLOTS {
-        let slots = m.slots;
-        let own = slots[slot];
-        let site = own.site;
-        if own.opened {
-            return site.used;
-        }
+    if slot >= Module::SLOTS || !m.slots[slot].opened {
         return 0;
     }
-    0
+    m.slots[slot].site.used
 }

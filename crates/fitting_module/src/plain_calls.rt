@@ -1,4 +1,5 @@
-// Calls of a slot on numbers, whose replies have no lists: 0, or the number of the refusal.
+// Calls of a slot on numbers, whose replies have no lists: 0, or the number of the refusal. They are alike, and functions of their own,
+// since C calls each by its name.
 ghost use Rattle.std.specs.Prelude.{[], length};
 ghost use Rattle.rules.specs.Calls.{Call};
 ghost use Rattle.site.specs.Model.{received, lent};

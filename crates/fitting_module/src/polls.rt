@@ -12,15 +12,15 @@ use super::words::{SlotWords, module_at};
 use call_words::OUT_OF_TURN;
 use call_words::polls::poll_number;
 use history::book::BookWords;
-use module::poll::SlotPoll;
+use site::poll::PollAnswer;
 
-// The number for what a slot's poll says.
-fn slot_number(p: SlotPoll) -> u64
+// The number for what a slot's poll says: C is told numbers alone.
+fn slot_number(p: Option<PollAnswer>) -> u64
     ensures { result ≡ polled_number (slot_polled p) }
 {
     match p {
-        SlotPoll::NotOpened => OUT_OF_TURN,
-        SlotPoll::Site(a) => poll_number(a),
+        None => OUT_OF_TURN,
+        Some(a) => poll_number(a),
     }
 }
 
@@ -42,6 +42,5 @@ pub fn fm_poll_parts(
         result }
 {
     let m = module_at(first, second, third, fourth);
-    let p = m.poll(slot, book, history);
-    slot_number(p)
+    slot_number(m.poll(slot, book, history))
 }

@@ -11,9 +11,6 @@ use call_words::answer::reply_number;
 use history::book::BookWords;
 use module::Module;
 
-// Rows lent whole: there are as many as their type says.
-fn known_length(_rows: &[u64]) {}
-
 // A new module: no slot is open.
 pub fn fm_start_parts(
     first: &mut SlotWords,
@@ -25,9 +22,7 @@ pub fn fm_start_parts(
 )
     ensures { Starts (words first.new second.new third.new fourth.new) rows.now numbers.new }
 {
-    known_length(rows);
-    let m = Module::new(numbers);
-    put_module(first, second, third, fourth, m);
+    put_module(first, second, third, fourth, Module::new(numbers));
 }
 
 // "Restart takes the first K bytes": 0, or the number of the refusal. Whatever site the slot had is replaced, in this buffer or another; a
@@ -51,9 +46,6 @@ pub fn fm_restart_parts(
 {
     let m = module_at(first, second, third, fourth);
     let r = m.restart(slot, log, rows, numbers, book, kept);
-    let after = r.after;
-    let reply = r.reply;
-    let form = reply.form;
-    put_module(first, second, third, fourth, after);
-    reply_number(form)
+    put_module(first, second, third, fourth, r.after);
+    reply_number(r.reply.form)
 }

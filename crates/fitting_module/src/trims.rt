@@ -8,7 +8,7 @@ ghost use Rattle.fitting_module.specs.Trims.{TrimsSlot};
 use super::lines::{EntryNumbers, TableRows};
 use super::words::{SlotWords, module_at};
 use call_words::OUT_OF_TURN;
-use call_words::trims::put_used;
+use call_words::said::put_said;
 use forms::LogNumber;
 use history::book::BookWords;
 use module::Module;
@@ -36,15 +36,8 @@ pub fn fm_trim_parts(
         used.old used.new }
 {
     let m = module_at(first, second, third, fourth);
-    if slot < Module::SLOTS {
-        let slots = m.slots;
-        let own = slots[slot];
-        if own.opened {
-            let site = own.site;
-            let c = trim(site, log, LogNumber(n), fresh);
-            return put_used(used, c);
-        }
+    if slot >= Module::SLOTS || !m.slots[slot].opened {
         return OUT_OF_TURN;
     }
-    OUT_OF_TURN
+    put_said(used, trim(m.slots[slot].site, log, LogNumber(n), fresh))
 }

@@ -14,31 +14,30 @@ use table::Table;
 // and how many entry numbers it holds.
 pub const SLOT_WORDS: usize = 15;
 
+// The counters of one slot. A call takes four of them, and no module, as include/fitting_module.h lends them.
 pub type SlotWords = [u64; SLOT_WORDS];
 
 // The slot whose counters these are.
 fn slot_at(words: &SlotWords) -> Slot
     ensures { result ≡ slot_at words.now }
 {
-    let table = Table {
-        finished: words[11] as usize,
-        queue: words[12] as usize,
-    };
-    let site = Site {
-        count: words[1] as usize,
-        used: words[2] as usize,
-        head: words[3] as usize,
-        base: LogNumber(words[4]),
-        done: LogNumber(words[5]),
-        persistent: LogNumber(words[6]),
-        stable: LogNumber(words[7]),
-        left: LogNumber(words[8]),
-        restoring: words[9] == 1,
-        reserved: words[10] as usize,
-        table,
-    };
     Slot {
-        site,
+        site: Site {
+            count: words[1] as usize,
+            used: words[2] as usize,
+            head: words[3] as usize,
+            base: LogNumber(words[4]),
+            done: LogNumber(words[5]),
+            persistent: LogNumber(words[6]),
+            stable: LogNumber(words[7]),
+            left: LogNumber(words[8]),
+            restoring: words[9] == 1,
+            reserved: words[10] as usize,
+            table: Table {
+                finished: words[11] as usize,
+                queue: words[12] as usize,
+            },
+        },
         opened: words[0] == 1,
         promise: words[13] as usize,
         held: words[14] as usize,
@@ -50,26 +49,20 @@ fn words_of(s: Slot) -> SlotWords
     ensures { result ≡ words_of s }
 {
     let site = s.site;
-    let table = site.table;
-    let base = site.base;
-    let done = site.done;
-    let persistent = site.persistent;
-    let stable = site.stable;
-    let left = site.left;
     [
         bit(s.opened),
         site.count as u64,
         site.used as u64,
         site.head as u64,
-        base.0,
-        done.0,
-        persistent.0,
-        stable.0,
-        left.0,
+        site.base.0,
+        site.done.0,
+        site.persistent.0,
+        site.stable.0,
+        site.left.0,
         bit(site.restoring),
         site.reserved as u64,
-        table.finished as u64,
-        table.queue as u64,
+        site.table.finished as u64,
+        site.table.queue as u64,
         s.promise as u64,
         s.held as u64,
     ]
@@ -84,12 +77,13 @@ pub(crate) fn module_at(
 ) -> Module
     ensures { result ≡ module_at (words first.now second.now third.now fourth.now) }
 {
-    let a = slot_at(first);
-    let b = slot_at(second);
-    let c = slot_at(third);
-    let d = slot_at(fourth);
     Module {
-        slots: [a, b, c, d],
+        slots: [
+            slot_at(first),
+            slot_at(second),
+            slot_at(third),
+            slot_at(fourth),
+        ],
     }
 }
 
@@ -104,9 +98,9 @@ pub(crate) fn put_module(
     requires { length m.slots ≡ 4 }
     ensures { words first.new second.new third.new fourth.new ≡ words_in m.slots }
 {
-    let slots = m.slots;
-    *first = words_of(slots[0]);
-    *second = words_of(slots[1]);
-    *third = words_of(slots[2]);
-    *fourth = words_of(slots[3]);
+    let [a, b, c, d] = m.slots;
+    *first = words_of(a);
+    *second = words_of(b);
+    *third = words_of(c);
+    *fourth = words_of(d);
 }

@@ -1,12 +1,13 @@
 -- What was answered about records is the specification's reply.
-use Rattle.std.specs.Prelude.{ℕ, ◌*◌, ◌≤◌, ◌<◌, ◌≡◌, refl, List, length}
-use Rattle.std.proofs.Common.{sym, ap, ◌∙◌, arith, le-leb}
+use Rattle.std.specs.Prelude.{ℕ, ◌*◌, ◌≤◌, ◌<◌, ◌≡◌, List, length, Result}
+use Rattle.std.proofs.Common.{sym, ap, subst, ◌∙◌, arith, le-leb}
 use Rattle.std.proofs.lemmas.Bool.{lt-leb}
 use Rattle.forms.specs.Limits.{record_limit}
 use Rattle.rules.specs.Records.{RecordReply}
 use Rattle.records.specs.declared.Records.{Records}
-use Rattle.records.specs.declared.RecordsResult.{RecordsResult}
-use Rattle.records.specs.Model.{width, NoRecords, RecordsDo}
+use Rattle.records.specs.declared.Answer.{Answer}
+use Rattle.forms.specs.declared.Refusal.{Refusal}
+use Rattle.records.specs.Model.{width, NoRecords, replied, records_left, RecordsDo, RecordsGive}
 use Rattle.records.specs.NumberLaws.{view_long}
 use Rattle.fitting_station.specs.RecordCalls.{records_at, answer_code, StartsRecords, ResumesRecords, PerformsRecords}
 
@@ -38,11 +39,13 @@ module _ (kept : ℕ) (ws : List ℕ) (long : length ws ≡ width * record_limit
       }
 
 -- What a call does is what is answered.
-pub performs : (count : ℕ) (old : List ℕ) (reply : RecordReply) (r : RecordsResult) (new : List ℕ)
-    → RecordsDo (records_at count) old reply r new → (n : ℕ) → n ≡ answer_code r.answer
-    → PerformsRecords count old reply n r.records.count new
-performs count old reply r new d n e =
+pub performs : (count : ℕ) (old : List ℕ) (reply : RecordReply) (r : Result (Records × Answer) Refusal) (new : List ℕ)
+    → RecordsGive (records_at count) old reply r new → (n next : ℕ) → n ≡ answer_code (replied r)
+    → records_at next ≡ records_left (records_at count) r → PerformsRecords count old reply n next new
+performs count old reply r new d n next e f =
     record {
       answer = e ∙ ap answer_code d.answer;
-      does = record { answer = refl; valid = d.valid; view = d.view; refused = d.refused; past = d.past };
+      does =
+          subst (λ (x : Result Answer Refusal). RecordsDo (records_at count) old reply (records_at next) x new) d.answer
+          (subst (λ (s : Records). RecordsDo (records_at count) old reply s (replied r) new) (sym f) d);
     }

@@ -1,12 +1,13 @@
 -- Records that live on in a lent number and a lent array, as the specification has them, and what each call gives their owner.
-use Rattle.std.specs.Prelude.{ℕ, ◌≡◌, cond, List, [], leb}
+use Rattle.std.specs.Prelude.{ℕ, ◌≡◌, cond, List, [], leb, Result, Ok, Err}
 use Rattle.forms.specs.Refusals.{number_of}
+use Rattle.forms.specs.declared.Refusal.{Refusal}
 use Rattle.rules.specs.Records as book
 use Rattle.forms.specs.Limits.{record_limit}
 use Rattle.rules.specs.Records.{RecordReply}
 use Rattle.records.specs.declared.Records.{Records}
 use Rattle.records.specs.declared.Answer.{Answer}
-use Rattle.records.specs.declared.Answer.TheVariants.{Refused, Done, Persistent, NotPersistent}
+use Rattle.records.specs.declared.Answer.TheVariants.{Done, Persistent, NotPersistent}
 use Rattle.records.specs.Model.{records_view, ValidRecords, answer_in, RecordsDo}
 
 -- ### The state
@@ -34,11 +35,11 @@ pub record ResumesRecords (kept : ℕ) (ws : List ℕ) (n count : ℕ) : Type 0 
 -- ### Calls
 
 -- A refusal's number; 1,001 for "persistent", 1,000 for "not persistent"; else 0.
-unfoldable pub answer_code : Answer → ℕ
-answer_code (Refused q) = number_of q
-answer_code Done = 0
-answer_code Persistent = 1001
-answer_code NotPersistent = 1000
+unfoldable pub answer_code : Result Answer Refusal → ℕ
+answer_code (Err q) = number_of q
+answer_code (Ok Done) = 0
+answer_code (Ok Persistent) = 1001
+answer_code (Ok NotPersistent) = 1000
 
 -- .. of the specification's reply
 abbrev pub records_code : RecordReply → ℕ
@@ -48,4 +49,4 @@ records_code reply = answer_code (answer_in reply)
 -- records are as they were, and a refused call changes nothing.
 pub record PerformsRecords (count : ℕ) (old : List ℕ) (reply : RecordReply) (n next : ℕ) (new : List ℕ) : Type 0 where
   pub answer : n ≡ records_code reply
-  pub does : RecordsDo (records_at count) old reply (record { records = records_at next; answer = answer_in reply }) new
+  pub does : RecordsDo (records_at count) old reply (records_at next) (answer_in reply) new

@@ -1,18 +1,17 @@
 -- What a report of the lines that fall gives its owner: "the report names the least such set, rising".
-use Rattle.std.specs.Prelude.{ℕ, ◌≡◌, refl, List, length}
+use Rattle.std.specs.Prelude.{ℕ, ◌≡◌, refl, List, length, Option, Some, None, Result, Ok, Err}
 use Rattle.std.proofs.Common.{ap, ◌∙◌}
 use Rattle.forms.specs.Refusals.{number_of}
 use Rattle.recovery.specs.Removal.{Report, refused, named}
 use Rattle.removal.specs.Model as model
 use Rattle.removal.specs.Model.{Outcome, refusal, count, outcome_of, outcome, Says}
-use Rattle.removal.specs.declared.Removals.{Removals}
-use Rattle.removal.specs.declared.Removals.TheVariants.{Named, Refused, NotAmong}
+use Rattle.forms.specs.declared.Refusal.{Refusal}
 
 -- 0, or a refusal's number
-unfoldable pub removals_number : Removals → ℕ
-removals_number (Named k) = 0
-removals_number (Refused q) = number_of q
-removals_number NotAmong = 16
+unfoldable pub removals_number : Result (Option ℕ) Refusal → ℕ
+removals_number (Ok (Some k)) = 0
+removals_number (Err q) = number_of q
+removals_number (Ok None) = 16
 
 -- .. of the specification's report
 unfoldable pub report_number : Report → ℕ
@@ -20,10 +19,10 @@ report_number (refused n) = n
 report_number (named l) = 0
 
 -- how many log numbers are named, which a refusal leaves unsaid
-unfoldable pub removals_named : Removals → ℕ → ℕ
-removals_named (Named k) before = k
-removals_named (Refused q) before = before
-removals_named NotAmong before = before
+unfoldable pub removals_named : Result (Option ℕ) Refusal → ℕ → ℕ
+removals_named (Ok (Some k)) before = k
+removals_named (Err q) before = before
+removals_named (Ok None) before = before
 
 -- .. of the specification's report
 unfoldable pub report_named : Report → ℕ → ℕ
@@ -49,7 +48,7 @@ named_of (refusal n) before = before
 named_of (count k) before = k
 
 -- The number and how many are named are those of the specification's report.
-pub replies_removals : (says : Report) (old : List ℕ) (r : Removals) (new : List ℕ) (before n after : ℕ) → Says says old r new →
+pub replies_removals : (says : Report) (old : List ℕ) (r : Result (Option ℕ) Refusal) (new : List ℕ) (before n after : ℕ) → Says says old r new →
     n ≡ removals_number r → after ≡ removals_named r before → RepliesRemovals says old before n after new
 unfolding removals_number report_number removals_named report_named
 replies_removals says old r new before n after S e f =
@@ -59,19 +58,19 @@ replies_removals says old r new before n after S e f =
       numbers = S.numbers;
     }
   where
-    number : (x : Removals) → removals_number x ≡ code_of (outcome_of x)
-    number (Named k) = refl
-    number (Refused q) = refl
-    number NotAmong = refl
+    number : (x : Result (Option ℕ) Refusal) → removals_number x ≡ code_of (outcome_of x)
+    number (Ok (Some k)) = refl
+    number (Err q) = refl
+    number (Ok None) = refl
 
     told : (x : Report) → code_of (outcome x) ≡ report_number x
     told (refused k) = refl
     told (named l) = refl
 
-    many : (x : Removals) → removals_named x before ≡ named_of (outcome_of x) before
-    many (Named k) = refl
-    many (Refused q) = refl
-    many NotAmong = refl
+    many : (x : Result (Option ℕ) Refusal) → removals_named x before ≡ named_of (outcome_of x) before
+    many (Ok (Some k)) = refl
+    many (Err q) = refl
+    many (Ok None) = refl
 
     long : (x : Report) → named_of (outcome x) before ≡ report_named x before
     long (refused k) = refl

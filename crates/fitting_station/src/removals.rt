@@ -3,23 +3,24 @@ ghost use Rattle.std.specs.Prelude.{◌≡◌, length};
 ghost use Rattle.recovery.specs.Removal.{pairs_of, report};
 ghost use Rattle.fitting_station.specs.Removals.{removals_number, removals_named, RepliesRemovals};
 
-use forms::writer::refusal_number;
-use removal::{Removals, report};
+use forms::Refusal;
+use removal::report;
 
 // 16: "a log number that is not among the lines".
 const NOT_AMONG: u64 = 16;
 
-// 0 for a report, and `named` is how many log numbers it names; or the number of the refusal.
-fn put_named(named: &mut usize, r: Removals) -> u64
+// 0 for a report, and `named` is how many log numbers it names; or the number of the refusal: C is told numbers alone.
+#[tactic(auto, unfolding(crate::specs::Removals::removals_number, crate::specs::Removals::removals_named))]
+fn put_named(named: &mut usize, r: Result<Option<usize>, Refusal>) -> u64
     ensures { (result ≡ removals_number r) × (named.new ≡ removals_named r named.old) }
 {
     match r {
-        Removals::Named(k) => {
+        Ok(Some(k)) => {
             *named = k;
             0
         }
-        Removals::Refused(q) => refusal_number(q),
-        Removals::NotAmong => NOT_AMONG,
+        Ok(None) => NOT_AMONG,
+        Err(refusal) => refusal.into(),
     }
 }
 

@@ -1,26 +1,14 @@
 -- How long a written line can be at most, from what its numbers and lists have at most.
-use Rattle.std.specs.Prelude.{ℕ, zero, suc, ◌+◌, ◌≤◌, ◌≡◌, refl, List, length}
-use Rattle.std.proofs.Common.{sym, ◌∙◌, arith}
+use Rattle.std.specs.Prelude.{ℕ, ◌+◌, ◌≤◌, List, length}
+use Rattle.std.proofs.Common.{arith}
 use Rattle.forms.specs.Limits.{reply_limit}
-use Rattle.forms.specs.Decimal.{digits}
-use Rattle.forms.specs.Forms.{fields_text, did_text, outcome_text}
-use Rattle.forms.specs.Held.{did_of, outcome_with}
-use Rattle.forms.specs.TextLaws.{did_size_zero, did_size_pos, reply_size_lem}
-use Rattle.forms.specs.Write.{HeldInRange, held_text, reply_size}
-use Rattle.forms.specs.declared.DidLine.{DidLine}
+use Rattle.forms.specs.Forms.{fields_text, outcome_text}
+use Rattle.forms.specs.Held.{outcome_with}
+use Rattle.forms.specs.TextLaws.{reply_size_lem}
+use Rattle.forms.specs.Write.{reply_size}
 use Rattle.forms.specs.declared.ReplyForm.{ReplyForm}
 use Rattle.forms.specs.declared.ReplyForm.TheVariants.{Refused, Opened, Added, Finished, Withdrawn, Persisted}
 use Rattle.forms.specs.declared.ReplyForm.TheVariants.{Stabilised, Shows, Restarted, Redone, Ended}
-
--- a did line of any numbers, with its end
-pub did_most : (d : DidLine) → HeldInRange d.held → length (digits d.id) ≤ 20 →
-    length (held_text d.held.count d.held.first) ≤ 356
-    → length (did_text (did_of d)) + 1 ≤ reply_limit
-did_most d h few short = go d.held.count refl
-  where
-    go : (n : ℕ) → d.held.count ≡ n → length (did_text (did_of d)) + 1 ≤ reply_limit
-    go zero e = omega (arith, did_size_zero d e, few)
-    go (suc n) e = omega (arith, did_size_pos d h (λ z. let y : suc n ≡ 0 = sym e ∙ z in absurd (omega (arith, y))), few, short)
 
 -- a longer list makes a longer reply
 size_most : (f : ReplyForm) (a b : ℕ) → a ≤ 1344 → b ≤ 1344 → reply_size f a b ≤ reply_size f 1344 1344

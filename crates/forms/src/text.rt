@@ -1,15 +1,15 @@
 // Writing lines where there is room. Their printed forms are in specs/Forms.antt.
 ghost use Rattle.std.specs.Prelude.{◌+◌, ◌≤◌, ◌<◌, [], ◌∷◌, length};
 ghost use Rattle.forms.specs.Decimal.{digits, two_digits};
-ghost use Rattle.forms.specs.Forms.{done_rule_text, field_text, fields_text, change_text, did_text, numbers_text};
+ghost use Rattle.forms.specs.Forms.{done_rule_text, field_text, numbers_text};
 ghost use Rattle.forms.specs.Forms.{two_text, answer_text, outcome_text, Persisted};
-ghost use Rattle.forms.specs.Held.{as_change, did_of, outcome_with};
-ghost use Rattle.forms.specs.Write.{Wrote, held_text, listed_text, pair_text, parts_text, finished_text};
-ghost use Rattle.forms.specs.Write.{HeldInRange, line_text};
+ghost use Rattle.forms.specs.Held.{outcome_with};
+ghost use Rattle.forms.specs.Write.{Wrote, listed_text, pair_text, parts_text, finished_text};
 
 use super::lengths::shown_numbers;
-use super::writer::{LineForm, refusal_number, write_word};
-use super::{DidLine, Done, DoneHeld, DoneRule, ReplyForm, Shown};
+use super::piece::write_all;
+use super::writer::{refusal_number, write_word};
+use super::{DoneRule, ReplyForm, Shown};
 
 // Writes two digits at a position, and returns the position behind them.
 fn write_two_digits(buf: &mut [u8], at: usize, x: u64) -> usize
@@ -50,6 +50,7 @@ pub(crate) fn write_number(buf: &mut [u8], at: usize, x: u64) -> usize
 }
 
 // Writes a space and a number.
+#[tactic(auto, unfolding(crate::specs::Forms::field_text))]
 pub(crate) fn write_field(buf: &mut [u8], at: usize, x: u64) -> usize
     requires { at + length (field_text x) ≤ length buf.old }
     ensures { Wrote buf.old at (field_text x) result buf.new }
@@ -59,7 +60,7 @@ pub(crate) fn write_field(buf: &mut [u8], at: usize, x: u64) -> usize
 }
 
 // Writes an opening bracket and the word of a rule.
-fn write_rule(buf: &mut [u8], at: usize, r: DoneRule) -> usize
+pub(crate) fn write_rule(buf: &mut [u8], at: usize, r: DoneRule) -> usize
     requires { at + length (done_rule_text r) ≤ length buf.old }
     ensures { Wrote buf.old at (done_rule_text r) result buf.new }
 {
@@ -70,87 +71,23 @@ fn write_rule(buf: &mut [u8], at: usize, r: DoneRule) -> usize
     }
 }
 
-// Writes an update that was done.
-fn write_change(buf: &mut [u8], at: usize, d: Done) -> usize
-    requires { at + length (change_text (as_change d)) ≤ length buf.old }
-    ensures { Wrote buf.old at (change_text (as_change d)) result buf.new }
-{
-    let rule = d.rule;
-    let a = write_rule(buf, at, rule);
-    let b = write_field(buf, a, d.history);
-    let c = write_field(buf, b, d.version.0);
-    let e = write_field(buf, c, d.place.0);
-    let f = write_field(buf, e, d.operand);
-    write_word(buf, f, b")")
-}
-
-// Writes at most four updates, one behind the other.
-fn write_changes(buf: &mut [u8], at: usize, h: DoneHeld) -> usize
-    requires { HeldInRange h × (at + length (held_text h.count h.first) ≤ length buf.old) }
-    ensures { Wrote buf.old at (held_text h.count h.first) result buf.new }
-{
-    let count = h.count;
-    let first = h.first;
-    let mut i: usize = 0;
-    let mut next = at;
-    while i < count {
-        let d = first[i];
-        next = write_change(buf, next, d);
-        i += 1;
-    }
-    next
-}
-
-// Writes a did line without its end.
-pub(crate) fn write_did_text(buf: &mut [u8], at: usize, d: DidLine) -> usize
-    requires { HeldInRange d.held × (at + length (did_text (did_of d)) ≤ length buf.old) }
-    ensures { Wrote buf.old at (did_text (did_of d)) result buf.new }
-{
-    let id = d.id;
-    let held = d.held;
-    let count = held.count;
-    let a = write_word(buf, at, b"(did ");
-    let b = write_number(buf, a, id);
-    if count == 0 {
-        return write_word(buf, b, b")");
-    }
-    let c = write_word(buf, b, b" ");
-    let e = write_changes(buf, c, held);
-    write_word(buf, e, b")")
-}
-
-// Writes numbers, each with a space before it.
-fn write_fields(buf: &mut [u8], at: usize, ns: &[u64]) -> usize
-    requires { at + length (fields_text ns.now) ≤ length buf.old }
-    ensures { Wrote buf.old at (fields_text ns.now) result buf.new }
-{
-    let mut i: usize = 0;
-    let mut next = at;
-    while i < ns.len() {
-        let n = ns[i];
-        next = write_field(buf, next, n);
-        i += 1;
-    }
-    next
-}
-
 // Writes a bracketed list of numbers behind its word.
+#[tactic(auto, unfolding(crate::specs::Forms::numbers_text))]
 fn write_numbers(buf: &mut [u8], at: usize, w: &[u8], ns: &[u64]) -> usize
     requires { at + length (numbers_text w.now ns.now) ≤ length buf.old }
     ensures { Wrote buf.old at (numbers_text w.now ns.now) result buf.new }
 {
     let a = write_word(buf, at, w);
-    let b = write_fields(buf, a, ns);
+    let b = write_all(buf, a, ns);
     write_word(buf, b, b")")
 }
 
 // Writes a bracketed number behind its word.
-fn write_one(buf: &mut [u8], at: usize, w: &[u8], n: u64) -> usize
+pub(crate) fn write_one(buf: &mut [u8], at: usize, w: &[u8], n: u64) -> usize
     requires { at + length (numbers_text w.now (n ∷ [])) ≤ length buf.old }
     ensures { Wrote buf.old at (numbers_text w.now (n ∷ [])) result buf.new }
 {
-    let ns = [n];
-    write_numbers(buf, at, w, &ns)
+    write_numbers(buf, at, w, &[n])
 }
 
 // Writes an accepted reply that is one list of numbers.
@@ -164,6 +101,7 @@ fn write_listed(buf: &mut [u8], at: usize, w: &[u8], ns: &[u64]) -> usize
 }
 
 // Writes two lists of numbers, and the bracket that closes the reply.
+#[tactic(auto, unfolding(crate::specs::Write::pair_text))]
 fn write_pair(buf: &mut [u8], at: usize, w: &[u8], xs: &[u64], v: &[u8], ys: &[u64]) -> usize
     requires { at + length (pair_text w.now xs.now v.now ys.now) ≤ length buf.old }
     ensures { Wrote buf.old at (pair_text w.now xs.now v.now ys.now) result
@@ -180,13 +118,12 @@ fn write_parts(buf: &mut [u8], at: usize, k: usize, ids: &[u64]) -> usize
     requires { at + length (parts_text k ids.now) ≤ length buf.old }
     ensures { Wrote buf.old at (parts_text k ids.now) result buf.new }
 {
-    if ids.len() <= k {
-        return write_pair(buf, at, b"(ready", &[], b"(overtaken", ids);
-    }
-    write_pair(buf, at, b"(ready", &ids[k..], b"(overtaken", &ids[..k])
+    let (overtaken, ready) = ids.split_at(k.min(ids.len()));
+    write_pair(buf, at, b"(ready", ready, b"(overtaken", overtaken)
 }
 
 // Writes what finish replies.
+#[tactic(auto, unfolding(crate::specs::Forms::answer_text))]
 fn write_finished(buf: &mut [u8], at: usize, n: u64, xs: &[u64], k: usize, ys: &[u64]) -> usize
     requires { at + length (finished_text n xs.now k ys.now) ≤ length buf.old }
     ensures { Wrote buf.old at (finished_text n xs.now k ys.now) result buf.new }
@@ -199,6 +136,7 @@ fn write_finished(buf: &mut [u8], at: usize, n: u64, xs: &[u64], k: usize, ys: &
 }
 
 // Writes what persistent replies.
+#[tactic(auto, unfolding(crate::specs::Forms::answer_text))]
 fn write_persisted(buf: &mut [u8], at: usize, xs: &[u64], ys: &[u64]) -> usize
     requires { at + length (answer_text (Persisted xs.now ys.now)) ≤ length buf.old }
     ensures { Wrote buf.old at (answer_text (Persisted xs.now ys.now)) result buf.new }
@@ -208,12 +146,12 @@ fn write_persisted(buf: &mut [u8], at: usize, xs: &[u64], ys: &[u64]) -> usize
 }
 
 // Writes what show replies.
+#[tactic(auto, unfolding(crate::specs::Forms::answer_text, crate::specs::Forms::outcome_text, crate::specs::Held::outcome_with))]
 fn write_shown(buf: &mut [u8], at: usize, s: Shown) -> usize
     requires { at + length (outcome_text (outcome_with (ReplyForm.Shows s) [] [])) ≤ length buf.old }
     ensures { Wrote buf.old at (outcome_text (outcome_with (ReplyForm.Shows s) [] [])) result buf.new }
 {
-    let ns = shown_numbers(s);
-    write_numbers(buf, at, b"(history", &ns)
+    write_numbers(buf, at, b"(history", &shown_numbers(s))
 }
 
 // Writes an accepted reply that is two numbers: what cut and redo reply.
@@ -221,11 +159,11 @@ fn write_two(buf: &mut [u8], at: usize, a: u64, b: u64) -> usize
     requires { at + length (two_text a b) ≤ length buf.old }
     ensures { Wrote buf.old at (two_text a b) result buf.new }
 {
-    let ns = [a, b];
-    write_numbers(buf, at, b"(ok", &ns)
+    write_numbers(buf, at, b"(ok", &[a, b])
 }
 
 // Writes a reply without its end.
+#[tactic(auto, unfolding(crate::specs::Forms::answer_text, crate::specs::Forms::outcome_text, crate::specs::Held::outcome_with))]
 pub(crate) fn write_form(
     buf: &mut [u8],
     at: usize,
@@ -251,25 +189,5 @@ pub(crate) fn write_form(
         ReplyForm::Restarted { lines, used } => write_two(buf, at, lines, used),
         ReplyForm::Redone { ran, examined } => write_two(buf, at, ran, examined),
         ReplyForm::Ended => write_listed(buf, at, b"(waiting", xs),
-    }
-}
-
-// Writes a line without its end.
-pub(crate) fn write_text(
-    buf: &mut [u8],
-    at: usize,
-    line: LineForm,
-    xs: &[u64],
-    ys: &[u64],
-    held: DoneHeld,
-) -> usize
-    requires { HeldInRange held × (at + length (line_text line xs.now ys.now held) ≤ length buf.old) }
-    ensures { Wrote buf.old at (line_text line xs.now ys.now held) result buf.new }
-{
-    match line {
-        LineForm::Site(n) => write_one(buf, at, b"(site", n),
-        LineForm::Did(id) => write_did_text(buf, at, DidLine { id, held }),
-        LineForm::Stable(n) => write_one(buf, at, b"(stable", n),
-        LineForm::Reply(form) => write_form(buf, at, form, xs, ys),
     }
 }

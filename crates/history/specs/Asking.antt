@@ -1,40 +1,26 @@
 -- Updates that are asked for, and did lines that come, before they are entries.
-use Rattle.std.specs.Prelude.{ℕ, ◌≤◌, ◌<◌, ◌≡◌, Bool, true, false, List, map, ◌⊎◌, leb, eqb, length, get_or, take}
-use Rattle.std.proofs.Math.Option.{Option, none, some}
+use Rattle.std.specs.Prelude.{ℕ, ◌≤◌, ◌<◌, ◌≡◌, true, false, List, map, ◌⊎◌, length, get_or, take, Option, Some, None, Result, Ok, Err}
+use Rattle.std.proofs.Math.Option.{Option as Maybe, none, some}
 use Rattle.forms.specs.Forms.{Update, Change, Did}
 use Rattle.forms.specs.Held.{as_update, as_asked, as_change, as_done, no_update, no_change}
 use Rattle.forms.specs.Limits.{history_limit, update_limit}
 use Rattle.forms.specs.declared.Asked.{Asked}
 use Rattle.forms.specs.declared.Done.{Done}
-use Rattle.forms.specs.declared.AskedHeld.{AskedHeld}
-use Rattle.forms.specs.declared.DoneHeld.{DoneHeld}
+use Rattle.forms.specs.Held.{AskedHeld}
+use Rattle.forms.specs.Held.{DoneHeld}
 use Rattle.forms.specs.declared.DidLine.{DidLine}
 use Rattle.forms.specs.declared.Refusal.{Refusal}
 use Rattle.rules.specs.Rules.{rule_of, operand_fits}
-use Rattle.rules.specs.Checks.{update_misfits, change_misfits}
+use Rattle.rules.specs.Checks.{change_misfits}
 use Rattle.rules.specs.State.{Operation}
 use Rattle.history.specs.declared.Item.{Item}
 use Rattle.history.specs.declared.Entry.{Entry}
-use Rattle.history.specs.declared.AskedTest.{AskedTest}
-use Rattle.history.specs.declared.AskedTest.TheVariants.{Absent, In, Misfits}
-use Rattle.history.specs.declared.Verdict.{Verdict}
-use Rattle.history.specs.declared.Verdict.TheVariants.{Passes, Refused}
-use Rattle.history.specs.declared.entries.DoneItem.{DoneItem}
 use Rattle.history.specs.Entries.{operation_of, did_of_entry, UsableEntry}
 
 -- The first check that refuses, or none.
-unfoldable pub verdict_of : Option Refusal → Verdict
-verdict_of none = Passes
-verdict_of (some r) = Refused r
-
--- The tests of which the checks 3 to 5 are made.
-unfoldable pub asked_test : AskedTest → Update → Bool
-asked_test (Absent n) u = leb n u.history
-asked_test (In h) u = eqb h u.history
-asked_test Misfits u = update_misfits u
-
-abbrev pub asked_passes : AskedTest → Asked → Bool
-asked_passes t a = asked_test t (as_update a)
+unfoldable pub verdict_of : Maybe Refusal → Result (Unit {0}) Refusal
+verdict_of none = Ok tt
+verdict_of (some r) = Err r
 
 -- These values are held in places of which n count: they are as many, and where that is at most four, just they stand in the first places.
 -- What stands behind them can be anything.
@@ -108,7 +94,7 @@ pub record FitsItem (n : ℕ) (x : Change) (i : Item) : Type 0 where
   pub operand : change_misfits x ≡ false
   pub item : i ≡ change_item x
 
--- .. where it is said to; where it is not, it breaks 3 or 5
-abbrev pub FitsAs : ℕ → Change → DoneItem → Type 0
-FitsAs n x (DoneItem.Fits i) = FitsItem n x i
-FitsAs n x DoneItem.Refused = (n ≤ x.history) ⊎ (change_misfits x ≡ true)
+-- .. where there is one; where there is none, it breaks 3 or 5
+abbrev pub FitsAs : ℕ → Change → Option Item → Type 0
+FitsAs n x (Some i) = FitsItem n x i
+FitsAs n x None = (n ≤ x.history) ⊎ (change_misfits x ≡ true)

@@ -1,13 +1,15 @@
 -- Laws of the checks 2 to 5 on what is held of a list of updates, and of the entries that held updates and did lines become.
 use Prim.Native.Nat.{ℕ, zero, suc, ◌+◌, ◌≤◌, ◌<◌}
-use Rattle.std.specs.Prelude.{◌≡◌, Bool, ◌||◌, List, [], ◌∷◌, ◌++◌, map, ltb, eqb, get_or, take, drop}
+use Rattle.std.specs.Prelude.{◌≡◌, Bool, ◌||◌, not, List, [], ◌∷◌, ◌++◌, map, ltb, eqb, get_or, take, drop, Ok, Err}
 use Rattle.std.proofs.Math.Path.{refl, sym, ap}
-use Rattle.std.proofs.Common.{subst, ◌∙◌, add-one, length-take, take-suc}
+use Rattle.std.proofs.Common.{subst, ◌∙◌, add-one, take-suc}
 use Rattle.std.proofs.Math.Bool.{true, false, or-true}
-use Rattle.std.proofs.lemmas.List.{map-append, length-map}
-use Rattle.std.proofs.Math.Option.{Option, none, some}
+use Rattle.std.proofs.lemmas.List.{map-append, length-map, take-map}
+use Rattle.std.proofs.lemmas.Bool.{lt-leb}
+use Rattle.std.proofs.Math.Seq.{split_at}
+use Rattle.std.proofs.Math.Option.{Option, none}
 use native.Mathlib.Omega.{arith}
-use borrow.Author.Tests.{eq-eqb, ne_eqb, eqb-true, eqb-false, lt-ltb, le-ltb, ltb-false, leb-false, not-false}
+use borrow.Author.Tests.{eq-eqb, ne_eqb, eqb-true, eqb-false, lt-ltb, le-ltb, ltb-false, leb-false, not-false, le-leb}
 use Rattle.std.proofs.Math.Dec.{leb}
 use Rattle.std.proofs.Math.ListN.{length, get_or-map}
 use Rattle.forms.specs.Lists.{any}
@@ -17,8 +19,8 @@ use Rattle.forms.specs.Held.{updates_of, changes_of, did_of}
 use Rattle.forms.specs.Limits.{history_limit, update_limit}
 use Rattle.forms.specs.declared.Asked.{Asked}
 use Rattle.forms.specs.declared.Done.{Done}
-use Rattle.forms.specs.declared.AskedHeld.{AskedHeld}
-use Rattle.forms.specs.declared.DoneHeld.{DoneHeld}
+use Rattle.forms.specs.Held.{AskedHeld}
+use Rattle.forms.specs.Held.{DoneHeld}
 use Rattle.forms.specs.declared.DidLine.{DidLine}
 use Rattle.forms.specs.declared.Refusal.{Refusal}
 use Rattle.forms.specs.declared.Refusal.TheVariants.{WrongCount, NoSuchHistory, HistoryTwice, OperandRange}
@@ -28,14 +30,12 @@ use Rattle.rules.specs.Rules.{rule_of, logged_as, operand_fits}
 use Rattle.rules.specs.Checks.{check, wrong_count, no_such_history, history_twice, update_misfits, form_refusal, updates_refusal, changes_refusal}
 use Rattle.rules.specs.State.{Operation}
 use Rattle.history.specs.declared.Item.{Item}
-use Rattle.history.specs.declared.AskedTest.TheVariants.{Absent, In, Misfits}
-use Rattle.history.specs.declared.Verdict.TheVariants.{Passes, Refused}
-use Rattle.history.specs.Asking.{verdict_of, asked_test, asked_passes, no_asked, no_done_update, change_update, update_item, change_item}
+use Rattle.history.specs.Asking.{verdict_of, no_asked, no_done_update, change_update, update_item, change_item}
 use Rattle.history.specs.Asking.{Holds, HoldsUpdates, HoldsChanges, UsableUpdate, UsableHeld, UsableDid, Enters, EntersDid}
 use Rattle.history.specs.Entries.{item_update, item_change, operation_of, did_of_entry, UsableItem}
 use Rattle.history.specs.EntryLaws.{usable_four, items-four}
 use Rattle.history.specs.Tests.{or_false_parts, any_get, length_part, part_in, part_out, any_snoc}
-use Rattle.history.specs.Tests.{any_mid, any-map, map-map, map_same, four-held, four_eq, take_split}
+use Rattle.history.specs.Tests.{any_mid, any-map, map-map, map_same, four-held}
 use Rattle.rules.specs.Checks.{change_misfits_with, changes_refusal_with}
 
 -- ### A history twice
@@ -66,28 +66,27 @@ twice_mid (h ∷ hs) x r f = go (eqb x h) refl f (twice_mid hs x r)
 abbrev pub histories_to : ℕ → List Asked → List ℕ
 histories_to n first = map (λ (a : Asked). a.history) (take n first)
 
-module _ (first : List Asked) (i : ℕ) where
-  in_is : (b : Bool) → b ≡ any (asked_passes (In (get_or first i no_asked).history)) (take i first) → (t : Bool) → b ≡ t
-      → any (eqb (get_or first i no_asked).history) (histories_to i first) ≡ t
-  unfolding asked_test
-  in_is b e t f = any-map (λ (a : Asked). a.history) (eqb (get_or first i no_asked).history) (take i first) ∙ sym e ∙ f
+module _ (asked : List Asked) (i : ℕ) where
+  -- the history of the update at i
+  abbrev here : ℕ
+  here = (get_or asked i no_asked).history
 
-  pub twice-next : (b : Bool) → b ≡ any (asked_passes (In (get_or first i no_asked).history)) (take i first) → b ≡ false → i < length first
-      → history_twice (histories_to i first) ≡ false → history_twice (histories_to (i + 1) first) ≡ false
-  twice-next b e f h g =
-      ap history_twice more ∙ twice_snoc (histories_to i first) (get_or first i no_asked).history g (in_is b e false f)
+  in_is : any (eqb here) (histories_to i asked) ≡ any (λ (b : Asked). eqb here b.history) (take i asked)
+  in_is = any-map (λ (a : Asked). a.history) (eqb here) (take i asked)
+
+  pub twice-next : any (λ (b : Asked). eqb here b.history) (take i asked) ≡ false → i < length asked
+      → history_twice (histories_to i asked) ≡ false → history_twice (histories_to (i + 1) asked) ≡ false
+  twice-next f h g = ap history_twice more ∙ twice_snoc (histories_to i asked) here g (in_is ∙ f)
     where
-      more : histories_to (i + 1) first ≡ histories_to i first ++ ((get_or first i no_asked).history ∷ [])
-      more = rw (add-one, take-suc first i no_asked h, map-append)
+      more : histories_to (i + 1) asked ≡ histories_to i asked ++ (here ∷ [])
+      more = rw (add-one, take-suc asked i no_asked h, map-append)
 
-  pub twice_hit : (b : Bool) → b ≡ any (asked_passes (In (get_or first i no_asked).history)) (take i first) → b ≡ true → (n : ℕ) → i < n →
-      n ≤ length first
-      → history_twice (histories_to n first) ≡ true
-  twice_hit b e f n h g =
-      ap history_twice (ap (map (λ (a : Asked). a.history)) (take_split first no_asked i n h g)
-      ∙ map-append (λ (a : Asked). a.history) (take i first) (get_or first i no_asked ∷ drop (suc i) (take n first)))
-      ∙ twice_mid (histories_to i first) (get_or first i no_asked).history (map (λ (a : Asked). a.history) (drop (suc i) (take n first)))
-      (in_is b e true f)
+  pub twice_hit : any (λ (b : Asked). eqb here b.history) (take i asked) ≡ true → i < length asked
+      → history_twice (map (λ (a : Asked). a.history) asked) ≡ true
+  twice_hit f h =
+      ap history_twice (ap (map (λ (a : Asked). a.history)) (split_at asked i no_asked h)
+      ∙ map-append (λ (a : Asked). a.history) (take i asked) (get_or asked i no_asked ∷ drop (suc i) asked))
+      ∙ twice_mid (histories_to i asked) here (map (λ (a : Asked). a.history) (drop (suc i) asked)) (in_is ∙ f)
 
 -- ### 2 to 5
 
@@ -101,26 +100,8 @@ held_changes_lem xs =
           ∙ map_same (λ (x : Change). as_change (as_done x)) xs (λ x. refl);
     }
 
--- at most four that are counted are held
-pub holds-own : (held : AskedHeld) → held.count ≤ update_limit → length held.first ≡ update_limit → HoldsUpdates held (updates_of held)
-unfolding updates_of
-holds-own held few long =
-    record {
-      count = sym (length-map (take held.count held.first) as_update ∙ length_part held.count held.first long few);
-      first = λ k. refl;
-    }
-
-module _ (n : ℕ) (held : AskedHeld) (us : List Update) (e : HoldsUpdates held us) where
-  count_is : held.count ≡ length us
-  count_is = e.count
-
-  first_is : held.count ≤ update_limit → take held.count held.first ≡ map as_asked us
-  unfolding updates_of
-  first_is few =
-      sym (ap (map as_asked) (sym (e.first few)) ∙ map-map as_update as_asked (take held.count held.first)
-      ∙ map_same (λ (a : Asked). as_asked (as_update a)) (take held.count held.first) (λ a. refl))
-
-  -- the verdict, by what the four checks found
+-- the verdict, by what the four checks found
+module _ (n : ℕ) (us : List Update) where
   verdict : (w a t m : Bool) → wrong_count us ≡ w → no_such_history n (map (λ (u : Update). u.history) us) ≡ a
       → history_twice (map (λ (u : Update). u.history) us) ≡ t
       → any update_misfits us ≡ m →
@@ -130,77 +111,82 @@ module _ (n : ℕ) (held : AskedHeld) (us : List Update) (e : HoldsUpdates held 
   verdict w a t m p q r s =
       λ i. verdict_of (check (p i) WrongCount (check (q i) NoSuchHistory (check (r i) HistoryTwice (check (s i) OperandRange none))))
 
-  pub refused_none : held.count < 1 → Refused WrongCount ≡ verdict_of (updates_refusal n us)
+  pub refused_none : length us ≡ 0 → Err WrongCount ≡ verdict_of (updates_refusal n us)
   unfolding verdict_of check wrong_count
   refused_none h =
-      let w : wrong_count us ≡ true = rw (eq-eqb (length us) 0 (omega (arith, count_is))) in
+      let w : wrong_count us ≡ true = rw (eq-eqb (length us) 0 h) in
       sym (verdict true _ _ _ w refl refl refl)
 
-  pub refused_many : update_limit < held.count → Refused WrongCount ≡ verdict_of (updates_refusal n us)
+  pub refused_many : update_limit < length us → Err WrongCount ≡ verdict_of (updates_refusal n us)
   unfolding verdict_of check wrong_count
   refused_many h =
-      let w : wrong_count us ≡ true = rw (lt-ltb update_limit (length us) (omega (arith, count_is))) (or-true (eqb (length us) 0)) in
+      let w : wrong_count us ≡ true = rw (lt-ltb update_limit (length us) h) (or-true (eqb (length us) 0)) in
       sym (verdict true _ _ _ w refl refl refl)
 
-  module _ (some : 1 ≤ held.count) (few : held.count ≤ update_limit) where
+module _ (n : ℕ) (asked : List Asked) where
+  abbrev us : List Update
+  us = map as_update asked
+
+  absent_is : no_such_history n (map (λ (u : Update). u.history) us) ≡ any (λ (a : Asked). leb n a.history) asked
+  unfolding no_such_history
+  absent_is = any-map (λ (u : Update). u.history) (leb n) us ∙ any-map as_update (λ (u : Update). leb n u.history) asked
+
+  twice_is : history_twice (map (λ (u : Update). u.history) us) ≡ history_twice (map (λ (a : Asked). a.history) asked)
+  twice_is = ap history_twice (map-map as_update (λ (u : Update). u.history) asked)
+
+  misfits_is : any update_misfits us ≡ any (λ (a : Asked). not (operand_fits a.rule a.version.0 a.operand)) asked
+  unfolding update_misfits
+  misfits_is = any-map as_update update_misfits asked
+
+  module _ (some : 1 ≤ length asked) (few : length asked ≤ update_limit) where
     count_fits : wrong_count us ≡ false
     unfolding wrong_count
-    count_fits = rw (ne_eqb (length us) 0 (λ q. omega (arith, count_is)), le-ltb update_limit (length us) (omega (arith, count_is)))
+    count_fits =
+        let long : length us ≡ length asked = length-map asked as_update in
+        rw (ne_eqb (length us) 0 (λ q. omega (arith, long)), le-ltb update_limit (length us) (omega (arith, long)))
 
-    module _ (a : Bool) (p : a ≡ any (asked_passes (Absent n)) (take held.count held.first)) where
-      absent_is : no_such_history n (map (λ (u : Update). u.history) us) ≡ a
-      unfolding no_such_history asked_test
-      absent_is =
-          any-map (λ (u : Update). u.history) (leb n) us
-          ∙ sym (p ∙ ap (any (asked_passes (Absent n))) (first_is few) ∙ any-map as_asked (asked_passes (Absent n)) us)
+    pub refused_absent : any (λ (a : Asked). leb n a.history) asked ≡ true → Err NoSuchHistory ≡ verdict_of (updates_refusal n us)
+    unfolding verdict_of check
+    refused_absent f = sym (verdict n us false true _ _ count_fits (absent_is ∙ f) refl refl)
 
-      pub refused_absent : a ≡ true → Refused NoSuchHistory ≡ verdict_of (updates_refusal n us)
+    module _ (present : any (λ (a : Asked). leb n a.history) asked ≡ false) where
+      pub refused_twice : history_twice (map (λ (a : Asked). a.history) asked) ≡ true → Err HistoryTwice ≡ verdict_of (updates_refusal n us)
       unfolding verdict_of check
-      refused_absent f = sym (verdict false true _ _ count_fits (absent_is ∙ f) refl refl)
+      refused_twice f = sym (verdict n us false false true _ count_fits (absent_is ∙ present) (twice_is ∙ f) refl)
 
-      module _ (present : a ≡ false) (t : Bool) (q : t ≡ history_twice (histories_to held.count held.first)) where
-        twice_is : history_twice (map (λ (u : Update). u.history) us) ≡ t
-        twice_is = sym (q ∙ ap (λ (l : List Asked). history_twice (map (λ (x : Asked). x.history) l)) (first_is few)
-            ∙ ap history_twice (map-map as_asked (λ (x : Asked). x.history) us))
-
-        pub refused_twice : t ≡ true → Refused HistoryTwice ≡ verdict_of (updates_refusal n us)
+      module _ (once : history_twice (map (λ (a : Asked). a.history) asked) ≡ false) where
+        pub refused_misfits : any (λ (a : Asked). not (operand_fits a.rule a.version.0 a.operand)) asked ≡ true
+            → Err OperandRange ≡ verdict_of (updates_refusal n us)
         unfolding verdict_of check
-        refused_twice f = sym (verdict false false true _ count_fits (absent_is ∙ present) (twice_is ∙ f) refl)
+        refused_misfits f =
+            sym (verdict n us false false false true count_fits (absent_is ∙ present) (twice_is ∙ once) (misfits_is ∙ f))
 
-        module _ (once : t ≡ false) (m : Bool) (r : m ≡ any (asked_passes Misfits) (take held.count held.first)) where
-          misfits_is : any update_misfits us ≡ m
-          unfolding asked_test
-          misfits_is = sym (r ∙ ap (any (asked_passes Misfits)) (first_is few) ∙ any-map as_asked (asked_passes Misfits) us)
-
-          pub refused_misfits : m ≡ true → Refused OperandRange ≡ verdict_of (updates_refusal n us)
-          unfolding verdict_of check
-          refused_misfits f = sym (verdict false false false true count_fits (absent_is ∙ present) (twice_is ∙ once) (misfits_is ∙ f))
-
-          pub passes-all : m ≡ false → Passes ≡ verdict_of (updates_refusal n us)
-          unfolding verdict_of check
-          passes-all f = sym (verdict false false false false count_fits (absent_is ∙ present) (twice_is ∙ once) (misfits_is ∙ f))
+        pub passes-all : any (λ (a : Asked). not (operand_fits a.rule a.version.0 a.operand)) asked ≡ false
+            → Ok tt ≡ verdict_of (updates_refusal n us)
+        unfolding verdict_of check
+        passes-all f = sym (verdict n us false false false false count_fits (absent_is ∙ present) (twice_is ∙ once) (misfits_is ∙ f))
 
 -- ### 2 to 5 of one update
 
 module _ (n : ℕ) (a : Asked) where
-  one_verdict : (p m : Bool) → asked_passes (Absent n) a ≡ p → asked_passes Misfits a ≡ m
+  one_verdict : (p m : Bool) → leb n a.history ≡ p → not (operand_fits a.rule a.version.0 a.operand) ≡ m
       → verdict_of (updates_refusal n (as_update a ∷ [])) ≡ verdict_of (check (p || false) NoSuchHistory (check (m || false) OperandRange none))
-  unfolding updates_refusal form_refusal check wrong_count no_such_history history_twice asked_test
+  unfolding updates_refusal form_refusal check wrong_count no_such_history history_twice update_misfits
   one_verdict p m e f = λ i. verdict_of (check (e i || false) NoSuchHistory (check (f i || false) OperandRange none))
 
-  pub one_absent : asked_passes (Absent n) a ≡ true → Refused NoSuchHistory ≡ verdict_of (updates_refusal n (as_update a ∷ []))
+  pub one_absent : n ≤ a.history → Err NoSuchHistory ≡ verdict_of (updates_refusal n (as_update a ∷ []))
   unfolding verdict_of check
-  one_absent e = sym (one_verdict true (asked_passes Misfits a) e refl)
+  one_absent e = sym (one_verdict true _ (le-leb n a.history e) refl)
 
-  pub one_misfits : asked_passes (Absent n) a ≡ false → asked_passes Misfits a ≡ true →
-      Refused OperandRange ≡ verdict_of (updates_refusal n (as_update a ∷ []))
+  pub one_misfits : a.history < n → operand_fits a.rule a.version.0 a.operand ≡ false →
+      Err OperandRange ≡ verdict_of (updates_refusal n (as_update a ∷ []))
   unfolding verdict_of check
-  one_misfits e f = sym (one_verdict false true e f)
+  one_misfits e f = sym (one_verdict false true (lt-leb n a.history e) (ap not f))
 
-  pub one_passes : asked_passes (Absent n) a ≡ false → asked_passes Misfits a ≡ false →
-      Passes ≡ verdict_of (updates_refusal n (as_update a ∷ []))
+  pub one_passes : a.history < n → operand_fits a.rule a.version.0 a.operand ≡ true →
+      Ok tt ≡ verdict_of (updates_refusal n (as_update a ∷ []))
   unfolding verdict_of check
-  one_passes e f = sym (one_verdict false false e f)
+  one_passes e f = sym (one_verdict false false (lt-leb n a.history e) (ap not f))
 
 -- ### Did lines are checked as the updates that they report
 
@@ -220,46 +206,22 @@ pub changes_refusal_lem : (n : ℕ) (xs : List Change) → updates_refusal n (ma
 unfolding updates_refusal changes_refusal_with update_misfits change_misfits_with
 changes_refusal_lem n xs = sym (form_map change_update (λ (u : Update). u.history) (λ (u : Update). update_misfits u) n xs)
 
--- four places made of the first four, where so many count as there are
-four-part : {A B : Type 0} (f : A → B) (d : A) (n : ℕ) (l : List A) → n ≤ update_limit → n ≤ length l →
-    take n (first_four f d l) ≡ map f (take n l)
-four-part f d zero l few long = refl
-four-part f d (suc n) [] few long = absurd (omega arith)
-four-part f d (suc zero) (a ∷ l) few long = refl
-four-part f d (suc (suc n)) (a ∷ []) few long = absurd (omega arith)
-four-part f d (suc (suc zero)) (a ∷ b ∷ l) few long = refl
-four-part f d (suc (suc (suc n))) (a ∷ b ∷ []) few long = absurd (omega arith)
-four-part f d (suc (suc (suc zero))) (a ∷ b ∷ c ∷ l) few long = refl
-four-part f d (suc (suc (suc (suc n)))) (a ∷ b ∷ c ∷ []) few long = absurd (omega arith)
-four-part f d (suc (suc (suc (suc zero)))) (a ∷ b ∷ c ∷ e ∷ l) few long = refl
-four-part f d (suc (suc (suc (suc (suc n))))) (a ∷ b ∷ c ∷ e ∷ l) few long = absurd (omega arith)
-
 -- the updates that held changes report are held in the places made of theirs
-pub holds-reported : (held : DoneHeld) (xs : List Change) → HoldsChanges held xs → {a b c d : Asked}
-    → a ≡ as_asked (change_update (as_change (get_or held.first 0 no_done_update))) →
-    b ≡ as_asked (change_update (as_change (get_or held.first 1 no_done_update)))
-    → c ≡ as_asked (change_update (as_change (get_or held.first 2 no_done_update))) →
-    d ≡ as_asked (change_update (as_change (get_or held.first 3 no_done_update)))
-    → HoldsUpdates (record { count = held.count; first = a ∷ b ∷ c ∷ d ∷ [] }) (map change_update xs)
-holds-reported held xs e p q r s =
+pub holds-reported : (held : DoneHeld) (xs : List Change) → HoldsChanges held xs →
+    HoldsUpdates (record { count = held.count; first = map (λ (d : Done). as_asked (change_update (as_change d))) held.first })
+    (map change_update xs)
+holds-reported held xs e =
     record {
       count = e.count ∙ sym (length-map xs change_update);
       first = λ few.
-          ap (λ (l : List Asked). map as_update (take held.count l)) (four_eq p q r s)
-          ∙ ap (map as_update) (four-part report no_done_update held.count held.first few (long few))
+          ap (map as_update) (take-map report held.count held.first)
           ∙ map-map report as_update (take held.count held.first)
           ∙ sym (map-map as_change change_update (take held.count held.first))
           ∙ ap (map change_update) (e.first few);
     }
   where
     report : Done → Asked
-    report x = as_asked (change_update (as_change x))
-
-    long : held.count ≤ update_limit → held.count ≤ length held.first
-    long few =
-        let m : length (take held.count held.first) ≡ held.count =
-        sym (length-map (take held.count held.first) as_change) ∙ ap length (e.first few) ∙ sym e.count in
-        omega (arith, m, length-take held.count held.first)
+    report d = as_asked (change_update (as_change d))
 
 -- ### The part of an array that counts, through a function
 

@@ -1,6 +1,6 @@
 -- Counting an entry's updates item by item in the words of a book.
 use Rattle.std.specs.Prelude.{ℕ, zero, suc, ◌+◌, ◌-◌, ◌*◌, ◌≤◌, ◌<◌, ◌≡◌, refl, Bool, true, false, cond, List, [], ◌∷◌, ◌++◌, map, eqb, length, get_or, set, take}
-use Rattle.std.proofs.Common.{arith, sym, ap, ap₂, ◌∙◌, eqb-true, add-one, length-set, length-take, take-suc, get_or-set_same, get_or-set_other}
+use Rattle.std.proofs.Common.{arith, sym, ap, ap₂, ◌∙◌, eqb-true, add-one, length-set, length-take, take-suc, take_all, subst, get_or-set_same, get_or-set_other}
 use Rattle.std.proofs.lemmas.Bool.{eqb-false}
 use Rattle.std.proofs.Math.Dec.{eqb_refl}
 use Rattle.forms.specs.Lists.{sum}
@@ -11,6 +11,7 @@ use Rattle.rules.specs.Poll.{tell, asks_in, changes_in}
 use Rattle.history.specs.declared.Item.{Item}
 use Rattle.history.specs.declared.Entry.{Entry}
 use Rattle.history.specs.Entries.{no_item, items_of, item_update, item_change, operation_of, did_of_entry, UsableEntry, InFirst}
+use Rattle.history.specs.Tests.{part_in}
 use Rattle.history.specs.Words.{width, book_length, items_in, entry_in, AllInFirst, PastKept, CountsMore}
 use Rattle.history.specs.WordLaws.{column_in, column_same, histories_same, past_set}
 
@@ -146,6 +147,14 @@ items-some xs i n l lt =
     let one : ◌≡◌ {A = ℕ} (cond (eqb k k) 1 0) 1 = ap (λ (b : Bool). cond b 1 0) (T_true (eqb k k) (eqb_refl k)) in
     omega (arith, items-part k xs (i + 1) n (omega arith), items-next k xs i lt, one)
 
+-- .. of all
+pub items-one : (xs : List Item) (i : ℕ) → i < length xs →
+    items_in (get_or xs i no_item).history (take i xs) + 1 ≤ items_in (get_or xs i no_item).history xs
+items-one xs i lt =
+    let k = (get_or xs i no_item).history in
+    let q : items_in k (take (length xs) xs) ≡ items_in k xs = ap (items_in k) (take_all (length xs) xs (omega arith)) in
+    omega (arith, items-some xs i (length xs) lt lt, q)
+
 -- a history that has one of the first k items is among the first n, when their histories are
 items_low : (n h : ℕ) (xs : List Item) (k : ℕ) → ((j : ℕ) → j < k → (get_or xs j no_item).history < n) → 1 ≤ items_in h (take k xs) → h < n
 unfolding items_in
@@ -167,16 +176,19 @@ pub all_in_first : (n : ℕ) (e : Entry) → InFirst n e → AllInFirst n (e ∷
 all_in_first n e within h some = items_low n h e.items e.count within (omega (arith, some))
 
 -- All items counted.
-pub counted-all : (e : Entry) (i : ℕ) (low high : List ℕ) → UsableEntry e → i ≡ e.count → Counted e.items i low high →
-    CountsMore (e ∷ []) low high
-counted-all e i low high u z s =
+pub counted-all : (e : Entry) (i : ℕ) (low high : List ℕ) → UsableEntry e → length (items_of e) ≤ i → i ≤ e.count →
+    Counted (items_of e) i low high → CountsMore (e ∷ []) low high
+counted-all e i low high u z le s =
     record {
       numbers = λ h l.
-          let n : items_in h (take i e.items) ≡ entry_in h e = ap (λ (n : ℕ). items_in h (take n e.items)) z in
+          let n : items_in h (take i (items_of e)) ≡ entry_in h e = ap (items_in h) (take_all i (items_of e) z) in
           omega (arith, column_in 5 high h l, column_in 5 low h l, s.numbers h l, n);
       others = λ g l ne. column_same g low high (λ h _. s.rest g h l ne);
       histories = histories_same low high (λ h f _ l. s.rest f h (omega (arith, l)) (λ (q : f ≡ 5). omega (arith, q, l)));
-      past = λ n into. s.past n (λ j l. in_first n e u into j (omega (arith, l, z)));
+      past = λ n into.
+          s.past n (λ j l.
+          let lt : j < e.count = omega (arith, l, le) in
+          subst (λ (x : Item). x.history < n) (part_in e.count e.items j no_item lt) (in_first n e u into j lt));
     }
 
 -- ### Entries one after the other

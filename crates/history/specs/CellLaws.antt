@@ -1,6 +1,6 @@
 -- Laws of tests and effects on cells: from arrays to the log, and from one book to another.
 use Prim.Native.Nat.{ℕ, ◌+◌, ◌≤◌, ◌<◌}
-use Rattle.std.specs.Prelude.{◌≡◌, Bool, true, false, cond, ◌&&◌, ◌||◌, not, leb, ltb, eqb, length, get_or, take, set}
+use Rattle.std.specs.Prelude.{◌≡◌, Bool, true, false, cond, ◌&&◌, ◌||◌, leb, ltb, eqb, length, get_or, take, set}
 use Rattle.std.proofs.Math.Path.{refl, sym}
 use Rattle.std.proofs.Common.{ap, ap₂, ◌∙◌, arith, add-one, eqb-true, length-take, take-suc, get_or-set_same, get_or-set_other}
 use Rattle.std.proofs.Math.Bool.{or-false, or_assoc}
@@ -8,7 +8,7 @@ use mathlib.Core.List.{List, [], ◌∷◌, ◌++◌, map, map-append}
 use Rattle.std.proofs.lemmas.Bool.{eqb-false}
 use Rattle.std.proofs.lemmas.List.{length-map}
 use Rattle.forms.specs.Decimal.{top}
-use Rattle.forms.specs.Lists.{any}
+use Rattle.forms.specs.Lists.{all, any}
 use Rattle.forms.specs.Forms.{Base, Update, Change, Did}
 use Rattle.forms.specs.Limits.{history_limit, update_limit}
 use Rattle.forms.specs.declared.Rule.{Rule}
@@ -23,11 +23,10 @@ use Rattle.history.specs.declared.History.{History}
 use Rattle.history.specs.declared.Item.{Item}
 use Rattle.history.specs.declared.Entry.{Entry}
 use Rattle.history.specs.declared.Findings.{Findings}
-use Rattle.history.specs.declared.ItemTest.TheVariants.{Waits, Stale}
 use Rattle.history.specs.Entries.{no_history, cell_of, cells_of, no_item, item_update, item_change, items_of, did_of_entry, can_run_in}
-use Rattle.history.specs.Cells.{item_test, test_in, stale_in, already_done_in, read_overtaken_in, at_highest_in, change_in, line_in, values_in}
+use Rattle.history.specs.Cells.{stale_in, already_done_in, read_overtaken_in, at_highest_in, change_in, line_in, values_in}
 use Rattle.history.specs.Cells.{ran_at, overtaken_at, highest_at, findings_in, found_with, LowPlace}
-use Rattle.history.specs.Tests.{none_fails, all_map, any-map}
+use Rattle.history.specs.Tests.{all_map, any-map}
 use Rattle.rules.specs.Book.{enter_all_with, enter_with, entered_with}
 
 -- ### The book of a log
@@ -113,15 +112,20 @@ module _ (c : Cell) (x : Item) where
 
 -- ### The items of an entry as changes and as updates
 
-module _ (cells : ℕ → Cell) (e : Entry) where
-  pub waits-can_run : not (any (test_in Waits cells) (items_of e)) ≡ can_run_in cells (did_of_entry e)
-  unfolding can_run_in did_of_entry item_test
-  waits-can_run =
-      none_fails (λ (x : Item). runs_at (cells x.history) (item_change x)) (items_of e)
-      ∙ sym (all_map item_change (λ (y : Change). runs_at (cells y.history) y) (items_of e))
+-- an item is next in its history and may run; its place is not above its history's
+abbrev pub runs : (ℕ → Cell) → Item → Bool
+runs cells x = runs_at (cells x.history) (item_change x)
 
-  pub stale_changes : any (test_in Stale cells) (items_of e) ≡ any (stale_in cells) (did_of_entry e).changes
-  unfolding stale_in did_of_entry item_test
+abbrev pub is_stale : (ℕ → Cell) → Item → Bool
+is_stale cells x = leb x.place.0 (cells x.history).place
+
+module _ (cells : ℕ → Cell) (e : Entry) where
+  pub items-can_run : all (runs cells) (items_of e) ≡ can_run_in cells (did_of_entry e)
+  unfolding can_run_in did_of_entry
+  items-can_run = sym (all_map item_change (λ (y : Change). runs_at (cells y.history) y) (items_of e))
+
+  pub stale_changes : any (is_stale cells) (items_of e) ≡ any (stale_in cells) (did_of_entry e).changes
+  unfolding stale_in did_of_entry
   stale_changes = sym (any-map item_change (stale_in cells) (items_of e))
 
 -- ### What was found, update after update

@@ -5,15 +5,13 @@ use Rattle.forms.specs.Limits.{base_top, log_limit, history_limit}
 use Rattle.forms.specs.Lists.{any}
 use Rattle.forms.specs.Forms.{Update, Change, Did}
 use Rattle.rules.specs.Rules.{timing, is_never, strong, ordered, rule_of, logged_as, version_after}
-use Rattle.rules.specs.Book.{Cell, runs_at, enter_all}
+use Rattle.rules.specs.Book.{Cell, enter_all}
 use Rattle.rules.specs.State.{Operation}
 use Rattle.history.specs.declared.History.{History}
 use Rattle.history.specs.declared.Item.{Item}
 use Rattle.history.specs.declared.Entry.{Entry}
 use Rattle.history.specs.declared.Findings.{Findings}
-use Rattle.history.specs.declared.ItemTest.{ItemTest}
-use Rattle.history.specs.declared.ItemTest.TheVariants.{Waits, Stale}
-use Rattle.history.specs.Entries.{cells_of, no_item, item_change, operation_of, did_of_entry, UsableEntry}
+use Rattle.history.specs.Entries.{cells_of, no_item, operation_of, did_of_entry, UsableEntry}
 
 -- ### Tests of refusals
 
@@ -32,14 +30,6 @@ read_overtaken_in cells u = not (strong u.rule) && ltb u.version (cells u.histor
 -- 17: "an added `unk` in a history at the highest version"
 unfoldable pub at_highest_in : (ℕ → Cell) → Update → Bool
 at_highest_in cells u = not (ordered u.rule) && leb top (cells u.history).version
-
--- "Cannot run now", and 8 of a redo, of one item against the cell of its history.
-unfoldable pub item_test : ItemTest → Cell → Item → Bool
-item_test Waits c x = not (runs_at c (item_change x))
-item_test Stale c x = leb x.place.0 c.place
-
-abbrev pub test_in : ItemTest → (ℕ → Cell) → Item → Bool
-test_in t cells x = item_test t (cells x.history) x
 
 -- 8, 9 and 17 of an add, of one item against the cell of its history
 unfoldable pub ran_at : Cell → Item → Bool

@@ -1,14 +1,15 @@
 -- Tests over lists, and over the part of an array that counts.
-use Rattle.std.specs.Prelude.{ℕ, zero, suc, ◌+◌, ◌≤◌, ◌<◌, ◌≡◌, refl, Bool, true, false, ◌&&◌, ◌||◌, not, List, [], ◌∷◌, ◌++◌, map, ◌⊎◌, eqb, ltb, length, get_or, take, drop}
-use Rattle.std.proofs.Common.{sym, ap, ap₂, subst, ◌∙◌, inl, inr, arith, add-one, eq-eqb, ne_eqb, eqb-true, lt-ltb, ltb-true, ltb-false, length-take, take-suc, take-take, get_or-take, length-take-le}
+use Rattle.std.specs.Prelude.{ℕ, zero, suc, ◌+◌, ◌≤◌, ◌<◌, ◌≡◌, refl, Bool, true, false, ◌&&◌, ◌||◌, not, eqb, ltb, List, [], ◌∷◌, ◌++◌, map, ◌⊎◌, length, get_or, take, drop}
+use Rattle.std.proofs.Common.{sym, ap, ap₂, subst, ◌∙◌, inl, inr, arith, eq-eqb, ne_eqb, eqb-true, ltb-true, lt-ltb, add-one, length-take, take-suc, take-take, get_or-take, length-take-le}
 use Rattle.std.proofs.Math.Bool.{or-true}
+use borrow.Author.Tests.{eqb-false, ltb-false}
 use mathlib.Core.List.Memᴰ
 use mathlib.Core.List.Memᴰ.{head as here}
 use mathlib.Core.List.Memᴰ.{tail as there}
 use mathlib.Core.List.{Memᴰ as Mem}
-use Rattle.std.proofs.lemmas.Bool.{eqb-false}
 use Rattle.std.proofs.Math.ListN.{get_or-map, get_or-eq_default}
 use Rattle.std.proofs.Math.Seq.{split_at}
+use Rattle.std.specs.List.{list_any, list_all}
 use Rattle.forms.specs.Lists.{all, any}
 use Rattle.forms.specs.Held.{first_four}
 use Rattle.forms.specs.Limits.{update_limit}
@@ -65,6 +66,17 @@ module _ {A : Type 0} (p : A → Bool) (l : List A) (d : A) where
 
   pub any_hit : (i n : ℕ) → i < n → n ≤ length l → p (get_or l i d) ≡ true → any p (take n l) ≡ true
   any_hit i n h g q = rw (take_split l d i n h g) (any_mid p (take i l) (get_or l i d) (drop (suc i) (take n l)) q)
+
+-- ### What the library's methods answer
+
+module _ {A : Type 0} (p : A → Bool) where
+  pub list_any_is : (l : List A) → list_any p l ≡ any p l
+  list_any_is [] = refl
+  list_any_is (x ∷ xs) = ap (◌||◌ (p x)) (list_any_is xs)
+
+  pub list_all_is : (l : List A) → list_all p l ≡ all p l
+  list_all_is [] = refl
+  list_all_is (x ∷ xs) = ap (◌&&◌ (p x)) (list_all_is xs)
 
 -- ### Tests and lists that go through a function
 
@@ -132,6 +144,16 @@ module _ {A : Type 0} where
   pub four_eq : {a a' b b' c c' e e' : A} → a ≡ a' → b ≡ b' → c ≡ c' → e ≡ e' →
       ◌≡◌ {A = List A} (a ∷ b ∷ c ∷ e ∷ []) (a' ∷ b' ∷ c' ∷ e' ∷ [])
   four_eq p q r s = ap₂ (λ (f g : List A). f ++ g) (ap₂ (λ (x y : A). x ∷ y ∷ []) p q) (ap₂ (λ (x y : A). x ∷ y ∷ []) r s)
+
+-- a list of four, element by element
+pub four_is : {A : Type 0} (l : List A) (d : A) → length l ≡ update_limit → {p q r s : A} → get_or l 0 d ≡ p → get_or l 1 d ≡ q →
+    get_or l 2 d ≡ r → get_or l 3 d ≡ s → l ≡ p ∷ q ∷ r ∷ s ∷ []
+four_is [] d h e f g k = absurd (omega arith)
+four_is (x ∷ []) d h e f g k = absurd (omega arith)
+four_is (x ∷ y ∷ []) d h e f g k = absurd (omega arith)
+four_is (x ∷ y ∷ z ∷ []) d h e f g k = absurd (omega arith)
+four_is (x ∷ y ∷ z ∷ w ∷ []) d h e f g k = four_eq e f g k
+four_is (x ∷ y ∷ z ∷ w ∷ v ∷ l) d h e f g k = absurd (omega arith)
 
 pub four-map : {A B C : Type 0} (f : A → B) (g : B → C) (d : A) (l : List A) →
     first_four (λ (x : A). g (f x)) d l ≡ first_four g (f d) (map f l)

@@ -294,27 +294,6 @@ stored-all f n row old ws few le s =
       past = s.past n (omega arith);
     }
 
--- The words of the first histories, stored one after the other.
-pub record FirstStored (n : ℕ) (f : ℕ → ℕ) (i : ℕ) (old ws : List ℕ) : Type 0 where
-  pub long : length ws ≡ book_length
-  pub done : Filled (λ (k : ℕ). k) f i ws
-  pub past : PastKept n old ws
-
-pub first_none : (n : ℕ) (f : ℕ → ℕ) (ws : List ℕ) → length ws ≡ book_length → FirstStored n f 0 ws ws
-first_none n f ws long = record { long = long; done = λ k h. absurd (let z : k < 0 = h in omega arith); past = refl }
-
-pub first_next : (n : ℕ) (f : ℕ → ℕ) (i : ℕ) (old ws : List ℕ) → i < width * n → n ≤ history_limit → FirstStored n f i old ws →
-    FirstStored n f (i + 1) old (set ws i (f i))
-first_next n f i old ws l le s =
-    record {
-      long = length-set ws i (f i) ∙ s.long;
-      done = filled_next (λ (k : ℕ). k) f i ws (λ k h. h) (omega (arith, s.long)) s.done;
-      past = past_set n old ws i (f i) l s.past;
-    }
-
-pub first-all : (n : ℕ) (f : ℕ → ℕ) (i : ℕ) (old ws : List ℕ) → width * n ≤ i → FirstStored n f i old ws → PutFirst n f old ws
-first-all n f i old ws le s = record { words = λ k h. s.done k (omega arith); past = s.past }
-
 -- ### Histories that are cleared or copied
 
 -- the first histories have the numbers stored there

@@ -7,12 +7,15 @@ ghost use Rattle.history.specs.Words.{width, histories_in, column_from, PutHisto
 use super::History;
 use forms::limits::HISTORIES;
 use forms::{Place, Version};
+use std::array;
 
 // How many numbers a history has: profile, version, place, persistent version, stable version, and how many of its updates are future, in
 // progress or volatile.
 pub const WIDTH: usize = 6;
 
-// The histories of a site, one behind the other: those of history i begin at WIDTH * i.
+// The histories of a site, one behind the other: those of history i begin at WIDTH * i. They are numbers, since C lends the array. How many
+// of them a site has comes out of numbers that C lends too: a type that says that it is at most 16 would be made by a test that no call
+// needs, so each function here that takes it asks.
 pub type BookWords = [u64; HISTORIES * WIDTH];
 
 // Where a history's numbers stand behind its profile.
@@ -25,9 +28,6 @@ pub const PERSISTED: usize = 3;
 pub const STABILISED: usize = 4;
 
 pub const BUSY: usize = 5;
-
-// Words lent whole: there are as many as their type says.
-pub fn known_length(_words: &[u64]) {}
 
 // History i.
 pub fn history_at(words: &BookWords, i: usize) -> History
@@ -47,7 +47,6 @@ pub fn put_history(words: &mut BookWords, i: usize, h: History)
     requires { i < history_limit }
     ensures { PutHistory i h words.old words.new }
 {
-    known_length(words);
     let at = WIDTH * i;
     words[at] = h.profile;
     words[at + VERSION] = h.version.0;
@@ -59,13 +58,7 @@ pub fn column_at(words: &BookWords, f: usize) -> [u64; HISTORIES]
     requires { f < width }
     ensures { result ≡ column_from f words.now }
 {
-    let mut column = [0u64; HISTORIES];
-    let mut i: usize = 0;
-    while i < HISTORIES {
-        column[i] = words[WIDTH * i + f];
-        i += 1;
-    }
-    column
+    array::from_fn(|i| words[WIDTH * i + f])
 }
 
 // Number f of each of the first n histories becomes that of the column.
@@ -73,11 +66,8 @@ pub fn put_column(words: &mut BookWords, f: usize, column: [u64; HISTORIES], n: 
     requires { (f < width) × (n ≤ history_limit) }
     ensures { PutColumn f n column words.old words.new }
 {
-    known_length(words);
-    let mut i: usize = 0;
-    while i < n {
-        words[WIDTH * i + f] = column[i];
-        i += 1;
+    for (i, x) in column[..n].iter().enumerate() {
+        words[WIDTH * i + f] = *x;
     }
 }
 
@@ -86,13 +76,7 @@ pub fn clear(words: &mut BookWords, n: usize)
     requires { n ≤ history_limit }
     ensures { Cleared n words.old words.new }
 {
-    known_length(words);
-    let most = WIDTH * n;
-    let mut i: usize = 0;
-    while i < most {
-        words[i] = 0;
-        i += 1;
-    }
+    words[..WIDTH * n].fill(0);
 }
 
 // The numbers of the first n histories become those of another book.
@@ -100,11 +84,5 @@ pub fn put_book(words: &mut BookWords, from: &BookWords, n: usize)
     requires { n ≤ history_limit }
     ensures { Copied n from.now words.old words.new }
 {
-    known_length(words);
-    let most = WIDTH * n;
-    let mut i: usize = 0;
-    while i < most {
-        words[i] = from[i];
-        i += 1;
-    }
+    words[..WIDTH * n].copy_from_slice(&from[..WIDTH * n]);
 }

@@ -5,21 +5,15 @@ ghost use Rattle.history.specs.Entries.{UsableEntry};
 ghost use Rattle.history.specs.Words.{busy_in, entry_in, CountsMore};
 
 use super::Entry;
-use super::book::{BUSY, BookWords, WIDTH, known_length};
+use super::book::{BUSY, BookWords, WIDTH};
 
 // Each history of the entry's updates has one more of them.
 pub fn raise(book: &mut BookWords, e: Entry)
     requires { UsableEntry e × ((h : ℕ) → 1 ≤ entry_in h e → get_or (busy_in book.old) h 0 + entry_in h e ≤ top) }
     ensures { CountsMore (e ∷ []) book.old book.new }
 {
-    known_length(book);
-    let n = e.count;
-    let mut i: usize = 0;
-    while i < n {
-        let x = e.items[i];
-        let at = WIDTH * (x.history as usize) + BUSY;
-        book[at] = book[at] + 1;
-        i += 1;
+    for x in &e.items[..e.count] {
+        book[WIDTH * (x.history as usize) + BUSY] += 1;
     }
 }
 
@@ -28,13 +22,7 @@ pub fn lower(book: &mut BookWords, e: Entry)
     requires { UsableEntry e × ((h : ℕ) → 1 ≤ entry_in h e → entry_in h e ≤ get_or (busy_in book.old) h 0) }
     ensures { CountsMore (e ∷ []) book.new book.old }
 {
-    known_length(book);
-    let n = e.count;
-    let mut i: usize = 0;
-    while i < n {
-        let x = e.items[i];
-        let at = WIDTH * (x.history as usize) + BUSY;
-        book[at] = book[at] - 1;
-        i += 1;
+    for x in &e.items[..e.count] {
+        book[WIDTH * (x.history as usize) + BUSY] -= 1;
     }
 }

@@ -1,94 +1,61 @@
 // The checks 2 to 5 of the updates of an operation, as asked or as a did line reports them.
-ghost use Rattle.std.specs.Prelude.{◌≡◌, List, [], ◌∷◌, map, ◌≤◌, length, take};
-ghost use Rattle.forms.specs.Lists.{any};
+ghost use Rattle.std.specs.Prelude.{◌≡◌, List, [], ◌∷◌, map, ◌≤◌, length};
 ghost use Rattle.forms.specs.Forms.{Update, Change};
-ghost use Rattle.forms.specs.Held.{as_update, as_asked, as_change, updates_of};
+ghost use Rattle.forms.specs.Held.{as_update, as_asked, as_change};
 ghost use Rattle.forms.specs.Limits.{update_limit};
 ghost use Rattle.rules.specs.Checks.{history_twice, updates_refusal, changes_refusal};
 ghost use Rattle.rules.specs.Rules.{rule_of};
-ghost use Rattle.history.specs.Asking.{asked_test, asked_passes, verdict_of, change_update, HoldsUpdates, HoldsChanges};
+ghost use Rattle.history.specs.Asking.{verdict_of, change_update, HoldsUpdates, HoldsChanges};
 
+use super::Verdict;
 use super::update_rules::operand_fits;
-use super::{AskedTest, Verdict};
 use forms::limits::UPDATES;
 use forms::{Asked, AskedHeld, Done, DoneHeld, DoneRule, Refusal, Rule};
 
-// An update that is asked for, against a test.
-fn asked_test(t: AskedTest, a: Asked) -> bool
-    ensures { result ≡ asked_test t (as_update a) }
-{
-    let rule = a.rule;
-    match t {
-        AskedTest::Absent(n) => n <= a.history,
-        AskedTest::In(h) => h == a.history,
-        AskedTest::Misfits => !operand_fits(rule, a.version.0, a.operand),
-    }
-}
-
-// Whether one of the first k updates passes a test.
-fn some_asked(t: AskedTest, held: AskedHeld, k: usize) -> bool
-    requires { (k ≤ update_limit) × (length held.first ≡ update_limit) }
-    ensures { result ≡ any (asked_passes t) (take k held.first) }
-{
-    let first = held.first;
-    let mut i: usize = 0;
-    while i < k {
-        let a = first[i];
-        if asked_test(t, a) {
-            return true;
-        }
-        i += 1;
-    }
-    false
-}
-
 // Whether two updates are in one history.
-fn is_twice(held: AskedHeld) -> bool
-    requires { (held.count ≤ update_limit) × (length held.first ≡ update_limit) }
-    ensures { result ≡ history_twice (map (λ (a : Asked). a.history) (take held.count held.first)) }
+fn is_twice(asked: &[Asked]) -> bool
+    ensures { result ≡ history_twice (map (λ (a : Asked). a.history) asked.now) }
 {
-    let n = held.count;
-    let first = held.first;
-    let mut i: usize = 0;
-    while i < n {
-        let a = first[i];
-        if some_asked(AskedTest::In(a.history), held, i) {
+    for (i, a) in asked.iter().enumerate() {
+        if asked[..i].iter().any(|b| a.history == b.history) {
             return true;
         }
-        i += 1;
     }
     false
 }
 
-// The checks 3 to 5 of the only update of an operation, in a site of n histories.
+// The checks 3 to 5 of the only update of an operation, in a site of n histories: beside `several_refusal` for speed, as most operations
+// have one update.
 fn one_refusal(n: u64, a: Asked) -> Verdict
     ensures { result ≡ verdict_of (updates_refusal n (as_update a ∷ [])) }
 {
-    if asked_test(AskedTest::Absent(n), a) {
-        return Verdict::Refused(Refusal::NoSuchHistory);
+    if n <= a.history {
+        return Err(Refusal::NoSuchHistory);
     }
-    if asked_test(AskedTest::Misfits, a) {
-        return Verdict::Refused(Refusal::OperandRange);
+    if !operand_fits(a.rule, a.version.0, a.operand) {
+        return Err(Refusal::OperandRange);
     }
-    Verdict::Passes
+    Ok(())
 }
 
 // The checks 3 to 5 of the updates of an operation of at most four, in a site of n histories.
-fn several_refusal(n: u64, held: AskedHeld) -> Verdict
-    requires { (1 ≤ held.count) × (held.count ≤ update_limit) × (length held.first ≡ update_limit) }
-    ensures { result ≡ verdict_of (updates_refusal n (updates_of held)) }
+fn several_refusal(n: u64, asked: &[Asked]) -> Verdict
+    requires { (1 ≤ length asked.now) × (length asked.now ≤ update_limit) }
+    ensures { result ≡ verdict_of (updates_refusal n (map as_update asked.now)) }
 {
-    let count = held.count;
-    if some_asked(AskedTest::Absent(n), held, count) {
-        return Verdict::Refused(Refusal::NoSuchHistory);
+    if asked.iter().any(|a| n <= a.history) {
+        return Err(Refusal::NoSuchHistory);
     }
-    if is_twice(held) {
-        return Verdict::Refused(Refusal::HistoryTwice);
+    if is_twice(asked) {
+        return Err(Refusal::HistoryTwice);
     }
-    if some_asked(AskedTest::Misfits, held, count) {
-        return Verdict::Refused(Refusal::OperandRange);
+    if asked
+        .iter()
+        .any(|a| !operand_fits(a.rule, a.version.0, a.operand))
+    {
+        return Err(Refusal::OperandRange);
     }
-    Verdict::Passes
+    Ok(())
 }
 
 // The checks 2 to 5 of the updates of an operation, in a site of n histories. What is held past the count is not looked at.
@@ -96,22 +63,17 @@ pub fn asked_refusal(n: u64, held: AskedHeld) -> Verdict
     requires { length held.first ≡ update_limit }
     ensures { (us : List Update) → HoldsUpdates held us → result ≡ verdict_of (updates_refusal n us) }
 {
-    let count = held.count;
-    if count < 1 {
-        return Verdict::Refused(Refusal::WrongCount);
+    if held.count == 0 || UPDATES < held.count {
+        return Err(Refusal::WrongCount);
     }
-    if UPDATES < count {
-        return Verdict::Refused(Refusal::WrongCount);
+    if held.count == 1 {
+        return one_refusal(n, held.first[0]);
     }
-    if count == 1 {
-        let first = held.first;
-        let a = first[0];
-        return one_refusal(n, a);
-    }
-    several_refusal(n, held)
+    several_refusal(n, &held.first[..held.count])
 }
 
-// The rule of an update that was done, as one that is asked for.
+// The rule of an update that was done, as one that is asked for. Both types are those of forms, so that no From of theirs can stand here;
+// and it is said by the `rule_of` of the rules, which stand above forms.
 pub(crate) fn rule_of(rule: DoneRule) -> Rule
     ensures { result ≡ rule_of rule }
 {
@@ -126,12 +88,10 @@ pub(crate) fn rule_of(rule: DoneRule) -> Rule
 fn asked_of(d: Done) -> Asked
     ensures { result ≡ as_asked (change_update (as_change d)) }
 {
-    let rule = d.rule;
-    let version = d.version;
     Asked {
-        rule: rule_of(rule),
+        rule: rule_of(d.rule),
         history: d.history,
-        version,
+        version: d.version,
         operand: d.operand,
     }
 }
@@ -141,14 +101,9 @@ fn asked_of(d: Done) -> Asked
 pub fn done_refusal(n: u64, held: DoneHeld) -> Verdict
     ensures { (xs : List Change) → HoldsChanges held xs → result ≡ verdict_of (changes_refusal n xs) }
 {
-    let first = held.first;
-    let a = first[0];
-    let b = first[1];
-    let c = first[2];
-    let d = first[3];
     let asked = AskedHeld {
         count: held.count,
-        first: [asked_of(a), asked_of(b), asked_of(c), asked_of(d)],
+        first: held.first.map(asked_of),
     };
     asked_refusal(n, asked)
 }

@@ -11,10 +11,9 @@ pub fn may_later(rule: Rule, c: Version, u: Version) -> bool
     ensures { result ≡ may_later rule c.0 u.0 }
 {
     match rule {
-        Rule::Inc => { if c.0 < u.0 { 1 < u.0 - c.0 } else { false } }
-        Rule::Set => false,
+        Rule::Inc => c.0 < u.0 && 1 < u.0 - c.0,
         Rule::Not => c.0 < u.0,
-        Rule::Unk => false,
+        Rule::Set | Rule::Unk => false,
     }
 }
 
@@ -23,24 +22,17 @@ pub fn timing(rule: Rule, c: Version, u: Version) -> Timing
     ensures { result ≡ timing rule c.0 u.0 }
 {
     if may_run(rule, c, u) {
-        return Timing::Now;
+        Timing::Now
+    } else if may_later(rule, c, u) {
+        Timing::Later
+    } else {
+        Timing::Never
     }
-    if may_later(rule, c, u) {
-        return Timing::Later;
-    }
-    Timing::Never
 }
 
 // Whether an item never runs in its history.
 pub fn is_never(h: History, x: Item) -> bool
     ensures { result ≡ is_never (timing x.rule h.version.0 x.version.0) }
 {
-    let rule = x.rule;
-    let c = h.version;
-    let u = x.version;
-    match timing(rule, c, u) {
-        Timing::Now => false,
-        Timing::Later => false,
-        Timing::Never => true,
-    }
+    timing(x.rule, h.version, x.version) == Timing::Never
 }

@@ -23,10 +23,10 @@ pub fn may_run(rule: Rule, c: Version, u: Version) -> bool
     ensures { result ≡ may_run rule c.0 u.0 }
 {
     match rule {
-        Rule::Inc => { if c.0 < u.0 { u.0 - c.0 == 1 } else { false } }
+        Rule::Inc => c.0 < u.0 && u.0 - c.0 == 1,
         Rule::Set => c.0 < u.0,
         Rule::Not => u.0 == c.0,
-        Rule::Unk => c.0 < 18446744073709551615,
+        Rule::Unk => c.0 < u64::MAX,
     }
 }
 
@@ -34,24 +34,14 @@ pub fn may_run(rule: Rule, c: Version, u: Version) -> bool
 pub fn is_strong(rule: Rule) -> bool
     ensures { result ≡ strong rule }
 {
-    match rule {
-        Rule::Inc => true,
-        Rule::Set => true,
-        Rule::Not => false,
-        Rule::Unk => true,
-    }
+    rule != Rule::Not
 }
 
 // All rules but `unk` are ordered.
 pub(crate) fn is_ordered(rule: Rule) -> bool
     ensures { result ≡ ordered rule }
 {
-    match rule {
-        Rule::Inc => true,
-        Rule::Set => true,
-        Rule::Not => true,
-        Rule::Unk => false,
-    }
+    rule != Rule::Unk
 }
 
 // Whether the operand `o` is in its rule's range, and the version `u` of an `unk` is 0. A set takes every number.
@@ -62,7 +52,7 @@ pub(crate) fn operand_fits(rule: Rule, u: u64, o: u64) -> bool
         Rule::Inc => o < PARTS * 256,
         Rule::Set => true,
         Rule::Not => o == 0,
-        Rule::Unk => { if o < PARTS * 256 { u == 0 } else { false } }
+        Rule::Unk => o < PARTS * 256 && u == 0,
     }
 }
 
@@ -71,10 +61,8 @@ pub(crate) fn logged_as(rule: Rule) -> Rule
     ensures { result ≡ rule_of (logged_as rule) }
 {
     match rule {
-        Rule::Inc => Rule::Inc,
-        Rule::Set => Rule::Set,
-        Rule::Not => Rule::Not,
         Rule::Unk => Rule::Inc,
+        _ => rule,
     }
 }
 
@@ -84,8 +72,7 @@ pub(crate) fn version_after(rule: Rule, c: Version, u: Version) -> Version
     ensures { result.0 ≡ version_after rule c.0 u.0 }
 {
     match rule {
-        Rule::Inc => u,
-        Rule::Set => u,
+        Rule::Inc | Rule::Set => u,
         Rule::Not => c,
         Rule::Unk => Version(c.0 + 1),
     }
@@ -95,11 +82,7 @@ pub(crate) fn version_after(rule: Rule, c: Version, u: Version) -> Version
 pub(crate) fn orders(rule: Rule) -> bool
     ensures { result ≡ (strong rule && ordered rule) }
 {
-    if is_strong(rule) {
-        is_ordered(rule)
-    } else {
-        false
-    }
+    is_strong(rule) && is_ordered(rule)
 }
 
 // The profile after an update.
@@ -108,9 +91,8 @@ pub(crate) fn profile_after(rule: Rule, operand: u64, profile: u64) -> u64
     ensures { result ≡ profile_after rule operand profile }
 {
     match rule {
-        Rule::Inc => replace_part(profile, operand),
+        Rule::Inc | Rule::Unk => replace_part(profile, operand),
         Rule::Set => operand,
         Rule::Not => profile,
-        Rule::Unk => replace_part(profile, operand),
     }
 }

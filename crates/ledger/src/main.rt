@@ -8,7 +8,6 @@ ghost use Rattle.site.specs.Model.{received, lent};
 ghost use Rattle.stream.specs.Model.{ValidStream};
 
 use forms::ReplyNumbers;
-use forms::writer::Written;
 use history::book::{BookWords, WIDTH};
 use site::Site;
 use std::io;
@@ -24,7 +23,7 @@ struct Serving {
     on: io::Result<bool>,
 }
 
-// Feeds all bytes of a chunk, and writes the replies; it stops where a write fails.
+// Feeds all bytes of a chunk, and writes the replies; it stops where a write fails. No index is counted: the stream tells how much it took.
 fn answer<W: Write>(
     start: Stream,
     log: &mut [u8],
@@ -61,7 +60,7 @@ fn answer<W: Write>(
 fn close<W: Write>(stream: Stream, out: &mut [u8], writer: &mut W) -> io::Result<()>
     requires { UsablePartial stream.begun }
 {
-    if let Written::At(n) = stream.finish(out, 0) {
+    if let Some(n) = stream.finish(out, 0) {
         writer.write_all(&out[..n])?;
     }
     Ok(())

@@ -1,25 +1,23 @@
 // What was read, written again.
-ghost use Rattle.std.specs.Prelude.{length};
+ghost use Rattle.std.specs.Prelude.{◌≤◌, length, IfSome};
 ghost use Rattle.forms.specs.Write.{HeldInRange};
-ghost use Rattle.lines_demo.specs.Within.{Within};
 
-use super::{say, say_number};
+use super::{say, show};
 use forms::DidLine;
 use forms::limits::UPDATES;
-use forms::reader::SiteRead;
-use forms::writer::Written;
 
 // The bytes up to where writing ended, with their number.
-pub fn say_front(rt: &impl Print, r: Written, buf: &[u8])
-    requires { Within r (length buf.now) }
+pub fn say_front(rt: &impl Print, r: Option<usize>, buf: &[u8])
+    requires { IfSome r (λ n. n ≤ length buf.now) }
 {
     match r {
-        Written::At(n) => {
-            say_number(rt, b"  writes ", n as u64);
+        Some(n) => {
+            say(rt, b"  writes ");
+            show(rt, n);
             say(rt, b": ");
             say(rt, &buf[..n]);
         }
-        Written::NoRoom => say(rt, b"  no room\n"),
+        None => say(rt, b"  no room\n"),
     }
 }
 
@@ -34,19 +32,15 @@ fn write_again(rt: &impl Print, d: DidLine)
 
 // A line that reads as a did line, where all its updates are held.
 pub fn say_did_again(rt: &impl Print, s: &[u8]) {
-    let r = forms::reader::read_did(s);
-    if r.ok {
-        let did = r.did;
-        let held = did.held;
-        if held.count <= UPDATES {
-            write_again(rt, did);
-        }
+    match forms::reader::read_did(s) {
+        Some(did) if did.held.count <= UPDATES => write_again(rt, did),
+        _ => {}
     }
 }
 
 // A line that reads as a site line.
 pub fn say_site_again(rt: &impl Print, s: &[u8]) {
-    if let SiteRead::Value(n) = forms::reader::read_site(s) {
+    if let Some(n) = forms::reader::read_site(s) {
         let mut buf = [b'.'; 28];
         let w = forms::writer::write_site(&mut buf, 0, n);
         say_front(rt, w, &buf);

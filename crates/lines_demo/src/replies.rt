@@ -7,7 +7,7 @@ use forms::limits::{LIVE, REPLY_BYTES, UPDATES};
 use forms::{LogNumber, Place, Refusal, ReplyForm, Shown, Version};
 
 // The greatest number that a line can have.
-const MOST: u64 = 18446744073709551615;
+const MOST: u64 = u64::MAX;
 
 // Writes a reply and prints it.
 fn say_reply(rt: &impl Print, form: ReplyForm, xs: &[u64], ys: &[u64])
@@ -36,27 +36,31 @@ fn say_finished(rt: &impl Print, number: u64, values: &[u64], overtaken: usize, 
 
 // The refusals in the order of their numbers.
 pub fn say_refusals(rt: &impl Print) {
-    say_plain(rt, ReplyForm::Refused(Refusal::Unreadable));
-    say_plain(rt, ReplyForm::Refused(Refusal::WrongCount));
-    say_plain(rt, ReplyForm::Refused(Refusal::NoSuchHistory));
-    say_plain(rt, ReplyForm::Refused(Refusal::HistoryTwice));
-    say_plain(rt, ReplyForm::Refused(Refusal::OperandRange));
-    say_plain(rt, ReplyForm::Refused(Refusal::NothingOrders));
-    say_plain(rt, ReplyForm::Refused(Refusal::IdPending));
-    say_plain(rt, ReplyForm::Refused(Refusal::AlreadyDone));
-    say_plain(rt, ReplyForm::Refused(Refusal::ReadOvertaken));
-    say_plain(rt, ReplyForm::Refused(Refusal::TableFull));
-    say_plain(rt, ReplyForm::Refused(Refusal::WrongState));
-    say_plain(rt, ReplyForm::Refused(Refusal::NoRoom));
-    say_plain(rt, ReplyForm::Refused(Refusal::AboveLimit));
-    say_plain(rt, ReplyForm::Refused(Refusal::OutOfTurn));
-    say_plain(rt, ReplyForm::Refused(Refusal::BadLog));
-    say_plain(rt, ReplyForm::Refused(Refusal::HighestVersion));
-    say_plain(rt, ReplyForm::Refused(Refusal::WrongThreshold));
-    say_plain(rt, ReplyForm::Refused(Refusal::NotSent));
-    say_plain(rt, ReplyForm::Refused(Refusal::Conflict));
-    say_plain(rt, ReplyForm::Refused(Refusal::NoLengthFits));
-    say_plain(rt, ReplyForm::Refused(Refusal::WindowRange));
+    for q in [
+        Refusal::Unreadable,
+        Refusal::WrongCount,
+        Refusal::NoSuchHistory,
+        Refusal::HistoryTwice,
+        Refusal::OperandRange,
+        Refusal::NothingOrders,
+        Refusal::IdPending,
+        Refusal::AlreadyDone,
+        Refusal::ReadOvertaken,
+        Refusal::TableFull,
+        Refusal::WrongState,
+        Refusal::NoRoom,
+        Refusal::AboveLimit,
+        Refusal::OutOfTurn,
+        Refusal::BadLog,
+        Refusal::HighestVersion,
+        Refusal::WrongThreshold,
+        Refusal::NotSent,
+        Refusal::Conflict,
+        Refusal::NoLengthFits,
+        Refusal::WindowRange,
+    ] {
+        say_plain(rt, ReplyForm::Refused(q));
+    }
 }
 
 // What show gives of a history.
@@ -115,14 +119,17 @@ pub fn say_edges(rt: &impl Print) {
     say_reply(rt, ReplyForm::Added, &all, &two);
     say_finished(rt, MOST, &few, 0, &all);
     say_finished(rt, MOST, &all, 4, &all);
-    say_finished(rt, 3, &two, 2, &two);
-    say_finished(rt, 3, &two, 1, &two);
-    say_finished(rt, 3, &two, 0, &two);
-    say_finished(rt, 3, &two, 3, &two);
+    for overtaken in [2, 1, 0, 3] {
+        say_finished(rt, 3, &two, overtaken, &two);
+    }
     say_reply(rt, ReplyForm::Persisted, &two, &all);
-    say_plain(rt, ReplyForm::Persisted);
-    say_plain(rt, ReplyForm::Withdrawn);
-    say_plain(rt, ReplyForm::Stabilised);
+    for form in [
+        ReplyForm::Persisted,
+        ReplyForm::Withdrawn,
+        ReplyForm::Stabilised,
+    ] {
+        say_plain(rt, form);
+    }
     say_shown(rt, MOST, MOST, MOST, MOST, MOST, MOST);
     say_plain(
         rt,

@@ -3,16 +3,18 @@ ghost use Rattle.std.specs.Prelude.{◌≤◌, length};
 ghost use Rattle.forms.specs.Write.{HeldInRange};
 ghost use Rattle.forms.specs.Limits.{live_limit};
 
-use super::{say, say_number};
+use super::{say, show};
 use forms::limits::UPDATES;
-use forms::writer::Written;
 use forms::{DidLine, ReplyForm};
 
 // The answer, and the whole buffer as it is now.
-fn say_whole(rt: &impl Print, r: Written, buf: &[u8]) {
+fn say_whole(rt: &impl Print, r: Option<usize>, buf: &[u8]) {
     match r {
-        Written::At(n) => say_number(rt, b"  ends at ", n as u64),
-        Written::NoRoom => say(rt, b"  no room"),
+        Some(n) => {
+            say(rt, b"  ends at ");
+            show(rt, n);
+        }
+        None => say(rt, b"  no room"),
     }
     say(rt, b" in [");
     say(rt, buf);
@@ -48,20 +50,16 @@ fn try_dids(rt: &impl Print, d: DidLine)
     try_did(rt, &mut short, 0, d);
     try_did(rt, &mut just, 1, d);
     try_did(rt, &mut just, 0, d);
-    try_did(rt, &mut long, 6, d);
-    try_did(rt, &mut long, 3, d);
-    try_did(rt, &mut long, 5, d);
-    try_did(rt, &mut long, 43, d);
-    try_did(rt, &mut long, 18446744073709551615, d);
+    for at in [6, 3, 5, 43, usize::MAX] {
+        try_did(rt, &mut long, at, d);
+    }
 }
 
 // The paper's first did line.
 pub fn say_did_room(rt: &impl Print) {
-    let r = forms::reader::read_did(b"(did 5 (inc 0 1 1 513)(not 1 0 1 0))");
-    let did = r.did;
-    let held = did.held;
-    if held.count <= UPDATES {
-        try_dids(rt, did);
+    match forms::reader::read_did(b"(did 5 (inc 0 1 1 513)(not 1 0 1 0))") {
+        Some(did) if did.held.count <= UPDATES => try_dids(rt, did),
+        _ => {}
     }
 }
 
@@ -74,10 +72,9 @@ pub fn say_site_room(rt: &impl Print) {
     try_site(rt, &mut just, 1, 2);
     try_site(rt, &mut just, 0, 10);
     try_site(rt, &mut just, 0, 2);
-    try_site(rt, &mut long, 4, 2);
-    try_site(rt, &mut long, 1, 2);
-    try_site(rt, &mut long, 3, 7);
-    try_site(rt, &mut long, 13, 2);
+    for (at, n) in [(4, 2), (1, 2), (3, 7), (13, 2)] {
+        try_site(rt, &mut long, at, n);
+    }
 }
 
 // A reply of 23 bytes with its end, in buffers of 22, 23 and 30 bytes.
@@ -89,8 +86,7 @@ pub fn say_reply_room(rt: &impl Print) {
     try_ready(rt, &mut short, 0, &ids);
     try_ready(rt, &mut just, 1, &ids);
     try_ready(rt, &mut just, 0, &ids);
-    try_ready(rt, &mut long, 8, &ids);
-    try_ready(rt, &mut long, 7, &ids);
-    try_ready(rt, &mut long, 2, &ids);
-    try_ready(rt, &mut long, 31, &ids);
+    for at in [8, 7, 2, 31] {
+        try_ready(rt, &mut long, at, &ids);
+    }
 }

@@ -1,6 +1,6 @@
 -- A call of a slot, from the contract of its site's call: what the site is lent is valid, its reply is the specification's, and so the call
 -- does what the specification says.
-use Rattle.std.specs.Prelude.{ℕ, ◌*◌, ◌≤◌, ◌<◌, ◌≡◌, refl, Bool, true, false, not, List, [], ◌++◌, T, ltb, length, take, drop}
+use Rattle.std.specs.Prelude.{ℕ, ◌*◌, ◌≤◌, ◌<◌, ◌≡◌, refl, Bool, true, false, not, List, [], ◌++◌, ltb, length, take, drop}
 use Rattle.std.proofs.Common.{arith, subst, ◌∙◌, take-append-drop, take-take, ltb-true, ltb-false}
 use Rattle.std.proofs.Math.Path.{sym, ap}
 use Rattle.std.proofs.Math.Option.{Option, none, some}

@@ -1,12 +1,11 @@
 -- Laws of free numbers that go from slot to slot: a neighbour that has one is found, and each turn keeps what has been gathered.
-use Rattle.std.specs.Prelude.{ℕ, ◌+◌, ◌*◌, ◌-◌, ◌≤◌, ◌<◌, ◌≡◌, refl, Bool, true, false, cond, not, ◌&&◌, List, eqb, ltb, get_or, set}
-use Rattle.std.proofs.Common.{arith, sym, ap, subst, ◌∙◌, length-set, get_or-set_same, get_or-set_other, eq-eqb, ne_eqb, eqb-true, ltb-true, ltb-false}
-use Rattle.std.proofs.lemmas.Bool.{eqb-false}
+use Rattle.std.specs.Prelude.{ℕ, ◌+◌, ◌≤◌, ◌<◌, ◌≡◌, refl, Bool, true, false, cond, not, ◌&&◌, List, eqb, ltb}
+use Rattle.std.proofs.Common.{arith, sym, ap, subst, ◌∙◌, eq-eqb, ne_eqb, eqb-true, ltb-true, ltb-false}
 use Rattle.module.specs.declared.Slot.{Slot}
 use Rattle.module.specs.Four.{four, true_false, four-one}
-use Rattle.module.specs.Parts.{part_room, Gathers}
+use Rattle.module.specs.Parts.{Gathers}
 use Rattle.module.specs.PartLaws.{gathers_start, gathers_next}
-use Rattle.module.specs.Model.{no_slot, slot_in, live_in, held_in}
+use Rattle.module.specs.Model.{live_in, held_in}
 use Rattle.module.specs.Gather.{with_held, MaySpare, spare_at, IsSpare, MayGive, Gives, MayGather, GathersIn}
 
 -- ### A neighbour that holds a free number
@@ -14,13 +13,6 @@ use Rattle.module.specs.Gather.{with_held, MaySpare, spare_at, IsSpare, MayGive,
 and-true : (a b : Bool) → (a && b) ≡ true → (a ≡ true) × (b ≡ true)
 and-true true b e = (refl, e)
 and-true false b e = absurd (true_false (sym e))
-
--- a slot itself is no neighbour; another is asked what it holds
-pub spare_own : (l : List Slot) (i j : ℕ) → j ≡ i → spare_at l i j ≡ false
-spare_own l i j e = ap (λ (b : Bool). not b && ltb (live_in l j) (held_in l j)) (eq-eqb j i e)
-
-pub spare_other : (l : List Slot) (i j : ℕ) → (j ≡ i → ⊥) → spare_at l i j ≡ ltb (live_in l j) (held_in l j)
-spare_other l i j ne = ap (λ (b : Bool). not b && ltb (live_in l j) (held_in l j)) (ne_eqb j i ne)
 
 pub is_spare_of : (l : List Slot) (i j : ℕ) → j < 4 → spare_at l i j ≡ true → IsSpare l i j
 is_spare_of l i j lj e =
@@ -66,55 +58,6 @@ spare_last l i m e₀ e₁ e₂ = go (spare_at l i 3) refl
           m.all,
           m.enough,
         ))
-
--- ### One number
-
-held_as : (k l : List Slot) (n x : ℕ) → slot_in k n ≡ with_held x (slot_in l n) → slot_in k n ≡ with_held (held_in k n) (slot_in l n)
-held_as k l n x e = e ∙ ap (λ (z : ℕ). with_held z (slot_in l n)) (sym (ap (λ (s : Slot). s.held) e))
-
-module _ (l : List Slot) (ns : List ℕ) (i j : ℕ) (m : MayGive l ns i j) where
-  abbrev giver : Slot
-  giver = with_held (held_in l j - 1) (slot_in l j)
-
-  abbrev taker : Slot
-  taker = with_held (held_in l i + 1) (slot_in l i)
-
-  abbrev given : List Slot
-  given = set (set l j giver) i taker
-
-  at-taker : slot_in given i ≡ taker
-  at-taker = get_or-set_same (set l j giver) i taker no_slot (omega (arith, length-set l j giver, m.size, m.own))
-
-  at-giver : slot_in given j ≡ giver
-  at-giver =
-      get_or-set_other (set l j giver) i j taker no_slot m.other
-      ∙ get_or-set_same l j giver no_slot (omega (arith, m.size, m.within))
-
-  at_rest : (n : ℕ) → (n ≡ i → ⊥) → (n ≡ j → ⊥) → slot_in given n ≡ slot_in l n
-  at_rest n oi oj = get_or-set_other (set l j giver) i n taker no_slot oi ∙ get_or-set_other l j n giver no_slot oj
-
-  pub gives_one : Gives l ns i j given (set ns (part_room * i + held_in l i) (get_or ns (part_room * j + (held_in l j - 1)) 0))
-  gives_one =
-      record {
-        size = length-set (set l j giver) i taker ∙ length-set l j giver ∙ m.size;
-        slots = λ n. slots n (eqb n i) refl (eqb n j) refl;
-        gives = omega (arith, ap (λ (s : Slot). s.held) at-giver, m.some);
-        takes = ap (λ (s : Slot). s.held) at-taker;
-        rest = λ n ln oi oj. ap (λ (s : Slot). s.held) (at_rest n oi oj);
-        numbers = ap (λ (z : ℕ). set ns (part_room * i + held_in l i) (get_or ns (part_room * j + z) 0))
-            (sym (ap (λ (s : Slot). s.held) at-giver));
-      }
-    where
-      slots : (n : ℕ) → (a : Bool) → eqb n i ≡ a → (b : Bool) → eqb n j ≡ b → slot_in given n ≡ with_held (held_in given n) (slot_in l n)
-      slots n true p b q =
-          let e = eqb-true n i p in
-          held_as given l n (held_in l i + 1) (ap (slot_in given) e ∙ at-taker ∙ ap (λ (z : ℕ). with_held (held_in l i + 1) (slot_in l z))
-          (sym e))
-      slots n false p true q =
-          let e = eqb-true n j q in
-          held_as given l n (held_in l j - 1) (ap (slot_in given) e ∙ at-giver ∙ ap (λ (z : ℕ). with_held (held_in l j - 1) (slot_in l z))
-          (sym e))
-      slots n false p false q = held_as given l n (held_in l n) (at_rest n (eqb-false n i p) (eqb-false n j q))
 
 -- ### Until there are enough
 

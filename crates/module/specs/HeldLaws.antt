@@ -124,9 +124,6 @@ module _ (m : Module) (i : ℕ) (old : Lent) (ls : List ℕ) (vw : ValidWith m i
 
 -- ### What the others claim
 
-left : (s o all : ℕ) → s + o ≡ all → all ≤ 128 → 128 - s ≡ 128 + o - all
-left s o all e le = omega (arith, e, le)
-
 -- what slot j claims beside slot i
 abbrev pub beside_in : List Slot → ℕ → ℕ → ℕ
 beside_in l i j = cond (eqb j i) 0 (claim_in l j)
@@ -151,15 +148,6 @@ beside_few l i c j lj r e = subst (λ (z : ℕ). z ≤ table_room) (sym e) (go (
     go true = omega arith
     go false = omega (arith, c.fit, four-least (claim_in l) j lj)
 
--- what the others leave, below 64 and from 64 on
-pub others_low : (s o all : ℕ) → s + o ≡ all → all ≤ 128 → 128 - s < 64 → 128 - s ≡ min 64 (128 + o - all)
-others_low s o all e le lt = low (128 - s) lt ∙ ap (min 64) (left s o all e le)
-  where
-    low : (z : ℕ) → z < 64 → z ≡ min 64 z
-    low z q = omega (arith, q)
-
-pub others-high : (s o all : ℕ) → s + o ≡ all → all ≤ 128 → 64 ≤ 128 - s → 64 ≡ min 64 (128 + o - all)
-others-high s o all e le more = high (128 - s) more ∙ ap (min 64) (left s o all e le)
-  where
-    high : (z : ℕ) → 64 ≤ z → 64 ≡ min 64 z
-    high z q = omega (arith, q)
+-- what the others leave, at most 64
+pub others_least : (s o all : ℕ) → s + o ≡ all → all ≤ 128 → min (128 - s) 64 ≡ min 64 (128 + o - all)
+others_least s o all e le = omega (arith, e, le)

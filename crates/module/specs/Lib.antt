@@ -8,7 +8,6 @@ pub mod ViewLaws
 pub mod SiteLaws
 pub mod RoomLaws
 pub mod Calls
-pub mod Settling
 pub mod AcceptLaws
 pub mod CallLaws
 pub mod HeldLaws

@@ -220,22 +220,6 @@ again_is l b v i lt =
         ap (λ (o : Bool). cond (o && (slot_in l i).site.restoring) (slot_in l i).promise least) e
         ∙ sym (ap (λ (o : Bool). cond (restoring_in (site_if o (state_at l b i))) (slot_in l i).promise least) e)
 
-pub again_restoring : (s : Slot) (x r : ℕ) → s.opened ≡ true → s.site.restoring ≡ true → x ≡ max 16 (live_count s.site.table) →
-    r ≡ max x s.promise → r ≡ again_in s
-again_restoring s x r on rs ex er =
-    er
-    ∙ ap (λ (z : ℕ). max z s.promise) ex
-    ∙ sym (ap (λ (b : Bool). max (max 16 (live_count s.site.table)) (cond b s.promise 16)) (ap₂ (λ (a b : Bool). a && b) on rs))
-
-pub again_plain : (s : Slot) (r : ℕ) → (s.opened && s.site.restoring) ≡ false → r ≡ max 16 (live_count s.site.table) → r ≡ again_in s
-again_plain s r off er =
-    er
-    ∙ twice (live_count s.site.table)
-    ∙ sym (ap (λ (b : Bool). max (max 16 (live_count s.site.table)) (cond b s.promise 16)) off)
-  where
-    twice : (z : ℕ) → max 16 z ≡ max (max 16 z) 16
-    twice z = omega arith
-
 -- ### From the contract of the site's call to that of the slot's
 
 module _ (m : Module) (x : Move) (old : Lent) (lt : slot_of x < 4) (n : ℕ) (loan : Loan) (ns : List ℕ)

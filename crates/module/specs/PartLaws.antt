@@ -1,6 +1,6 @@
 -- Laws of the parts: what a place that is written does to them, and that a number that goes from one slot to another is held once.
 use Rattle.std.specs.Prelude.{ℕ, ◌+◌, ◌*◌, ◌-◌, ◌≤◌, ◌<◌, ◌≡◌, refl, ◌⊎◌, Bool, true, false, cond, List, [], ◌∷◌, ◌++◌, eqb, ltb, length, get_or, take, drop, set}
-use Rattle.std.proofs.Common.{arith, add-one, sym, ap, ap₂, ◌∙◌, inl, inr, take-append-drop, length-append, length-take, length-drop, length-set, take-suc-set, length-take-le, take_all, drop_at, get_or-append-add, take-suc, take-take, drop-drop, get_or-take, get_or-drop, get_or-set_same, get_or-set_other, ext_get_or, eqb-true, ltb-true, ltb-false}
+use Rattle.std.proofs.Common.{arith, add-one, sym, ap, ap₂, ◌∙◌, inl, inr, take-append-drop, length-append, length-take, length-drop, length-set, length-take-le, take_all, drop_at, get_or-append-add, take-suc, take-take, drop-drop, get_or-take, get_or-drop, get_or-set_same, get_or-set_other, ext_get_or, eqb-true, ltb-true, ltb-false}
 use Rattle.std.proofs.Math.Arith.{lt_of_le-ne}
 use Rattle.std.proofs.Math.ListN.{get_or-append}
 use Rattle.std.proofs.lemmas.List.{take-append-le}
@@ -330,13 +330,3 @@ module _ (h : ℕ → ℕ) (ns : List ℕ) (s : Shared h ns) (i n : ℕ) (li : i
           s.each e,
         );
       }
-
--- ### A part copied into an array
-
-pub part-copied : (j i : ℕ) (ns a : List ℕ) → i < length a → part_room * j + i < length ns → take i a ≡ part_of j i ns →
-    take (i + 1) (set a i (get_or ns (part_room * j + i) 0)) ≡ part_of j (i + 1) ns
-part-copied j i ns a lt within e =
-    ap (λ (k : ℕ). take k (set a i (get_or ns (part_room * j + i) 0))) (add-one i)
-    ∙ take-suc-set a i (get_or ns (part_room * j + i) 0) lt
-    ∙ ap (λ (l : List ℕ). l ++ (get_or ns (part_room * j + i) 0 ∷ [])) e
-    ∙ sym (part-next j i ns within)

@@ -1,7 +1,8 @@
 -- The poll of a history of a slot's site: only the words of its histories are lent.
-use Rattle.std.specs.Prelude.{ℕ, ◌<◌, length, ◌≡◌, true, false, List, []}
-use Rattle.std.proofs.Common.{arith, sym, ap, ◌∙◌}
+use Rattle.std.specs.Prelude.{ℕ, ◌<◌, length, ◌≡◌, true, false, List, [], Some, None}
+use Rattle.std.specs.Prelude.{Option as Answer}
 use Rattle.std.proofs.Math.Option.{Option, none, some}
+use Rattle.std.proofs.Common.{arith, sym, ap, ◌∙◌}
 use Rattle.forms.specs.declared.Refusal.TheVariants.{OutOfTurn}
 use Rattle.rules.specs.State.{State}
 use Rattle.rules.specs.Poll.{Polled, PollRefused, poll}
@@ -10,16 +11,14 @@ use Rattle.site.specs.declared.poll.PollAnswer.{PollAnswer}
 use Rattle.site.specs.Polls.{polled_of, Polls, ValidWith}
 use Rattle.site.specs.Model.{lent}
 use Rattle.module.specs.declared.Module.{Module}
-use Rattle.module.specs.declared.poll.SlotPoll.{SlotPoll}
-use Rattle.module.specs.declared.poll.SlotPoll.TheVariants.{NotOpened, Site}
 use Rattle.module.specs.Parts.{part_of}
 use Rattle.module.specs.Model.{slot_in, live_in, ValidModule, view_of, around}
 use Rattle.module.specs.CallLaws.{site-some, site_none, gathers_none, li, valid_lent, view-lent, opened-below}
 
 -- What each answer says; 14 for a slot above 3, and one that is not opened.
-unfoldable pub slot_polled : SlotPoll → Polled
-slot_polled NotOpened = PollRefused OutOfTurn
-slot_polled (Site a) = polled_of a
+unfoldable pub slot_polled : Answer PollAnswer → Polled
+slot_polled None = PollRefused OutOfTurn
+slot_polled (Some a) = polled_of a
 
 abbrev pub poll_at : ℕ → Option State → Polled
 poll_at h none = PollRefused OutOfTurn
@@ -32,18 +31,18 @@ ValidBook m i book =
     ValidModule m (around i (lent log rows numbers book []) logs books)
 
 -- The answer is what the specification says of the slot, whatever else the module is valid with.
-abbrev pub PollsIn : Module → ℕ → List ℕ → ℕ → SlotPoll → Type 0
+abbrev pub PollsIn : Module → ℕ → List ℕ → ℕ → Answer PollAnswer → Type 0
 PollsIn m i book h r =
     (log rows numbers : List ℕ) (logs books : ℕ → List ℕ) → ValidModule m (around i (lent log rows numbers book []) logs books) →
     slot_polled r ≡ poll_at h (slot_at i (view_of m (around i (lent log rows numbers book []) logs books))).site
 
-pub polls_none : (m : Module) (i : ℕ) (book : List ℕ) (h : ℕ) → (slot_in m.slots i).opened ≡ false → PollsIn m i book h NotOpened
+pub polls_none : (m : Module) (i : ℕ) (book : List ℕ) (h : ℕ) → (slot_in m.slots i).opened ≡ false → PollsIn m i book h None
 unfolding slot_polled
 polls_none m i book h off log rows numbers logs books v =
     sym (ap (poll_at h) (site_none m.slots (around i (lent log rows numbers book []) logs books) v i off))
 
 pub polls-site : (m : Module) (i : ℕ) (book : List ℕ) (h : ℕ) (a : PollAnswer) → (slot_in m.slots i).opened ≡ true →
-    Polls (slot_in m.slots i).site book h a → PollsIn m i book h (Site a)
+    Polls (slot_in m.slots i).site book h a → PollsIn m i book h (Some a)
 unfolding slot_polled
 polls-site m i book h a on P log rows numbers logs books v =
     let w = lent log rows numbers book [] in

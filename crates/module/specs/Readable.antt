@@ -1,5 +1,6 @@
 -- Which calls are readable: 1 comes before 14, for a slot that is not opened too.
-use Rattle.std.specs.Prelude.{ℕ, ◌≤◌, ◌≡◌, refl, true, false, ◌&&◌, List, [], T, leb}
+use Rattle.std.specs.Prelude.{ℕ, ◌≤◌, ◌≡◌, refl, true, false, ◌&&◌, List, [], T, leb, Some}
+use Rattle.std.specs.Prelude.{Option as Answer}
 use Rattle.std.proofs.Common.{sym, ap, le-leb}
 use Rattle.forms.specs.Decimal.{top, Step}
 use Rattle.forms.specs.Decimal.Step.{got, bad}
@@ -9,7 +10,7 @@ use Rattle.forms.specs.Forms.{Update, Did}
 use Rattle.forms.specs.Read.{did_answer}
 use Rattle.forms.specs.Reading.{read_did}
 use Rattle.forms.specs.AnswerLaws.{did_said}
-use Rattle.forms.specs.declared.reader.DidRead.{DidRead}
+use Rattle.forms.specs.declared.DidLine.{DidLine}
 use Rattle.forms.specs.declared.Refusal.TheVariants.{OutOfTurn}
 use Rattle.rules.specs.Calls.{Call, writable, writable_update}
 use Rattle.compact.specs.Module.{At, readable}
@@ -54,8 +55,9 @@ pub readable-redo : (line : List ℕ) (d : Did) (rest : List ℕ) → read_did l
 unfolding readable
 readable-redo line d rest e = ap (λ (x : Step Did). elim x [ got d rest ↦ true | bad ↦ false ]) e
 
-pub readable_said : (line : List ℕ) (r : DidRead) → r ≡ did_answer (read_did line) → r.ok ≡ true → readable (Call.Redo line) ≡ true
-readable_said line r e on = let d = did_said line r e on in readable-redo line d.d [] d.read
+pub readable_said : (line : List ℕ) (r : Answer DidLine) (x : DidLine) → r ≡ did_answer (read_did line) → r ≡ Some x →
+    readable (Call.Redo line) ≡ true
+readable_said line r x e on = let d = did_said line r e on in readable-redo line d.d [] d.read
 
 pub unreadable_redo : (line : List ℕ) → read_did line ≡ bad → readable (Call.Redo line) ≡ false
 unfolding readable

@@ -1,6 +1,6 @@
 // The calls of a slot that take entries: its site is lent as many numbers as it may use of those that are free, and where the call is
 // refused they are given back.
-ghost use Rattle.std.specs.Prelude.{ℕ, min, ◌≡◌, List, length};
+ghost use Rattle.std.specs.Prelude.{ℕ, List, length};
 ghost use Rattle.rules.specs.Calls.{Call};
 ghost use Rattle.compact.specs.Module.{Move};
 ghost use Rattle.site.specs.Model.{lent, received};
@@ -15,13 +15,6 @@ use history::book::BookWords;
 use site::Site;
 use site::bounds::bound_asked;
 
-// The lesser of two numbers.
-fn lesser(a: usize, b: usize) -> usize
-    ensures { result ≡ min a b }
-{
-    if a < b { a } else { b }
-}
-
 impl Module {
     // "A history has a profile, a version and a place, all 0 when opened." No entry is taken.
     pub fn open(self, slot: usize, log: &mut [u8], book: &mut BookWords, n: u64) -> ModuleResult
@@ -29,14 +22,11 @@ impl Module {
         ensures { (rows numbers ns : List ℕ) → Moves self (Move.Open slot n (length log.old))
             (lent log.old rows numbers book.old ns) result (lent log.new rows numbers book.new ns) }
     {
-        if slot < Module::SLOTS {
-            if self.is_open(slot) {
-                return self.refuse(Refusal::OutOfTurn);
-            }
-            let r = Site::open_log(log, book, n);
-            return self.conclude(slot, r, Module::PROMISE);
+        if slot >= Module::SLOTS || self.is_open(slot) {
+            return self.refuse(Refusal::OutOfTurn);
         }
-        self.refuse(Refusal::OutOfTurn)
+        let r = Site::open_log(log, book, n);
+        self.conclude(slot, r, Module::PROMISE)
     }
 
     // "Restart takes the first K bytes": whatever site the slot had is replaced, in this buffer or another.
@@ -54,17 +44,16 @@ impl Module {
             MovesAnew self (Move.Restart slot log.now k) (lent log.now rows.old numbers.old book.old ns) result
             (lent log.now rows.new numbers.new book.new ns) }
     {
-        if slot < Module::SLOTS {
-            let slots = self.slots;
-            let own = slots[slot];
-            let n = self.may_use(slot);
-            let loan = self.lend(numbers, slot, n);
-            let a = PART * slot;
-            let e = a + n;
-            let r = Site::restart_into(log, rows, &numbers[a..e], book, k);
-            return self.settle(numbers, slot, loan, r, own.promised_again());
+        if slot >= Module::SLOTS {
+            return self.refuse(Refusal::OutOfTurn);
         }
-        self.refuse(Refusal::OutOfTurn)
+        let own = self.slots[slot];
+        let n = self.may_use(slot);
+        let loan = self.lend(numbers, slot, n);
+        let a = PART * slot;
+        let e = a + n;
+        let r = Site::restart_into(log, rows, &numbers[a..e], book, k);
+        self.settle(numbers, slot, loan, r, own.promised_again())
     }
 
     // A supply cut that leaves the first k bytes of the log, and a restart from them.
@@ -81,23 +70,21 @@ impl Module {
         ensures { (ns : List ℕ) → Moves self (Move.At slot (Call.Cut k (length log.now)))
             (lent log.now rows.old numbers.old book.old ns) result (lent log.now rows.new numbers.new book.new ns) }
     {
-        if self.is_open(slot) {
-            let slots = self.slots;
-            let own = slots[slot];
-            let site = own.site;
-            let n = self.may_use(slot);
-            let loan = self.lend(numbers, slot, n);
-            let a = PART * slot;
-            let e = a + n;
-            let r = site.cut(log, rows, &numbers[a..e], book, k);
-            return self.settle(numbers, slot, loan, r, own.promised_again());
+        if !self.is_open(slot) {
+            return self.refuse(Refusal::OutOfTurn);
         }
-        self.refuse(Refusal::OutOfTurn)
+        let own = self.slots[slot];
+        let n = self.may_use(slot);
+        let loan = self.lend(numbers, slot, n);
+        let a = PART * slot;
+        let e = a + n;
+        let r = own.site.cut(log, rows, &numbers[a..e], book, k);
+        self.settle(numbers, slot, loan, r, own.promised_again())
     }
 
     // "An added operation is future." It is tried with those that wait.
     pub fn add(
-        self,
+        mut self,
         slot: usize,
         log: &[u8],
         rows: &mut [u64],
@@ -111,29 +98,29 @@ impl Module {
         ensures { Moves self (Move.At slot (Call.Add id (updates_held asked))) (lent log.now rows.old numbers.old book.old lists.old) result
             (lent log.now rows.new numbers.new book.new lists.new) }
     {
-        if slot < Module::SLOTS {
-            let mut after = self;
-            let own = after.slots[slot];
-            if own.opened {
-                let site = own.site;
-                let n = lesser(own.live() + 1, after.may_use(slot));
-                let a = PART * slot;
-                let e = a + n;
-                if n <= own.held {
-                    let r = site.add(log, rows, &numbers[a..e], book, lists, id, asked);
-                    after.slots[slot] = own.with(r.site);
-                    let reply = r.reply;
-                    return ModuleResult { after, reply };
-                }
-                let loan = after.lend(numbers, slot, n);
-                let r = site.add(log, rows, &numbers[a..e], book, lists, id, asked);
-                return after.settle(numbers, slot, loan, r, own.promise);
-            }
+        if !self.is_open(slot) {
             bound_asked(asked);
             return self.refuse(Refusal::OutOfTurn);
         }
-        bound_asked(asked);
-        self.refuse(Refusal::OutOfTurn)
+        let own = self.slots[slot];
+        let n = (own.live() + 1).min(self.may_use(slot));
+        let a = PART * slot;
+        let e = a + n;
+        if n <= own.held {
+            let r = own
+                .site
+                .add(log, rows, &numbers[a..e], book, lists, id, asked);
+            self.slots[slot] = own.with(r.site);
+            return ModuleResult {
+                after: self,
+                reply: r.reply,
+            };
+        }
+        let loan = self.lend(numbers, slot, n);
+        let r = own
+            .site
+            .add(log, rows, &numbers[a..e], book, lists, id, asked);
+        self.settle(numbers, slot, loan, r, own.promise)
     }
 
     // "Redo takes a did line without its end."
@@ -151,21 +138,18 @@ impl Module {
             Moves self (Move.At slot (Call.Redo line.now)) (lent log.old rows.old numbers.old book.old ns) result
             (lent log.new rows.new numbers.new book.new ns) }
     {
-        if self.is_open(slot) {
-            let slots = self.slots;
-            let own = slots[slot];
-            let site = own.site;
-            let n = lesser(own.live() + 1, self.may_use(slot));
-            let loan = self.lend(numbers, slot, n);
-            let a = PART * slot;
-            let e = a + n;
-            let r = site.redo(log, rows, &mut numbers[a..e], book, line);
-            return self.settle(numbers, slot, loan, r, own.promise);
+        if !self.is_open(slot) {
+            return match read_did(line) {
+                Some(_) => self.refuse(Refusal::OutOfTurn),
+                None => self.refuse(Refusal::Unreadable),
+            };
         }
-        let x = read_did(line);
-        if x.ok {
-            return self.refuse(Refusal::OutOfTurn);
-        }
-        self.refuse(Refusal::Unreadable)
+        let own = self.slots[slot];
+        let n = (own.live() + 1).min(self.may_use(slot));
+        let loan = self.lend(numbers, slot, n);
+        let a = PART * slot;
+        let e = a + n;
+        let r = own.site.redo(log, rows, &mut numbers[a..e], book, line);
+        self.settle(numbers, slot, loan, r, own.promise)
     }
 }

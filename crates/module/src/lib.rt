@@ -22,7 +22,9 @@ mod numbers;
 pub mod poll;
 pub mod start;
 
-// A place for a site.
+// A place for a site. It has a site's counters also while none is opened: fitting_module's `words_of` and `module_at` carry them, and a
+// refused call leaves them; so `site` and `opened` are not one Option. That a site has at most 64 live operations, which `live`, `claim`,
+// `claim_beside` and `promised_again` ask, is no invariant: fitting_module's `slot_at` makes a slot of whatever words C lends.
 #[derive(Clone, Copy)]
 pub struct Slot {
     pub site: Site,
@@ -59,17 +61,7 @@ struct Loan {
 fn is_refused(form: ReplyForm) -> bool
     ensures { result ≡ refuses form }
 {
-    match form {
-        ReplyForm::Refused(_) => true,
-        _ => false,
-    }
-}
-
-// The greater of two numbers.
-fn greater(a: usize, b: usize) -> usize
-    ensures { result ≡ max a b }
-{
-    if a < b { b } else { a }
+    matches!(form, ReplyForm::Refused(_))
 }
 
 impl Slot {
@@ -78,8 +70,7 @@ impl Slot {
         requires { live_count self.site.table ≤ part_room }
         ensures { result ≡ live_count self.site.table }
     {
-        let site = self.site;
-        let table = site.table;
+        let table = self.site.table;
         table.finished + table.queue
     }
 
@@ -88,7 +79,7 @@ impl Slot {
         requires { live_count self.site.table ≤ part_room }
         ensures { result ≡ max (live_count self.site.table) self.promise }
     {
-        greater(self.live(), self.promise)
+        self.live().max(self.promise)
     }
 
     // What slot j claims beside another slot: nothing, if it is this one.
@@ -96,10 +87,7 @@ impl Slot {
         requires { live_count self.site.table ≤ part_room }
         ensures { result ≡ cond (eqb j slot) 0 (max (live_count self.site.table) self.promise) }
     {
-        if j == slot {
-            return 0;
-        }
-        self.claim()
+        if j == slot { 0 } else { self.claim() }
     }
 
     // The slot with the site that a call handed back.
@@ -109,8 +97,7 @@ impl Slot {
         Slot {
             site,
             opened: true,
-            promise: self.promise,
-            held: self.held,
+            ..self
         }
     }
 
@@ -120,15 +107,12 @@ impl Slot {
         requires { live_count self.site.table ≤ part_room }
         ensures { result ≡ again_in self }
     {
-        let live = self.live();
-        let most = greater(Module::PROMISE, live);
-        let site = self.site;
-        if self.opened {
-            if site.restoring {
-                return greater(most, self.promise);
-            }
+        let most = Module::PROMISE.max(self.live());
+        if self.opened && self.site.restoring {
+            most.max(self.promise)
+        } else {
+            most
         }
-        most
     }
 }
 
@@ -141,16 +125,11 @@ impl Module {
     pub const PROMISE: usize = 16;
 
     // Whether the slot has a site.
-    fn is_open(self, slot: usize) -> bool
-        requires { length self.slots ≡ 4 }
-        ensures { result ≡ (slot_in self.slots slot).opened }
+    fn is_open(&self, slot: usize) -> bool
+        requires { length self.now.slots ≡ 4 }
+        ensures { result ≡ (slot_in self.now.slots slot).opened }
     {
-        if slot < Module::SLOTS {
-            let slots = self.slots;
-            let s = slots[slot];
-            return s.opened;
-        }
-        false
+        slot < Module::SLOTS && self.slots[slot].opened
     }
 
     // How many entries a slot may use: 64, or what the others' claims leave of the table.
@@ -158,16 +137,12 @@ impl Module {
         requires { Claims self.slots slot }
         ensures { result ≡ may_use self.slots slot }
     {
-        let a = self.slots[0];
-        let b = self.slots[1];
-        let c = self.slots[2];
-        let d = self.slots[3];
+        let [a, b, c, d] = self.slots;
         let others = a.claim_beside(0, slot)
             + b.claim_beside(1, slot)
             + c.claim_beside(2, slot)
             + d.claim_beside(3, slot);
-        let room = Module::ENTRIES - others;
-        if room < Site::LIVE { room } else { Site::LIVE }
+        (Module::ENTRIES - others).min(Site::LIVE)
     }
 
     // Lends free numbers of the neighbours to a slot until it holds n.
@@ -176,33 +151,26 @@ impl Module {
         ensures { Lends self.slots numbers.old slot n result numbers.new }
     {
         let saved = part_of(numbers, slot);
-        let slots = self.slots;
-        let after = gather(numbers, slots, slot, n);
         Loan {
-            slots: after,
+            slots: gather(numbers, self.slots, slot, n),
             saved,
         }
     }
 
     // The module with the site that a call of a slot handed back.
-    fn answer(slots: [Slot; 4], slot: usize, r: CallResult, promise: usize) -> ModuleResult
+    fn answer(mut slots: [Slot; 4], slot: usize, r: CallResult, promise: usize) -> ModuleResult
         requires { (slot < 4) × (length slots ≡ 4) }
         ensures { result ≡ answered slots slot r promise }
     {
-        let mut after = slots;
-        let own = after[slot];
-        let held = own.held;
-        let site = r.site;
-        let reply = r.reply;
-        after[slot] = Slot {
-            site,
+        slots[slot] = Slot {
+            site: r.site,
             opened: true,
             promise,
-            held,
+            held: slots[slot].held,
         };
         ModuleResult {
-            after: Module { slots: after },
-            reply,
+            after: Module { slots },
+            reply: r.reply,
         }
     }
 
@@ -211,13 +179,13 @@ impl Module {
         requires { (slot < 4) × (length self.slots ≡ 4) }
         ensures { Concludes self slot r promise result }
     {
-        let reply = r.reply;
-        let form = reply.form;
-        if is_refused(form) {
-            return ModuleResult { after: self, reply };
+        if is_refused(r.reply.form) {
+            return ModuleResult {
+                after: self,
+                reply: r.reply,
+            };
         }
-        let slots = self.slots;
-        Module::answer(slots, slot, r, promise)
+        Module::answer(self.slots, slot, r, promise)
     }
 
     // After a call with numbers that were lent: where it was refused, they are given back.
@@ -232,18 +200,17 @@ impl Module {
         requires { (slot < 4) × (length loan.slots ≡ 4) × (length numbers.old ≡ 256) }
         ensures { Settles self slot loan r promise numbers.old result numbers.new }
     {
-        let reply = r.reply;
-        let form = reply.form;
-        if is_refused(form) {
-            let saved = loan.saved;
-            put_part(numbers, slot, saved);
-            return ModuleResult { after: self, reply };
+        if is_refused(r.reply.form) {
+            put_part(numbers, slot, loan.saved);
+            return ModuleResult {
+                after: self,
+                reply: r.reply,
+            };
         }
-        let slots = loan.slots;
-        Module::answer(slots, slot, r, promise)
+        Module::answer(loan.slots, slot, r, promise)
     }
 
-    // A call that is refused before it comes to a site.
+    // A call that is refused before it comes to a site. Site and session have such a function too, each with a result of its own.
     fn refuse(self, q: Refusal) -> ModuleResult
         ensures { Turns self q result }
     {

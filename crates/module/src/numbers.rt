@@ -14,13 +14,8 @@ pub fn part_of(numbers: &[u8], slot: usize) -> [u8; PART]
     requires { (slot < 4) × (length numbers.now ≡ 256) }
     ensures { result ≡ part_of slot 64 numbers.now }
 {
-    let at = PART * slot;
     let mut part = [0u8; PART];
-    let mut i: usize = 0;
-    while i < PART {
-        part[i] = numbers[at + i];
-        i += 1;
-    }
+    part.copy_from_slice(&numbers[PART * slot..PART * (slot + 1)]);
     part
 }
 
@@ -29,12 +24,7 @@ pub fn put_part(numbers: &mut [u8], slot: usize, part: [u8; PART])
     requires { (slot < 4) × (length numbers.old ≡ 256) }
     ensures { numbers.new ≡ take (64 * slot) numbers.old ++ (part ++ drop (64 * slot + 64) numbers.old) }
 {
-    let at = PART * slot;
-    let mut i: usize = 0;
-    while i < PART {
-        numbers[at + i] = part[i];
-        i += 1;
-    }
+    numbers[PART * slot..PART * (slot + 1)].copy_from_slice(&part);
 }
 
 // Whether slot j is a neighbour that holds a free number.
@@ -45,10 +35,8 @@ fn is_spare(slots: [Slot; 4], slot: usize, j: usize) -> bool
     if j == slot {
         return false;
     }
-    let s = slots[j];
-    let site = s.site;
-    let table = site.table;
-    table.finished + table.queue < s.held
+    let table = slots[j].site.table;
+    table.finished + table.queue < slots[j].held
 }
 
 // A neighbour that holds a free number.
@@ -56,48 +44,33 @@ fn spare(slots: [Slot; 4], slot: usize) -> usize
     requires { MaySpare slots slot }
     ensures { IsSpare slots slot result }
 {
-    if is_spare(slots, slot, 0) {
-        return 0;
-    }
-    if is_spare(slots, slot, 1) {
-        return 1;
-    }
-    if is_spare(slots, slot, 2) {
-        return 2;
+    for j in 0..3 {
+        if is_spare(slots, slot, j) {
+            return j;
+        }
     }
     3
 }
 
 // The last number that slot `from` holds goes behind those that slot `to` holds.
-fn give(numbers: &mut [u8], slots: [Slot; 4], to: usize, from: usize) -> [Slot; 4]
+fn give(numbers: &mut [u8], mut slots: [Slot; 4], to: usize, from: usize) -> [Slot; 4]
     requires { MayGive slots numbers.old to from }
     ensures { Gives slots numbers.old to from result numbers.new }
 {
-    let mut after = slots;
-    let mut giver = after[from];
-    let mut taker = after[to];
-    let held = giver.held - 1;
-    let count = taker.held;
-    numbers[PART * to + count] = numbers[PART * from + held];
-    giver.held = held;
-    taker.held = count + 1;
-    after[from] = giver;
-    after[to] = taker;
-    after
+    slots[from].held -= 1;
+    numbers[PART * to + slots[to].held] = numbers[PART * from + slots[from].held];
+    slots[to].held += 1;
+    slots
 }
 
-// A slot is given free numbers of its neighbours until it holds n.
-pub fn gather(numbers: &mut [u8], slots: [Slot; 4], slot: usize, n: usize) -> [Slot; 4]
+// A slot is given free numbers of its neighbours until it holds n: the test of the loop says so, where a `for` would count the difference.
+pub fn gather(numbers: &mut [u8], mut slots: [Slot; 4], slot: usize, n: usize) -> [Slot; 4]
     requires { MayGather slots numbers.old slot n }
     ensures { Gathered slots numbers.old slot n result numbers.new }
 {
-    let mut after = slots;
-    loop {
-        let own = after[slot];
-        if n <= own.held {
-            return after;
-        }
-        let from = spare(after, slot);
-        after = give(numbers, after, slot, from);
+    while slots[slot].held < n {
+        let from = spare(slots, slot);
+        slots = give(numbers, slots, slot, from);
     }
+    slots
 }

@@ -6,18 +6,13 @@ ghost use Rattle.module.specs.Start.{Made};
 use super::{Module, Slot};
 use site::Site;
 
-// Numbers lent whole: there are as many as their type says.
-fn known_length(_numbers: &[u8]) {}
-
 // The numbers 0 .. 127, in the parts of slots 0 and 1.
 fn number_entries(numbers: &mut [u8])
     requires { length numbers.old ≡ 256 }
     ensures { (length numbers.new ≡ 256) × (take 128 numbers.new ≡ below 128) }
 {
-    let mut i: usize = 0;
-    while i < Module::ENTRIES {
+    for i in 0..Module::ENTRIES {
         numbers[i] = i as u8;
-        i += 1;
     }
 }
 
@@ -26,23 +21,14 @@ impl Module {
     pub fn new(numbers: &mut [u8; 256]) -> Module
         ensures { Made result numbers.new }
     {
-        known_length(numbers);
         number_entries(numbers);
-        let site = Site::blank();
-        let promise = Module::PROMISE;
-        let opened = false;
         let part = Slot {
-            site,
-            opened,
-            promise,
+            site: Site::blank(),
+            opened: false,
+            promise: Module::PROMISE,
             held: 64,
         };
-        let none = Slot {
-            site,
-            opened,
-            promise,
-            held: 0,
-        };
+        let none = Slot { held: 0, ..part };
         Module {
             slots: [part, part, none, none],
         }

@@ -12,21 +12,21 @@ ghost use Rattle.std.specs.Io.{ReadsAtMost};
 use std::io;
 use std::io::{Read, Write};
 
-// Room for a session: 1,048,576 bytes.
-fn input_buffer() -> [u8; 1048576]
-    ensures { 1048576 ≡ length result }
-{
-    [0; 1048576]
-}
+// Room for a session.
+const INPUT_BYTES: usize = 1048576;
 
 // Room for the listing of every log of 65,536 bytes.
-fn listing_buffer() -> [u8; 720896]
-    ensures { 720896 ≡ length result }
+const PAGE_BYTES: usize = 720896;
+
+// A buffer of zeros.
+fn zeros<const N: usize>() -> [u8; N]
+    ensures { N ≡ length result }
 {
-    [0; 720896]
+    [0; N]
 }
 
-// Reads until the buffer is full or the input ends: how many bytes stand at the buffer's start.
+// Reads until the buffer is full or the input ends: how many bytes stand at the buffer's start. No index is counted: each read tells how
+// many came.
 fn read_full<R: Read>(reader: &mut R, buf: &mut [u8]) -> io::Result<usize>
     ensures { ReadsAtMost result buf.new }
 {
@@ -42,10 +42,10 @@ fn read_full<R: Read>(reader: &mut R, buf: &mut [u8]) -> io::Result<usize>
 }
 
 fn main(rt: HostRuntime) -> io::Result<()> {
-    let mut input = input_buffer();
-    let mut page = listing_buffer();
+    let mut input = zeros::<INPUT_BYTES>();
+    let mut page = zeros::<PAGE_BYTES>();
     let n = read_full(&mut rt.stdin(), &mut input)?;
-    if 1048576 <= n {
+    if INPUT_BYTES <= n {
         return eprintln!(rt;
             "This session has 1,048,576 characters or more; its log is not listed."
         );

@@ -1,5 +1,5 @@
 -- What the steps of each call come to: the reply of the specification, and the records that it leaves.
-use Rattle.std.specs.Prelude.{ℕ, ◌+◌, ◌*◌, ◌-◌, ◌^◌, ◌≤◌, ◌<◌, ◌≡◌, Bool, true, cond, ltb, length, drop}
+use Rattle.std.specs.Prelude.{ℕ, ◌+◌, ◌*◌, ◌-◌, ◌^◌, ◌≤◌, ◌<◌, ◌≡◌, Bool, true, cond, ltb, length, drop, Some, None, Result, Ok, Err}
 use native.Mathlib.Omega.{arith}
 use Rattle.std.proofs.Math.Path.{refl, ap, subst}
 use Rattle.std.proofs.Common.{sym, ap₂, ◌∙◌, drop-drop}
@@ -27,16 +27,12 @@ use Rattle.rule_laws.specs.RecordLaws.{accepted}
 use Rattle.rule_laws.specs.RecordMasks.{mask_report, site_low, bit_small}
 use Rattle.history.specs.Asking.{verdict_of}
 use Rattle.history.specs.Words.{within}
-use Rattle.history.specs.declared.Verdict.{Verdict}
-use Rattle.history.specs.declared.Verdict.TheVariants.{Passes, Refused}
 use Rattle.records.specs.declared.Records.{Records}
-use Rattle.records.specs.declared.RecordsResult.{RecordsResult}
 use Rattle.records.specs.declared.Answer.{Answer}
 use Rattle.records.specs.declared.Answer.TheVariants.{Done}
-use Rattle.records.specs.declared.Found.TheVariants.{At, Nothing}
 use Rattle.records.specs.declared.words.Record.{Record}
 use Rattle.records.specs.Model.{width, record_from, record_of, numbers_of, records_view, ValidRecords, place_of, GapClosed}
-use Rattle.records.specs.Model.{answer_by, answer_in, refused_as, RecordsDo}
+use Rattle.records.specs.Model.{answer_by, answer_in, RecordsDo}
 use Rattle.records.specs.NumberLaws.{no_record, entry_in, view_long, view_at_lem, Masked, view-put, view_push}
 use Rattle.records.specs.NumberLaws.{placed_past, omitted, view-closed}
 use Rattle.records.specs.FindLaws.{First, place_at_lem, place_none}
@@ -101,12 +97,12 @@ below_limit n le ne = go (ltb n record_limit) refl
 
 -- ### Verdicts
 
-pub verdict_passes : (o : Option Refusal) → verdict_of o ≡ Passes → o ≡ none
+pub verdict_passes : (o : Option Refusal) → verdict_of o ≡ Ok tt → o ≡ none
 unfolding verdict_of
 verdict_passes none e = refl
 verdict_passes (some r) e = let z : ◌≡◌ {A = ℕ} 0 1 = cc in absurd (omega arith)
 
-pub verdict_refused : (o : Option Refusal) (q : Refusal) → verdict_of o ≡ Refused q → o ≡ some q
+pub verdict_refused : (o : Option Refusal) (q : Refusal) → verdict_of o ≡ Err q → o ≡ some q
 unfolding verdict_of
 verdict_refused none q e = let z : ◌≡◌ {A = ℕ} 0 1 = cc in absurd (omega arith)
 verdict_refused (some r) q e = let z : r ≡ q = cc in ap (λ (x : Refusal). some x) z
@@ -118,15 +114,15 @@ module _ (s : Records) (ws : List ℕ) (valid : ValidRecords s ws) where
   -- ### 7, 10, 18 and 19 of a new record
 
   module _ (id : ℕ) (sent full : List ℕ) (t : ℕ) where
-    pub check-again : (i : ℕ) → place_of (is_for id) rs ≡ At i → Refused IdPending ≡ verdict_of (record_refusal id sent full t rs)
+    pub check-again : (i : ℕ) → place_of (is_for id) rs ≡ Some i → Err IdPending ≡ verdict_of (record_refusal id sent full t rs)
     unfolding verdict_of record_refusal recorded check
     check-again i e = rw (place_at_lem (is_for id) no_record rs i e).some_one
 
-    module _ (fresh : place_of (is_for id) rs ≡ Nothing) where
+    module _ (fresh : place_of (is_for id) rs ≡ None) where
       new_id : any (is_for id) rs ≡ false
       new_id = (place_none (is_for id) rs fresh).1
 
-      pub check-full : s.count ≡ record_limit → Refused TableFull ≡ verdict_of (record_refusal id sent full t rs)
+      pub check-full : s.count ≡ record_limit → Err TableFull ≡ verdict_of (record_refusal id sent full t rs)
       unfolding verdict_of record_refusal recorded records_full check
       check-full e = rw (new_id, le-leb record_limit (length rs) (omega (arith, e, view_long s ws)))
 
@@ -134,34 +130,29 @@ module _ (s : Records) (ws : List ℕ) (valid : ValidRecords s ws) where
         not_full : leb record_limit (length rs) ≡ false
         not_full = lt_not_le record_limit (length rs) (omega (arith, room, view_long s ws))
 
-        pub check_wrong : wrong_threshold t full ≡ true → Refused WrongThreshold ≡ verdict_of (record_refusal id sent full t rs)
+        pub check_wrong : wrong_threshold t full ≡ true → Err WrongThreshold ≡ verdict_of (record_refusal id sent full t rs)
         unfolding verdict_of record_refusal recorded records_full check
         check_wrong e = rw (new_id, not_full, e)
 
         pub check_outside : wrong_threshold t full ≡ false → full_not_sent sent full ≡ true
-            → Refused NotSent ≡ verdict_of (record_refusal id sent full t rs)
+            → Err NotSent ≡ verdict_of (record_refusal id sent full t rs)
         unfolding verdict_of record_refusal recorded records_full check
         check_outside e f = rw (new_id, not_full, e, f)
 
         pub check_ok : wrong_threshold t full ≡ false → full_not_sent sent full ≡ false
-            → Passes ≡ verdict_of (record_refusal id sent full t rs)
+            → Ok tt ≡ verdict_of (record_refusal id sent full t rs)
         unfolding verdict_of record_refusal recorded records_full check
         check_ok e f = rw (new_id, not_full, e, f)
 
   -- ### Refused calls
 
-  pub call_refused : (reply : RecordReply) (q : Refusal) → reply ≡ book.refused q → RecordsDo s ws reply (refused_as s q) ws
+  pub call_refused : (reply : RecordReply) (q : Refusal) → reply ≡ book.refused q → RecordsDo s ws reply s (Err q) ws
   unfolding answer_in
   call_refused reply q e =
-      subst (λ (x : RecordReply). RecordsDo s ws x (refused_as s q) ws) (sym e)
+      subst (λ (x : RecordReply). RecordsDo s ws x s (Err q) ws) (sym e)
       (record { answer = refl; valid = valid; view = refl; refused = (refl, refl); past = refl })
 
-  -- 19, as the code gives it
-  pub not_sent : (reply : RecordReply) → reply ≡ book.refused NotSent → (r : RecordsResult) → r ≡ refused_as s NotSent
-      → RecordsDo s ws reply r ws
-  not_sent reply e r f = subst (λ (x : RecordsResult). RecordsDo s ws reply x ws) (sym f) (call_refused reply NotSent e)
-
-  module _ (id : ℕ) (gone : place_of (is_for id) rs ≡ Nothing) where
+  module _ (id : ℕ) (gone : place_of (is_for id) rs ≡ None) where
     no_record_lem : find (is_for id) rs ≡ none
     no_record_lem = (place_none (is_for id) rs gone).0
 
@@ -179,15 +170,15 @@ module _ (s : Records) (ws : List ℕ) (valid : ValidRecords s ws) where
 
   -- ### Recording
 
-  module _ (id sent full t : ℕ) (v : Verdict)
+  module _ (id sent full t : ℕ) (v : Result (Unit {0}) Refusal)
       (checked : v ≡ verdict_of (record_refusal id (sites_of sent) (sites_of full) t rs)) where
-    pub records_not : (q : Refusal) → v ≡ Refused q → RecordsDo s ws (record_new id sent full t rs) (refused_as s q) ws
+    pub records_not : (q : Refusal) → v ≡ Err q → RecordsDo s ws (record_new id sent full t rs) s (Err q) ws
     unfolding record_new unless_checked
     records_not q e =
         call_refused (record_new id sent full t rs) q
         (rw (verdict_refused (record_refusal id (sites_of sent) (sites_of full) t rs) q (sym checked ∙ e)))
 
-    module _ (passes : v ≡ Passes) where
+    module _ (passes : v ≡ Ok tt) where
       new_reply : record_new id sent full t rs ≡ book.ok (rs ++ (new_record id (sites_of sent) (sites_of full) t ∷ []))
       unfolding record_new unless_checked
       new_reply = rw (verdict_passes (record_refusal id (sites_of sent) (sites_of full) t rs) (sym checked ∙ passes))
@@ -203,11 +194,11 @@ module _ (s : Records) (ws : List ℕ) (valid : ValidRecords s ws) where
       records_fits = omega (arith, records_room, valid.long)
 
       pub records : (r : Record) → r ≡ record { id = id; sent = sent; full = full; reported = 0; threshold = t } → Masked r
-          → RecordsDo s ws (record_new id sent full t rs) (record { records = record { count = s.count + 1 }; answer = Done })
+          → RecordsDo s ws (record_new id sent full t rs) (record { count = s.count + 1 }) (Ok Done)
           (placed ws (width * s.count) (numbers_of r))
       unfolding answer_in
       records r e small =
-          subst (λ (x : RecordReply). RecordsDo s ws x (record { records = record { count = s.count + 1 }; answer = Done })
+          subst (λ (x : RecordReply). RecordsDo s ws x (record { count = s.count + 1 }) (Ok Done)
           (placed ws (width * s.count) (numbers_of r))) (sym new_reply)
           (record {
             answer = refl;
@@ -227,16 +218,16 @@ module _ (s : Records) (ws : List ℕ) (valid : ValidRecords s ws) where
 
       pub records_as : (new : List ℕ) → sent < 256 → full < 256
           → new ≡ placed ws (width * s.count) (numbers_of (record { id = id; sent = sent; full = full; reported = 0; threshold = t }))
-          → RecordsDo s ws (record_new id sent full t rs) (record { records = record { count = s.count + 1 }; answer = Done }) new
+          → RecordsDo s ws (record_new id sent full t rs) (record { count = s.count + 1 }) (Ok Done) new
       records_as new a b e =
           subst (λ (x : List ℕ). RecordsDo s ws (record_new id sent full t rs)
-          (record { records = record { count = s.count + 1 }; answer = Done }) x) (sym e)
+          (record { count = s.count + 1 }) (Ok Done) x) (sym e)
           (records (record { id = id; sent = sent; full = full; reported = 0; threshold = t }) refl
           (record { sent = a; full = b; reported = omega arith }))
 
   -- ### The record that is found
 
-  module _ (id i : ℕ) (place : place_of (is_for id) rs ≡ At i) where
+  module _ (id i : ℕ) (place : place_of (is_for id) rs ≡ Some i) where
     it : First (is_for id) no_record rs i
     it = place_at_lem (is_for id) no_record rs i place
 
@@ -250,7 +241,7 @@ module _ (s : Records) (ws : List ℕ) (valid : ValidRecords s ws) where
     found_is = it.found ∙ ap (λ (x : book.Record). some x) (view_at_lem s ws i found_low)
 
     -- the question
-    pub question-found : (r : Record) → r ≡ record_from ws i → answer_by (counts (record_of r)) ≡ answer_in (question id rs)
+    pub question-found : (r : Record) → r ≡ record_from ws i → Ok (answer_by (counts (record_of r))) ≡ answer_in (question id rs)
     unfolding question on_record answer_in
     question-found r e = rw (e, found_is)
 
@@ -278,11 +269,11 @@ module _ (s : Records) (ws : List ℕ) (valid : ValidRecords s ws) where
           (it.changed (with_report site) ∙ ap (λ (x : book.Record). set rs i (with_report site x)) (view_at_lem s ws i found_low)))
 
       pub reports : (r : Record) → r ≡ with_bit site (record_from ws i)
-          → RecordsDo s ws (report id site rs) (record { records = s; answer = answer_by (counts (record_of r)) })
+          → RecordsDo s ws (report id site rs) s (Ok (answer_by (counts (record_of r))))
           (placed ws (width * i) (numbers_of r))
       unfolding answer_in
       reports r e =
-          subst (λ (x : Record). RecordsDo s ws (report id site rs) (record { records = s; answer = answer_by (counts (record_of x)) })
+          subst (λ (x : Record). RecordsDo s ws (report id site rs) s (Ok (answer_by (counts (record_of x))))
           (placed ws (width * i) (numbers_of x))) (sym e) whole
         where
           masked : Masked (with_bit site (record_from ws i))
@@ -292,14 +283,14 @@ module _ (s : Records) (ws : List ℕ) (valid : ValidRecords s ws) where
           as_report = bit-report site (record_from ws i) low (from_masked ws i)
 
           whole : RecordsDo s ws (report id site rs)
-              (record { records = s; answer = answer_by (counts (record_of (with_bit site (record_from ws i)))) })
+              s (Ok (answer_by (counts (record_of (with_bit site (record_from ws i))))))
               (placed ws (width * i) (numbers_of (with_bit site (record_from ws i))))
           whole =
               subst (λ (x : RecordReply). RecordsDo s ws x
-              (record { records = s; answer = answer_by (counts (record_of (with_bit site (record_from ws i)))) })
+              s (Ok (answer_by (counts (record_of (with_bit site (record_from ws i))))))
               (placed ws (width * i) (numbers_of (with_bit site (record_from ws i))))) (sym report_reply)
               (record {
-                answer = ap (λ (x : book.Record). answer_by (counts x)) as_report;
+                answer = ap (λ (x : book.Record). Ok (answer_by (counts x))) as_report;
                 valid =
                     record {
                       few = valid.few;
@@ -324,15 +315,15 @@ module _ (s : Records) (ws : List ℕ) (valid : ValidRecords s ws) where
         → (a : Answer)
         → a ≡ answer_by (counts (record_of (reported_by bit r)))
         → (new : List ℕ) → new ≡ placed ws (width * i) (numbers_of (reported_by bit r))
-        → RecordsDo s ws (report id site rs) (record { records = s; answer = a }) new
+        → RecordsDo s ws (report id site rs) s (Ok a) new
     reports_as site bit r e inside b a f new g =
         let there-now : is_in site (sites_of (record_from ws i).sent) ≡ true =
         ap (λ (x : Record). is_in site (sites_of x.sent)) (sym e) ∙ inside
         in
         let same : reported_by bit r ≡ with_bit site (record_from ws i) = ap₂ (λ (n : ℕ) (x : Record). reported_by n x) b e in
-        subst (λ (x : Answer). RecordsDo s ws (report id site rs) (record { records = s; answer = x }) new) (sym f)
+        subst (λ (x : Answer). RecordsDo s ws (report id site rs) s (Ok x) new) (sym f)
         (subst (λ (x : List ℕ). RecordsDo s ws (report id site rs)
-        (record { records = s; answer = answer_by (counts (record_of (reported_by bit r))) }) x) (sym g)
+        s (Ok (answer_by (counts (record_of (reported_by bit r))))) x) (sym g)
         (reports site there-now (reported_by bit r) same))
 
     -- forgetting
@@ -341,10 +332,10 @@ module _ (s : Records) (ws : List ℕ) (valid : ValidRecords s ws) where
     forget_reply = rw (found_is) (ap (λ (l : List book.Record). book.ok l) it.dropped)
 
     pub forgets : (last : ℕ) (new : List ℕ) → last + 1 ≡ s.count → GapClosed (width * i) (width * last) ws new
-        → RecordsDo s ws (forget_record id rs) (record { records = record { count = last }; answer = Done }) new
+        → RecordsDo s ws (forget_record id rs) (record { count = last }) (Ok Done) new
     unfolding answer_in
     forgets last new e g =
-        subst (λ (x : RecordReply). RecordsDo s ws x (record { records = record { count = last }; answer = Done }) new) (sym forget_reply)
+        subst (λ (x : RecordReply). RecordsDo s ws x (record { count = last }) (Ok Done) new) (sym forget_reply)
         (record {
           answer = refl;
           valid = record { few = omega (arith, e, valid.few); long = omega (arith, valid.long, g.long) };

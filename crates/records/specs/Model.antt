@@ -1,5 +1,5 @@
 -- Records by value over the numbers of the lent array, and what each call promises.
-use Rattle.std.specs.Prelude.{ℕ, suc, ◌+◌, ◌*◌, ◌≤◌, ◌<◌, ◌≡◌, Bool, true, false, cond, List, [], ◌∷◌, map, length, get_or, drop}
+use Rattle.std.specs.Prelude.{ℕ, suc, ◌+◌, ◌*◌, ◌≤◌, ◌<◌, ◌≡◌, Bool, true, false, cond, List, [], ◌∷◌, map, length, get_or, drop, Option, Some, None, option_map, Result, Ok, Err}
 use Rattle.forms.specs.Lists.{below}
 use Rattle.forms.specs.declared.Refusal.{Refusal}
 use Rattle.rules.specs.Records as book
@@ -7,11 +7,8 @@ use Rattle.forms.specs.Limits.{record_limit}
 use Rattle.rules.specs.Records.{sites_of, RecordReply, records_after}
 use Rattle.history.specs.Words.{within}
 use Rattle.records.specs.declared.Records.{Records}
-use Rattle.records.specs.declared.RecordsResult.{RecordsResult}
 use Rattle.records.specs.declared.Answer.{Answer}
-use Rattle.records.specs.declared.Answer.TheVariants.{Refused, Done, Persistent, NotPersistent}
-use Rattle.records.specs.declared.Found.{Found}
-use Rattle.records.specs.declared.Found.TheVariants.{At, Nothing}
+use Rattle.records.specs.declared.Answer.TheVariants.{Done, Persistent, NotPersistent}
 use Rattle.records.specs.declared.words.Record.{Record}
 
 -- ### What the numbers say
@@ -63,15 +60,10 @@ pub record NoRecords (s : Records) : Type 0 where
 
 -- ### Parts
 
--- one place further on
-abbrev pub one_later : Found → Found
-one_later (At k) = At (suc k)
-one_later Nothing = Nothing
-
 -- Where the first element stands that passes the test.
-unfoldable pub place_of : {A : Type 0} → (A → Bool) → List A → Found
-place_of p [] = Nothing
-place_of p (x ∷ xs) = cond (p x) (At 0) (one_later (place_of p xs))
+unfoldable pub place_of : {A : Type 0} → (A → Bool) → List A → Option ℕ
+place_of p [] = None
+place_of p (x ∷ xs) = cond (p x) (Some 0) (option_map suc (place_of p xs))
 
 -- The numbers from `at` to `end` are those that stood a record further on; the others are as they were.
 pub record GapClosed (at end : ℕ) (old new : List ℕ) : Type 0 where
@@ -88,14 +80,20 @@ answer_by true = Persistent
 answer_by false = NotPersistent
 
 -- The reply to a call, by the specification's.
-unfoldable pub answer_in : RecordReply → Answer
-answer_in (book.refused r) = Refused r
-answer_in (book.ok rs) = Done
-answer_in (book.counted rs b) = answer_by b
+unfoldable pub answer_in : RecordReply → Result Answer Refusal
+answer_in (book.refused r) = Err r
+answer_in (book.ok rs) = Ok Done
+answer_in (book.counted rs b) = Ok (answer_by b)
 
--- a refused call, with the records as they came
-abbrev pub refused_as : Records → Refusal → RecordsResult
-refused_as s q = record { records = s; answer = Refused q }
+-- The records after a call, by its result: those as they came where it is refused.
+abbrev pub records_left : Records → Result (Records × Answer) Refusal → Records
+records_left s (Ok p) = p.0
+records_left s (Err q) = s
+
+-- what a call replies, by its result
+abbrev pub replied : Result (Records × Answer) Refusal → Result Answer Refusal
+replied (Ok p) = Ok p.1
+replied (Err q) = Err q
 
 -- a refused call changes neither the records nor a number
 abbrev pub Unchanged : RecordReply → Records → List ℕ → Records → List ℕ → Type 0
@@ -103,11 +101,16 @@ Unchanged (book.refused r) s old next new = (next ≡ s) × (new ≡ old)
 Unchanged (book.ok rs) s old next new = Unit {0}
 Unchanged (book.counted rs b) s old next new = Unit {0}
 
--- What a call that may change the records does, by the specification's reply.
-pub record RecordsDo (s : Records) (old : List ℕ) (reply : RecordReply) (r : RecordsResult) (new : List ℕ) : Type 0 where
-  pub answer : r.answer ≡ answer_in reply
-  pub valid : ValidRecords r.records new
-  pub view : records_view r.records new ≡ records_after reply (records_view s old)
-  pub refused : Unchanged reply s old r.records new
+-- What a call that may change the records does, by the specification's reply: the records and the numbers after it, and its answer.
+pub record RecordsDo (s : Records) (old : List ℕ) (reply : RecordReply) (next : Records) (answered : Result Answer Refusal) (new : List ℕ)
+    : Type 0 where
+  pub answer : answered ≡ answer_in reply
+  pub valid : ValidRecords next new
+  pub view : records_view next new ≡ records_after reply (records_view s old)
+  pub refused : Unchanged reply s old next new
   -- "An accepted call alters no byte of a lent buffer past those in use"
-  pub past : drop (width * r.records.count) new ≡ drop (width * r.records.count) old
+  pub past : drop (width * next.count) new ≡ drop (width * next.count) old
+
+-- .. by its result
+abbrev pub RecordsGive : Records → List ℕ → RecordReply → Result (Records × Answer) Refusal → List ℕ → Type 0
+RecordsGive s old reply r new = RecordsDo s old reply (records_left s r) (replied r) new

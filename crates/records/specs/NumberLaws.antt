@@ -2,11 +2,10 @@
 use Rattle.std.specs.Prelude.{ℕ, suc, ◌+◌, ◌*◌, ◌-◌, ◌≤◌, ◌<◌, ◌≡◌, Bool, true, false, ltb, eqb, set, take}
 use native.Mathlib.Omega.{arith}
 use Rattle.std.proofs.Math.Path.{refl, ap, subst}
-use Rattle.std.proofs.Common.{sym, ap₂, ◌∙◌, length-append, length-drop, length-set, get_or-drop, get_or-append-add, get_or-set_same, get_or-set_other, drop-set-lt, drop-drop, ltb-true, ltb-false}
-use mathlib.Core.List.{List, [], ◌∷◌, ◌++◌, map, map-append, append_assoc}
+use Rattle.std.proofs.Common.{sym, ap₂, ◌∙◌, length-append, length-drop, get_or-drop, get_or-append-add, ltb-true, ltb-false}
+use mathlib.Core.List.{List, [], ◌∷◌, ◌++◌, map, map-append}
 use Rattle.std.proofs.Math.ListN.{length, get_or, drop, get_or-append}
 use Rattle.std.proofs.Math.Seq.{get_or-take, length-take-le, drop-append-add}
-use Rattle.std.proofs.lemmas.List.Edits.{sets-eq}
 use Rattle.forms.specs.Lists.{below}
 use Rattle.forms.specs.Write.{placed}
 use Rattle.rules.specs.Records as book
@@ -60,19 +59,6 @@ from-same old new i j s =
     rw (first, s 1 (omega arith), s 2 (omega arith), s 3 (omega arith), s 4 (omega arith))
 
 -- ### Writing a record
-
--- five stores, one behind the other
-pub five-stored : (ws : List ℕ) (at : ℕ) (r : Record) → at + width ≤ length ws
-    → set (set (set (set (set ws at r.id) (at + 1) r.sent) (at + 2) r.full) (at + 3) r.reported) (at + 4) r.threshold
-    ≡ placed ws at (numbers_of r)
-unfolding placed
-five-stored ws at r h =
-    let one : at + 1 ≡ suc at = omega arith in
-    let two : at + 2 ≡ suc (suc at) = omega arith in
-    let three : at + 3 ≡ suc (suc (suc at)) = omega arith in
-    let four : at + 4 ≡ suc (suc (suc (suc at))) = omega arith in
-    rw (one, two, three, four)
-    (sets-eq (numbers_of r) ws at h ∙ append_assoc (take at ws) (numbers_of r) (drop (at + length (numbers_of r)) ws))
 
 -- Numbers written at a position: those before, those there, those behind.
 module _ (ws : List ℕ) (at : ℕ) (xs : List ℕ) (fits : at + length xs ≤ length ws) where
@@ -223,53 +209,3 @@ view-closed s i last old new h e g =
         g.moved (width * k + f) (omega (arith, le)) (omega (arith, l, m)) ∙ ap (λ (n : ℕ). get_or old n 0) z))
         ∙ sym (view_at_lem s old (k + 1) (omega (arith, l, e)))
         ∙ sym (omitted-behind (records_view s old) no_record i (omega (arith, h, view_long s old)) k le)
-
--- The numbers from `at` to i have moved up; the others are as they were.
-pub record Moved (at i : ℕ) (old new : List ℕ) : Type 0 where
-  pub long : length new ≡ length old
-  pub before : (k : ℕ) → k < at → get_or new k 0 ≡ get_or old k 0
-  pub moved : (k : ℕ) → at ≤ k → k < i → get_or new k 0 ≡ get_or old (k + width) 0
-  pub rest : drop i new ≡ drop i old
-
-pub moved_none : (at : ℕ) (ws : List ℕ) → Moved at at ws ws
-moved_none at ws =
-    record { long = refl; before = λ k h. refl; moved = λ k h l. absurd (omega (arith, h, l)); rest = refl }
-
-module _ (at i : ℕ) (old ws : List ℕ) (le : at ≤ i) (room : i + width < length old + 1) (m : Moved at i old ws) where
-  abbrev v : ℕ
-  v = get_or ws (i + width) 0
-
-  further : drop (i + 1) ws ≡ drop (i + 1) old
-  further = sym (drop-drop 1 i ws) ∙ ap (drop 1) m.rest ∙ drop-drop 1 i old
-
-  read : v ≡ get_or old (i + width) 0
-  read = sym (get_or-drop i ws width 0) ∙ ap (λ (l : List ℕ). get_or l width 0) m.rest ∙ get_or-drop i old width 0
-
-  moved_to : (k : ℕ) → at ≤ k → k < i + 1 → (b : Bool) → ltb k i ≡ b → get_or (set ws i v) k 0 ≡ get_or old (k + width) 0
-  moved_to k h l true e =
-      let lt : k < i = ltb-true k i e in
-      get_or-set_other ws i k v 0 (λ (q : k ≡ i). omega (arith, q, lt)) ∙ m.moved k h lt
-  moved_to k h l false e =
-      let same : k ≡ i = omega (arith, l, ltb-false k i e) in
-      ap (λ (n : ℕ). get_or (set ws i v) n 0) same
-      ∙ get_or-set_same ws i v 0 (omega (arith, room, m.long))
-      ∙ read
-      ∙ ap (λ (n : ℕ). get_or old (n + width) 0) (sym same)
-
-  pub moved-next : Moved at (i + 1) old (set ws i (get_or ws (i + width) 0))
-  moved-next =
-      record {
-        long = length-set ws i v ∙ m.long;
-        before = λ k h. get_or-set_other ws i k v 0 (λ (e : k ≡ i). omega (arith, e, h, le)) ∙ m.before k h;
-        moved = λ k h l. moved_to k h l (ltb k i) refl;
-        rest = drop-set-lt (i + 1) ws i v (omega arith) ∙ further;
-      }
-
-pub moved_all : (at i end : ℕ) (old ws : List ℕ) → i ≡ end → Moved at i old ws → GapClosed at end old ws
-moved_all at i end old ws e m =
-    record {
-      long = m.long;
-      before = m.before;
-      moved = λ k h l. m.moved k h (omega (arith, e, l));
-      past = subst (λ (n : ℕ). drop n ws ≡ drop n old) e m.rest;
-    }

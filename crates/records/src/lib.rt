@@ -12,42 +12,30 @@ ghost use Rattle.rules.specs.Records.{is_for, counts, sites_of, record_refusal, 
 ghost use Rattle.rules.specs.Records.{wrong_threshold};
 ghost use Rattle.history.specs.Asking.{verdict_of};
 ghost use Rattle.records.specs.Model.{record_of, records_view, ValidRecords, NoRecords, place_of};
-ghost use Rattle.records.specs.Model.{answer_by, answer_in, refused_as, RecordsDo};
-ghost use Rattle.forms.specs.declared.Refusal.TheVariants.{NotSent};
+ghost use Rattle.records.specs.Model.{answer_by, answer_in, RecordsGive};
 
 use forms::Refusal;
 use history::Verdict;
 use masks::{bit, has_site, is_outside, ones};
 use words::{Record, WIDTH, close_gap, id_at, put_record, record_at};
 
-// How many records there are. They stand in the first numbers of an array that is lent.
+// How many records there are. They stand in the first numbers of an array that is lent; the array is no field, since the calls that C makes
+// lend it as an argument of its own.
 #[derive(Clone, Copy)]
 pub struct Records {
     pub count: usize,
 }
 
-// What a call replies.
-#[derive(Clone, Copy)]
+// What a call replies that is not refused.
+#[derive(Clone, Copy, PartialEq, Eq)]
 pub enum Answer {
-    Refused(Refusal),
     Done,
     Persistent,
     NotPersistent,
 }
 
-// The records after a call, and its reply.
-#[derive(Clone, Copy)]
-pub struct RecordsResult {
-    pub records: Records,
-    pub answer: Answer,
-}
-
-// Where a record stands among the others.
-#[derive(Clone, Copy)]
-enum Found {
-    At(usize),
-    Nothing,
-}
+// The records after a call, and its reply. A refused call leaves the records as they came.
+pub type RecordsResult = Result<(Records, Answer), Refusal>;
 
 // Whether the operation counts as persistent: the ones of the mask of full and persistent copies against the threshold.
 fn is_persistent(r: Record) -> bool
@@ -60,11 +48,7 @@ fn is_persistent(r: Record) -> bool
 fn is_wrong(threshold: u64, full: u8) -> bool
     ensures { result ≡ wrong_threshold threshold (sites_of full) }
 {
-    if threshold == 0 {
-        true
-    } else {
-        ones(full) < threshold
-    }
+    threshold == 0 || ones(full) < threshold
 }
 
 impl Records {
@@ -79,19 +63,11 @@ impl Records {
     }
 
     // Where the record of an operation stands.
-    fn find(self, words: &[u64], id: u64) -> Found
+    fn find(self, words: &[u64], id: u64) -> Option<usize>
         requires { ValidRecords self words.now }
         ensures { result ≡ place_of (is_for id) (records_view self words.now) }
     {
-        let n = self.count;
-        let mut i: usize = 0;
-        while i < n {
-            if id_at(words, i) == id {
-                return Found::At(i);
-            }
-            i += 1;
-        }
-        Found::Nothing
+        (0..self.count).find(|i| id_at(words, *i) == id)
     }
 
     // The refusals of a new record: 7, 10, 18 and 19.
@@ -100,19 +76,19 @@ impl Records {
         ensures { result ≡ verdict_of (record_refusal id (sites_of sent) (sites_of full) threshold
             (records_view self words.now)) }
     {
-        let Found::Nothing = self.find(words, id) else {
-            return Verdict::Refused(Refusal::IdPending);
-        };
+        if self.find(words, id).is_some() {
+            return Err(Refusal::IdPending);
+        }
         if self.count == Records::LIMIT {
-            return Verdict::Refused(Refusal::TableFull);
+            return Err(Refusal::TableFull);
         }
         if is_wrong(threshold, full) {
-            return Verdict::Refused(Refusal::WrongThreshold);
+            return Err(Refusal::WrongThreshold);
         }
         if is_outside(sent, full) {
-            return Verdict::Refused(Refusal::NotSent);
+            return Err(Refusal::NotSent);
         }
-        Verdict::Passes
+        Ok(())
     }
 
     // Records an operation, with the masks of the sites it was sent to and of the full copies, and its threshold.
@@ -125,89 +101,62 @@ impl Records {
         threshold: u64,
     ) -> RecordsResult
         requires { ValidRecords self words.old }
-        ensures { RecordsDo self words.old (record_new id sent full threshold (records_view self words.old)) result
+        ensures { RecordsGive self words.old (record_new id sent full threshold (records_view self words.old)) result
             words.new }
     {
-        let verdict = self.check_new(words, id, sent, full, threshold);
-        match verdict {
-            Verdict::Refused(q) => RecordsResult {
-                records: self,
-                answer: Answer::Refused(q),
-            },
-            Verdict::Passes => {
-                let count = self.count;
-                put_record(
-                    words,
-                    count,
-                    Record {
-                        id,
-                        sent,
-                        full,
-                        reported: 0,
-                        threshold,
-                    },
-                );
-                RecordsResult {
-                    records: Records { count: count + 1 },
-                    answer: Answer::Done,
-                }
-            }
-        }
+        self.check_new(words, id, sent, full, threshold)?;
+        let new = Record {
+            id,
+            sent,
+            full,
+            reported: 0,
+            threshold,
+        };
+        put_record(words, self.count, new);
+        let after = Records {
+            count: self.count + 1,
+        };
+        Ok((after, Answer::Done))
     }
 
     // A site reports an operation persistent; replies what the question would reply after it.
     pub fn report(self, words: &mut [u64], id: u64, site: u64) -> RecordsResult
         requires { ValidRecords self words.old }
-        ensures { RecordsDo self words.old (report id site (records_view self words.old)) result
+        ensures { RecordsGive self words.old (report id site (records_view self words.old)) result
             words.new }
     {
-        let Found::At(i) = self.find(words, id) else {
-            return refused(self);
-        };
+        let i = self.find(words, id).ok_or(Refusal::NotSent)?;
         let r = record_at(words, i);
-        if has_site(r.sent, site) {
-            let next = Record {
-                id: r.id,
-                sent: r.sent,
-                full: r.full,
-                reported: r.reported | bit(site),
-                threshold: r.threshold,
-            };
-            put_record(words, i, next);
-            return RecordsResult {
-                records: self,
-                answer: answer_of(next),
-            };
+        if !has_site(r.sent, site) {
+            return Err(Refusal::NotSent);
         }
-        refused(self)
+        let next = Record {
+            reported: r.reported | bit(site),
+            ..r
+        };
+        put_record(words, i, next);
+        Ok((self, answer_of(next)))
     }
 
     // Whether an operation counts as persistent.
-    pub fn question(self, words: &[u64], id: u64) -> Answer
+    pub fn question(self, words: &[u64], id: u64) -> Result<Answer, Refusal>
         requires { ValidRecords self words.now }
         ensures { result ≡ answer_in (question id (records_view self words.now)) }
     {
-        let Found::At(i) = self.find(words, id) else {
-            return Answer::Refused(Refusal::NotSent);
-        };
-        answer_of(record_at(words, i))
+        let i = self.find(words, id).ok_or(Refusal::NotSent)?;
+        Ok(answer_of(record_at(words, i)))
     }
 
     // Forgets the record of an operation; those behind it move up.
     pub fn forget(self, words: &mut [u64], id: u64) -> RecordsResult
         requires { ValidRecords self words.old }
-        ensures { RecordsDo self words.old (forget_record id (records_view self words.old)) result
+        ensures { RecordsGive self words.old (forget_record id (records_view self words.old)) result
             words.new }
     {
-        let Found::At(i) = self.find(words, id) else {
-            return refused(self);
-        };
+        let i = self.find(words, id).ok_or(Refusal::NotSent)?;
         let last = self.count - 1;
         close_gap(words, WIDTH * i, WIDTH * last);
-        RecordsResult {
-            records: Records { count: last },
-            answer: Answer::Done,
-        }
+        Ok((Records { count: last }, Answer::Done))
     }
 }
 
@@ -219,15 +168,5 @@ fn answer_of(r: Record) -> Answer
         Answer::Persistent
     } else {
         Answer::NotPersistent
-    }
-}
-
-// 19: the records as they were.
-fn refused(records: Records) -> RecordsResult
-    ensures { result ≡ refused_as records NotSent }
-{
-    RecordsResult {
-        records,
-        answer: Answer::Refused(Refusal::NotSent),
     }
 }

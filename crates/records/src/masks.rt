@@ -7,7 +7,7 @@ ghost use Rattle.rules.specs.Records.{is_in, sites_of, full_not_sent};
 pub(crate) fn ones(mask: u8) -> u64
     ensures { result ≡ ones mask }
 {
-    u8::count_ones(mask) as u64
+    u64::from(mask.count_ones())
 }
 
 // The mask of one site.
@@ -22,11 +22,7 @@ pub(crate) fn bit(site: u64) -> u8
 pub(crate) fn has_site(mask: u8, site: u64) -> bool
     ensures { result ≡ is_in site (sites_of mask) }
 {
-    if site < 8 {
-        (mask >> site) & 1 == 1
-    } else {
-        false
-    }
+    site < 8 && (mask >> site) & 1 == 1
 }
 
 // Whether a full copy is at a site that the operation was not sent to.

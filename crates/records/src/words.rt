@@ -1,4 +1,4 @@
-// Records in an array of numbers.
+// Records in an array of numbers, which C lends.
 ghost use Rattle.std.specs.Prelude.{◌≡◌, ◌+◌, ◌*◌, ◌≤◌, length};
 ghost use Rattle.forms.specs.Write.{placed};
 ghost use Rattle.history.specs.Words.{within};
@@ -17,11 +17,12 @@ pub(crate) struct Record {
     pub threshold: u64,
 }
 
-// A number below 256, and 0 for any other.
+// A number below 256, and 0 for any other. The table's `small_byte` is the same call of the library: a public function for both would only
+// give it another name.
 fn mask_of(n: u64) -> u8
     ensures { result ≡ within 256 n }
 {
-    if n < 256 { n as u8 } else { 0 }
+    u8::try_from(n).unwrap_or(0)
 }
 
 // The id of record i.
@@ -38,14 +39,11 @@ pub(crate) fn record_at(words: &[u64], i: usize) -> Record
     ensures { result ≡ record_from words.now i }
 {
     let at = WIDTH * i;
-    let sent = mask_of(words[at + 1]);
-    let full = mask_of(words[at + 2]);
-    let reported = mask_of(words[at + 3]);
     Record {
         id: words[at],
-        sent,
-        full,
-        reported,
+        sent: mask_of(words[at + 1]),
+        full: mask_of(words[at + 2]),
+        reported: mask_of(words[at + 3]),
         threshold: words[at + 4],
     }
 }
@@ -55,12 +53,14 @@ pub(crate) fn put_record(words: &mut [u64], i: usize, r: Record)
     requires { width * i + width ≤ length words.old }
     ensures { words.new ≡ placed words.old (width * i) (numbers_of r) }
 {
-    let at = WIDTH * i;
-    words[at] = r.id;
-    words[at + 1] = r.sent as u64;
-    words[at + 2] = r.full as u64;
-    words[at + 3] = r.reported as u64;
-    words[at + 4] = r.threshold;
+    let numbers = [
+        r.id,
+        u64::from(r.sent),
+        u64::from(r.full),
+        u64::from(r.reported),
+        r.threshold,
+    ];
+    words[WIDTH * i..WIDTH * i + WIDTH].copy_from_slice(&numbers);
 }
 
 // The numbers of one record, at `at`, are left out: those behind it, up to `end`, move up.
@@ -68,9 +68,5 @@ pub(crate) fn close_gap(words: &mut [u64], at: usize, end: usize)
     requires { (at ≤ end) × (end + width ≤ length words.old) }
     ensures { GapClosed at end words.old words.new }
 {
-    let mut i = at;
-    while i < end {
-        words[i] = words[i + WIDTH];
-        i += 1;
-    }
+    words.copy_within(at + WIDTH..end + WIDTH, at);
 }

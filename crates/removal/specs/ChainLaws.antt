@@ -1,8 +1,9 @@
 -- Laws of chains: a link more, and a walk along a chain passes by no pair with the key.
-use Rattle.std.specs.Prelude.{◌≡◌, refl, ◌⊎◌, Bool, true, false, cond, List, ℕ, suc, ◌+◌, ◌-◌, ◌%◌, ◌<◌, ◌≤◌, eqb, ltb, get_or, set}
+use Rattle.std.specs.Prelude.{◌≡◌, refl, ◌⊎◌, Bool, true, false, cond, List, ℕ, suc, ◌+◌, ◌-◌, ◌%◌, ◌<◌, ◌≤◌, eqb, ltb, get_or, set, replicate, Option, Some, None, is_some}
+use Rattle.std.proofs.lemmas.List.{get_or-replicate, length-replicate}
 use Rattle.std.proofs.Common.{sym, ap, ◌∙◌, subst, inl, inr, ⊎_elim, eq-or-lt_of_le, arith, lt-ltb, le-ltb, eqb-true, ltb-true, ltb-false, length-set, get_or-set_same, get_or-set_other}
 use Rattle.std.proofs.lemmas.Bool.{eqb-false}
-use Rattle.removal.specs.Chains.{count_of, key_at, bucket, ChainedOf, Onward, Chained, ChainedFrom, Filled, after_in, Starts, Found}
+use Rattle.removal.specs.Chains.{count_of, key_at, bucket, Onward, Chained, ChainedFrom, Filled, after_in, Starts, Found, FoundIf}
 use Rattle.removal.specs.Chains.{FindsTo, Ring}
 
 pub same_or : (m n : ℕ) → (m ≡ n) ⊎ (m ≡ n → ⊥)
@@ -21,35 +22,9 @@ less_or m n = go (ltb m n) refl
 
 -- ### Making them
 
-pub filled_next : (m b : ℕ) (ch : List ℕ) → b < 4096 → Filled m b ch → Filled m (b + 1) (set ch b m)
-filled_next m b ch lt F =
-    record {
-      size = length-set ch b m ∙ F.size;
-      heads = λ k l. ⊎_elim
-          (λ e. ap (λ (x : ℕ). get_or (set ch b m) x 0) e ∙ get_or-set_same ch b m 0 (omega (arith, F.size, lt)))
-          (λ ne. get_or-set_other ch b k m 0 ne ∙ F.heads k (at_less k b l ne))
-          (same_or k b);
-    }
-  where
-    at_less : (k b : ℕ) → k < b + 1 → (k ≡ b → ⊥) → k < b
-    at_less k b l ne = ⊎_elim (λ h. h) (λ h. absurd (ne (omega arith))) (less_or k b)
-
-pub chained_start : (ws : List ℕ) (c m : ℕ) (ch : List ℕ) → ChainedOf (count_of ws) m → Filled m 4096 ch → ChainedFrom ws c m ch
-chained_start ws c m ch C F =
-    record {
-      size = F.size;
-      most = C.most;
-      within = C.within;
-      heads = λ b l. subst (λ (x : ℕ). Onward ws c m b x) (sym (F.heads b l)) (record {
-        low = omega arith;
-        high = C.most;
-        passed = λ s a z e. omega (arith, a, z);
-        here = λ a z. absurd (C.all a z);
-      });
-      links = λ p a b l. absurd (C.all (omega (arith, a, b)) (omega (arith, a, l)));
-      small = λ b l. subst (λ (x : ℕ). x ≤ 12288) (sym (F.heads b l)) C.within;
-      links_small = λ p a b l. absurd (C.all (omega (arith, a, b)) (omega (arith, a, l)));
-    }
+pub filled : (m : ℕ) → Filled m 4096 (replicate 16384 m)
+filled m =
+    record { size = length-replicate 16384 m; heads = λ k l. get_or-replicate 16384 k m 0 (omega (arith, l)) }
 
 module _ (ws : List ℕ) (c p : ℕ) (ch : List ℕ) (C : ChainedFrom ws c p ch) (pos : 0 < p) where
   -- the pair that is chained now, its bucket, and the chains with it
@@ -133,16 +108,6 @@ module _ (ws : List ℕ) (c p : ℕ) (ch : List ℕ) (C : ChainedFrom ws c p ch)
             (eq-or-lt_of_le x);
       }
 
-pub chained_done : (ws : List ℕ) (c p : ℕ) (ch : List ℕ) → ChainedFrom ws c p ch → p ≤ 0 → Chained ws c ch
-chained_done ws c p ch C z =
-    let e : p ≡ 0 = omega (arith, z) in
-    record {
-      heads = λ b l. subst (λ (x : ℕ). Onward ws c x b (get_or ch b 0)) e (C.heads b l);
-      links = λ r y w. C.links r (omega (arith, e)) y w;
-      small = C.small;
-      links_small = λ r y w. C.links_small r (omega (arith, e)) y w;
-    }
-
 -- ### Walking along them
 
 pub finds_start : (ws : List ℕ) (c key from : ℕ) → Starts ws c key from → FindsTo ws c key from from
@@ -214,11 +179,6 @@ finds_none ws c key from q F le =
 pub after_more : (ws : List ℕ) (c p : ℕ) (ch : List ℕ) → Chained ws c ch → p < count_of ws → (p < after_in ch p) × (after_in ch p ≤ count_of ws)
 after_more ws c p ch C lt = let O = after_on ws c p ch C lt in (O.low, O.high)
 
--- from the beginning of its bucket
-pub starts_first : (ws : List ℕ) (c key : ℕ) (ch : List ℕ) → Chained ws c ch → Starts ws c key (get_or ch (key % 4096) 0)
-starts_first ws c key ch C =
-    let O = C.heads (key % 4096) (omega arith) in record { within = O.high; here = O.here }
-
 pub found_first : (ws : List ℕ) (c key r : ℕ) (ch : List ℕ) → Chained ws c ch → Found ws c key (get_or ch (key % 4096) 0) r →
     Found ws c key 0 r
 found_first ws c key r ch C F =
@@ -259,6 +219,22 @@ found_once ws c key from r r' F G = ⊎_elim
     (λ l. absurd (G.passed r F.low l (F.here (omega (arith, l, G.within)))))
     (λ l. ⊎_elim (λ e. sym e) (λ h. absurd (F.passed r' G.low h (G.here (omega (arith, h, F.within))))) (eq-or-lt_of_le l))
     (less_or r r')
+
+-- .. if there is one
+pub found_first_if : (ws : List ℕ) (c key : ℕ) (o : Option ℕ) (ch : List ℕ) → Chained ws c ch →
+    FoundIf ws c key (get_or ch (key % 4096) 0) o → FoundIf ws c key 0 o
+found_first_if ws c key (Some r) ch C F = (found_first ws c key r ch C F.0, F.1)
+found_first_if ws c key None ch C F = found_first ws c key (count_of ws) ch C F
+
+pub found_further_if : (ws : List ℕ) (c p : ℕ) (o : Option ℕ) (ch : List ℕ) → Chained ws c ch → p < count_of ws →
+    FoundIf ws c (key_at ws c p) (after_in ch p) o → FoundIf ws c (key_at ws c p) (suc p) o
+found_further_if ws c p (Some r) ch C lt F = (found-further ws c p r ch C lt F.0, F.1)
+found_further_if ws c p None ch C lt F = found-further ws c p (count_of ws) ch C lt F
+
+-- a pair itself has its key
+pub found_some : (ws : List ℕ) (c p : ℕ) (o : Option ℕ) → p < count_of ws → FoundIf ws c (key_at ws c p) 0 o → is_some o ≡ true
+found_some ws c p (Some r) lt F = refl
+found_some ws c p None lt F = absurd (F.passed p (omega arith) lt refl)
 
 pub ring_next : (ws : List ℕ) (p r : ℕ) → Found ws 1 (key_at ws 1 p) (suc p) r → r < count_of ws → Ring ws p r
 ring_next ws p r F lt = record { within = lt; next = r; behind = F; onward = λ x. refl; again = λ x. absurd (omega (arith, x, lt)) }

@@ -1,5 +1,5 @@
 -- Pairs in numbers, and chains through them: what a chain leaves out is in other buckets.
-use Rattle.std.specs.Prelude.{◌≡◌, cond, List, ℕ, suc, ◌+◌, ◌*◌, ◌/◌, ◌%◌, ◌<◌, ◌≤◌, ltb, length, get_or}
+use Rattle.std.specs.Prelude.{◌≡◌, cond, List, ℕ, suc, ◌+◌, ◌*◌, ◌/◌, ◌%◌, ◌<◌, ◌≤◌, ltb, length, get_or, Option, Some, None}
 
 -- how many pairs stand in some numbers
 abbrev pub count_of : List ℕ → ℕ
@@ -63,6 +63,11 @@ pub record Found (ws : List ℕ) (c key from r : ℕ) : Type 0 where
   pub within : r ≤ count_of ws
   pub passed : (s : ℕ) → from ≤ s → s < r → key_at ws c s ≡ key → ⊥
   pub here : r < count_of ws → key_at ws c r ≡ key
+
+-- .. if there is one
+abbrev pub FoundIf : List ℕ → ℕ → ℕ → ℕ → Option ℕ → Type 0
+FoundIf ws c key from (Some r) = Found ws c key from r × (r < count_of ws)
+FoundIf ws c key from None = Found ws c key from (count_of ws)
 
 -- how far a walk has come
 pub record FindsTo (ws : List ℕ) (c key from q : ℕ) : Type 0 where

@@ -1,13 +1,13 @@
 -- Laws of the marks: they only grow, what is newly marked is closed, and the number of lines not yet removed falls.
-use Rattle.std.specs.Prelude.{◌≡◌, refl, ◌⊎◌, List, [], ◌∷◌, ℕ, zero, suc, ◌+◌, ◌-◌, ◌*◌, ◌<◌, ◌≤◌, length, get_or, set, replicate}
+use Rattle.std.specs.Prelude.{◌≡◌, refl, ◌⊎◌, List, [], ◌∷◌, ℕ, zero, suc, ◌+◌, ◌-◌, ◌*◌, ◌<◌, ◌≤◌, length, get_or, set, replicate, Option, Some, None}
 use Rattle.std.proofs.Common.{sym, ap, ◌∙◌, subst, ⊎_elim, le_refl, le_trans, le_of_suc-le-suc, not-suc-le-zero, eq-or-lt_of_le, arith, length-set, get_or-set_same, get_or-set_other}
 use Rattle.std.proofs.Math.Nat.{suc-le-suc_iff, le-suc}
 use Rattle.std.proofs.lemmas.List.{length-replicate}
 use Rattle.forms.specs.Limits.{history_limit, update_limit}
-use Rattle.removal.specs.Chains.{count_of, key_at, Found, Ring}
+use Rattle.removal.specs.Chains.{count_of, key_at, Found, FoundIf, Ring}
 use Rattle.removal.specs.ChainLaws.{same_or, less_or, found_once, ring_once}
 use Rattle.removal.specs.Fall.{Net, lines_in, line_in, Takes, onward, around, Reach, here, on, Fallen, itself, taken, Gone, left}
-use Rattle.removal.specs.Fall.{Fit, LaterAt, Fell, FellLine, FellPairs, Marked, SlotsTo, PairsTo, MarksTo}
+use Rattle.removal.specs.Fall.{Fit, LaterAt, PairsBefore, Fell, FellLine, FellPairs, Marked, SlotsTo, PairsTo, MarksTo}
 
 -- zero or not
 zero_or : (n : ℕ) → (n ≡ 0) ⊎ (n ≡ 0 → ⊥)
@@ -170,15 +170,6 @@ module _ (g : Net) (i : ℕ) (old mid : List ℕ) (u q : ℕ) (S : SlotsTo g i o
 
 -- ### The pairs of a line
 
-pub pairs_none : (g : Net) (i : ℕ) (m : List ℕ) (p : ℕ) → Found g.pairs 0 (g.base + 1 + i) 0 p → PairsTo g i m m p
-pairs_none g i m p F =
-    record {
-      fell = fell_none g i m;
-      within = F.within;
-      here = F.here;
-      all = λ r q l e R. absurd (F.passed r (omega arith) l e);
-    }
-
 -- the next line q of the transaction of pair p has fallen
 pub pairs_next : (g : Net) (i : ℕ) (old mid new : List ℕ) (p q r j : ℕ) → PairsTo g i old mid p → p < count_of g.pairs →
     Ring g.pairs p q → j ≡ line_in g.base g.pairs q → FellLine g j mid new →
@@ -201,13 +192,13 @@ pairs_next g i old mid new p q r j S lt R same fallen F =
           (less_or s p);
     }
 
-pub pairs_all : (g : Net) (i : ℕ) (old new : List ℕ) (p : ℕ) → PairsTo g i old new p → count_of g.pairs ≤ p → FellPairs g i old new
-pairs_all g i old new p P sp = record { fell = P.fell; next = λ r q l. P.all r q (omega (arith, l, sp)) }
+pub pairs_step : (g : Net) (i : ℕ) (old mid new : List ℕ) (p q j : ℕ) → PairsTo g i old mid p → p < count_of g.pairs →
+    Ring g.pairs p q → j ≡ line_in g.base g.pairs q → FellLine g j mid new → (o : Option ℕ) →
+    FoundIf g.pairs 0 (key_at g.pairs 0 p) (suc p) o → PairsBefore g i old new o
+pairs_step g i old mid new p q j S lt R same fallen (Some r) F = (pairs_next g i old mid new p q r j S lt R same fallen F.0, F.1)
+pairs_step g i old mid new p q j S lt R same fallen None F = pairs_next g i old mid new p q (count_of g.pairs) j S lt R same fallen F
 
 -- ### A line
-
-pub line-was : (g : Net) (i : ℕ) (m : List ℕ) → Gone m i → FellLine g i m m
-line-was g i m h = record { fell = fell_none g i m; itself = h }
 
 pub line-done : (g : Net) (i : ℕ) (old mid new : List ℕ) (u : ℕ) → i < length old → get_or old i 0 ≡ 0 →
     SlotsTo g i (set old i 1) mid u → update_limit ≤ u → FellPairs g i mid new → FellLine g i old new
@@ -274,11 +265,3 @@ marks_done g lost new n a end = record { size = a.size; sound = a.sound; whole =
     whole : (k : ℕ) → Fallen g lost k → Gone new k
     whole k (itself p l) = a.all p (omega (arith, l, end))
     whole k (taken {k = m} r t) = a.closed m k (whole m r) t
-
--- the first number of a pair
-pub same_at : (ws : List ℕ) (p : ℕ) → get_or ws (2 * p) 0 ≡ key_at ws 0 p
-same_at ws p = ap (λ (i : ℕ). get_or ws i 0) (let e : 2 * p ≡ 2 * p + 0 = omega arith in e)
-
--- a slot of a line is among the slots
-pub in_slots : (slots : List ℕ) (i u : ℕ) → i < lines_in slots → u < update_limit → 4 * i + u < count_of slots
-in_slots slots i u l h = omega (arith, l, h)

@@ -1,13 +1,12 @@
 -- What the report promises, and what is known of a log that was read.
-use Rattle.std.specs.Prelude.{◌≡◌, List, ◌++◌, ℕ, ◌+◌, ◌≤◌, T, length, drop}
+use Rattle.std.specs.Prelude.{◌≡◌, List, ◌++◌, ℕ, ◌+◌, ◌≤◌, T, length, drop, Option, Some, None, Result, Ok, Err}
 use Rattle.forms.specs.Forms.{Did, Line}
 use Rattle.forms.specs.Limits.{base_top}
 use Rattle.forms.specs.Refusals.{number_of}
+use Rattle.forms.specs.declared.Refusal.{Refusal}
 use Rattle.rules.specs.Log.{dids}
 use Rattle.recovery.specs.Removal.{Report, refused, named, Removed, is_line, pairs_of, report}
-use Rattle.log_reader.specs.declared.JournalRead.{JournalRead}
-use Rattle.removal.specs.declared.Removals.{Removals}
-use Rattle.removal.specs.declared.Removals.TheVariants.{Named, Refused, NotAmong}
+use Rattle.log_reader.specs.declared.Journal.{Journal as JournalRead}
 use Rattle.removal.specs.Names.{is_marked, PairsKnown, LostKnown}
 use Rattle.removal.specs.Slots.{StandsFrom}
 
@@ -19,10 +18,10 @@ pub data Outcome : Type 0 where
   count : ℕ → Outcome
 
 -- what an answer means: the paper's number of each refusal
-abbrev pub outcome_of : Removals → Outcome
-outcome_of (Named k) = count k
-outcome_of (Refused r) = refusal (number_of r)
-outcome_of NotAmong = refusal 16
+abbrev pub outcome_of : Result (Option ℕ) Refusal → Outcome
+outcome_of (Ok (Some k)) = count k
+outcome_of (Ok None) = refusal 16
+outcome_of (Err r) = refusal (number_of r)
 
 -- .. and what a report of the specification comes to
 abbrev pub outcome : Report → Outcome
@@ -34,12 +33,12 @@ abbrev pub after : Report → List ℕ → List ℕ
 after (refused n) old = old
 after (named l) old = l ++ drop (length l) old
 
-pub record Says (says : Report) (old : List ℕ) (r : Removals) (new : List ℕ) : Type 0 where
+pub record Says (says : Report) (old : List ℕ) (r : Result (Option ℕ) Refusal) (new : List ℕ) : Type 0 where
   pub answer : outcome_of r ≡ outcome says
   pub numbers : new ≡ after says old
 
 -- The answer is that of the specification, and so are the numbers.
-abbrev pub Reports : List ℕ → List ℕ → List ℕ → List ℕ → Removals → List ℕ → Type 0
+abbrev pub Reports : List ℕ → List ℕ → List ℕ → List ℕ → Result (Option ℕ) Refusal → List ℕ → Type 0
 Reports log pairs lost old r new = Says (report log (pairs_of pairs) lost (length old)) old r new
 
 -- ### The marks

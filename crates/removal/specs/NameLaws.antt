@@ -1,17 +1,17 @@
 -- Laws of known numbers, and of the numbers named: one line more.
-use Rattle.std.specs.Prelude.{◌≡◌, refl, Bool, true, false, not, cond, ◌&&◌, List, [], ◌∷◌, ◌++◌, ℕ, zero, suc, ◌+◌, ◌-◌, ◌*◌, ◌<◌, ◌≤◌, T, leb, length, get_or, set, drop}
-use Rattle.std.proofs.Common.{sym, ap, ◌∙◌, subst, ⊎_elim, append-nil, append_assoc, arith, lt-ltb, le-ltb, eq-eqb, ne_eqb, length-append, length-drop, drop-cons}
+use Rattle.std.specs.Prelude.{◌≡◌, refl, Bool, true, false, not, cond, ◌&&◌, List, [], ◌∷◌, ◌++◌, ℕ, zero, suc, ◌+◌, ◌-◌, ◌*◌, ◌<◌, ◌≤◌, T, leb, eqb, length, get_or, set, take, drop, Ok, Err}
+use Rattle.std.proofs.Common.{sym, ap, ◌∙◌, subst, append-nil, append_assoc, arith, lt-ltb, le-ltb, eq-eqb, ne_eqb, eqb-true, not-suc-le-zero, le_of_suc-le-suc, length-append, drop-cons}
+use Rattle.std.specs.List.{list_all, count_by}
 use Rattle.std.proofs.lemmas.List.{set_at}
+use Rattle.std.proofs.lemmas.List.Sums.{count_by_more_no, count_by_more_yes}
+use Rattle.std.proofs.lemmas.Bool.{eqb-false}
 use Rattle.forms.specs.Lists.{keep}
 use Rattle.forms.specs.ListLaws.{keep_append, length-keep, true_T}
 use Rattle.forms.specs.declared.Refusal.TheVariants.{NoRoom}
 use Rattle.recovery.specs.Removal.{numbers_from, too_long}
 use Rattle.recovery.proofs.RemovalLaws.{length-numbers}
 use Rattle.removal.specs.Chains.{key_at}
-use Rattle.removal.specs.ChainLaws.{less_or}
 use Rattle.removal.specs.Names.{known, KnownIf, is_marked, names, WritesTo, Writes, Answers, AnswersIf}
-use Rattle.removal.specs.FallLaws.{same_at}
-use Rattle.removal.specs.declared.Removals.TheVariants.{Named, Refused}
 
 -- ### Known
 
@@ -23,37 +23,32 @@ pub known-below : (base done k : ℕ) → k ≤ base → false ≡ known base do
 unfolding known
 known-below base done k h = ap (λ (b : Bool). b && leb k done) (sym (le-ltb base k h))
 
-pub known_next : (base done : ℕ) (f : ℕ → ℕ) (i : ℕ) → ((n : ℕ) → n < i → T (known base done (f n))) → T (known base done (f i)) →
-    (n : ℕ) → n < i + 1 → T (known base done (f n))
-known_next base done f i before t n l = ⊎_elim
-    (λ h. before n h)
-    (λ h. subst (λ (x : ℕ). T (known base done (f x))) (let e : i ≡ n = omega (arith, h, l) in e) t)
-    (less_or n i)
-
-pub known_said : (r b : Bool) → r ≡ b → r ≡ true → T b
-known_said r b e t = true_T b (sym e ∙ t)
-
-pub known_unsaid : (r b : Bool) → r ≡ b → r ≡ false → T b → ⊥
-known_unsaid r b e f t = subst T (sym e ∙ f) t
-
-pub known_pair : (base done : ℕ) (ws : List ℕ) (p : ℕ) (r : Bool) → r ≡ known base done (get_or ws (2 * p) 0) → r ≡ true →
-    T (known base done (key_at ws 0 p))
-known_pair base done ws p r e t = subst (λ (x : ℕ). T (known base done x)) (same_at ws p) (known_said r (known base done (get_or ws
-    (2 * p) 0)) e t)
-
+-- a number that is not known
 pub known-not : (base done : ℕ) (ws : List ℕ) (p : ℕ) (r : Bool) → r ≡ known base done (get_or ws (2 * p) 0) → r ≡ false →
     T (known base done (key_at ws 0 p)) → ⊥
 known-not base done ws p r e f t =
-    known_unsaid r (known base done (get_or ws (2 * p) 0)) e f (subst (λ (x : ℕ). T (known base done x)) (sym (same_at ws p)) t)
+    let at : 2 * p ≡ 2 * p + 0 = omega arith in
+    subst T (sym (sym f ∙ e ∙ ap (λ (i : ℕ). known base done (get_or ws i 0)) at)) t
 
-pub both-known : (P Q : Type 0) (a : Bool) → KnownIf a P → a ≡ true → (b : Bool) → KnownIf b Q → KnownIf b (P × Q)
-both-known P Q true p t true q = (p, q)
-both-known P Q true p t false q = λ x. q x.1
-both-known P Q false p t b q = absurd (subst T (sym t) tt)
+known_as : (P Q : Type 0) (b : Bool) → KnownIf b P → (P → Q) → (Q → P) → KnownIf b Q
+known_as P Q true p f g = f p
+known_as P Q false p f g = λ q. p (g q)
 
-pub first_unknown : (P Q : Type 0) (a : Bool) → KnownIf a P → a ≡ false → P × Q → ⊥
-first_unknown P Q true p f x = subst T f tt
-first_unknown P Q false p f x = p x.0
+-- what a test of every number says
+pub known_all : (f : ℕ → Bool) (l : List ℕ) → KnownIf (list_all f l) ((k : ℕ) → k < length l → T (f (get_or l k 0)))
+known_all f [] = λ k h. absurd (not-suc-le-zero h)
+known_all f (x ∷ l) = go (f x) refl (known_all f l)
+  where
+    more : f x ≡ true → ((k : ℕ) → k < length l → T (f (get_or l k 0))) → (k : ℕ) → k < suc (length l) → T (f (get_or (x ∷ l) k 0))
+    more e h zero lt = true_T (f x) e
+    more e h (suc k) lt = h k (le_of_suc-le-suc lt)
+
+    go : (b : Bool) → f x ≡ b → KnownIf (list_all f l) ((k : ℕ) → k < length l → T (f (get_or l k 0)))
+        → KnownIf (b && list_all f l) ((k : ℕ) → k < suc (length l) → T (f (get_or (x ∷ l) k 0)))
+    go true e rest =
+        known_as ((k : ℕ) → k < length l → T (f (get_or l k 0))) ((k : ℕ) → k < suc (length l) → T (f (get_or (x ∷ l) k 0))) (list_all f l)
+        rest (more e) (λ h k lt. h (suc k) (omega (arith, lt)))
+    go false e rest = λ h. subst T e (h 0 (omega arith))
 
 -- ### Named
 
@@ -102,6 +97,29 @@ names-unmarked base gone i e =
     ∙ ap (λ (b : Bool). names base gone i ++ cond (not b) ((base + 1 + i) ∷ []) [])
     (eq-eqb (get_or gone (base + 1 + i - suc base) 0) 0 (mark_at_lem base gone i ∙ e))
     ∙ append-nil (names base gone i)
+
+-- how many of the first n lines are marked
+pub names_count : (base : ℕ) (gone : List ℕ) (n : ℕ) → n ≤ length gone
+    → count_by (λ (x : ℕ). not (eqb x 0)) (take n gone) ≡ length (names base gone n)
+names_count base gone zero h = sym (ap length (names_none base gone))
+names_count base gone (suc n) h = go (eqb (get_or gone n 0) 0) refl (names_count base gone n (omega (arith, h)))
+  where
+    one : n + 1 ≡ suc n
+    one = omega arith
+
+    go : (b : Bool) → eqb (get_or gone n 0) 0 ≡ b
+        → count_by (λ (x : ℕ). not (eqb x 0)) (take n gone) ≡ length (names base gone n)
+        → count_by (λ (x : ℕ). not (eqb x 0)) (take (suc n) gone) ≡ length (names base gone (suc n))
+    go true e before =
+        subst (λ (k : ℕ). count_by (λ (x : ℕ). not (eqb x 0)) (take k gone) ≡ length (names base gone k)) one
+        (count_by_more_no (λ (x : ℕ). not (eqb x 0)) gone n 0 (omega (arith, h)) (ap not e)
+        ∙ before
+        ∙ sym (ap length (names-unmarked base gone n (eqb-true (get_or gone n 0) 0 e))))
+    go false e before =
+        subst (λ (k : ℕ). count_by (λ (x : ℕ). not (eqb x 0)) (take k gone) ≡ length (names base gone k)) one
+        (count_by_more_yes (λ (x : ℕ). not (eqb x 0)) gone n 0 (omega (arith, h)) (ap not e)
+        ∙ ap (λ (x : ℕ). x + 1) before
+        ∙ sym (names_marked base gone n (eqb-false (get_or gone n 0) 0 e)).1)
 
 pub names_few : (base : ℕ) (gone : List ℕ) (i : ℕ) → length (names base gone i) ≤ i
 unfolding names
@@ -161,31 +179,19 @@ writes_room base gone i n at room e lt ne le =
     let s = ap (λ (x : ℕ). length (names base gone x)) (let z : i + 1 + (n - (i + 1)) ≡ n = omega (arith, lt) in z) in
     omega (arith, e, m, g, s, le)
 
-pub writes_length : (base : ℕ) (gone : List ℕ) (i at : ℕ) (old new : List ℕ) → WritesTo base gone i at old new → at ≤ length old →
-    length new ≡ length old
-writes_length base gone i at old new W le =
-    omega (arith, ap length W.numbers, length-append (names base gone i) (drop at old), length-drop at old, W.position, le)
-
-pub writes_done : (base : ℕ) (gone : List ℕ) (i n at : ℕ) (old new : List ℕ) → WritesTo base gone i at old new → i ≡ n →
-    Writes (names base gone n) old new
-writes_done base gone i n at old new W e =
-    W.numbers
-    ∙ ap (λ (x : ℕ). names base gone i ++ drop x old) W.position
-    ∙ ap (λ (x : ℕ). names base gone x ++ drop (length (names base gone x)) old) e
-
 -- ### The answer
 
-pub answers-nothing : (l old : List ℕ) → length old < length l → Answers l old (Refused NoRoom) old
+pub answers-nothing : (l old : List ℕ) → length old < length l → Answers l old (Err NoRoom) old
 unfolding too_long
 answers-nothing l old h =
-    subst (λ (b : Bool). AnswersIf b l old (Refused NoRoom) old) (sym (lt-ltb (length old) (length l) h))
+    subst (λ (b : Bool). AnswersIf b l old (Err NoRoom) old) (sym (lt-ltb (length old) (length l) h))
     (record { answer = refl; same = refl })
 
-pub answers-names : (l old new : List ℕ) (k : ℕ) → length l ≤ length old → k ≡ length l → Writes l old new → Answers l old (Named k) new
+pub answers-names : (l old new : List ℕ) (k : ℕ) → length l ≤ length old → k ≡ length l → Writes l old new → Answers l old (Ok k) new
 unfolding too_long
 answers-names l old new k h e W =
-    subst (λ (b : Bool). AnswersIf b l old (Named k) new) (sym (le-ltb (length old) (length l) h))
-    (record { answer = ap Named e; numbers = W })
+    subst (λ (b : Bool). AnswersIf b l old (Ok k) new) (sym (le-ltb (length old) (length l) h))
+    (record { answer = ap Ok e; numbers = W })
 
 -- ### What a test says
 

@@ -1,12 +1,11 @@
 -- Numbers that a report is given, and those that it names.
-use Rattle.std.specs.Prelude.{◌≡◌, Bool, true, false, not, ◌&&◌, List, ◌++◌, ℕ, suc, ◌-◌, ◌<◌, ◌≤◌, T, eqb, leb, ltb, length, get_or, drop}
+use Rattle.std.specs.Prelude.{◌≡◌, Bool, true, false, not, ◌&&◌, List, ◌++◌, ℕ, suc, ◌-◌, ◌<◌, ◌≤◌, T, eqb, leb, ltb, length, get_or, drop, Result, Ok, Err}
 use Rattle.forms.specs.Limits.{base_top}
 use Rattle.forms.specs.Lists.{keep}
 use Rattle.forms.specs.declared.Refusal.TheVariants.{NoRoom}
 use Rattle.recovery.specs.Removal.{numbers_from, too_long}
 use Rattle.removal.specs.Chains.{count_of, key_at}
-use Rattle.removal.specs.declared.Removals.{Removals}
-use Rattle.removal.specs.declared.Removals.TheVariants.{Named, Refused}
+use Rattle.forms.specs.declared.Refusal.{Refusal}
 
 -- a number above base, and not above done
 unfoldable pub known : ℕ → ℕ → ℕ → Bool
@@ -52,19 +51,19 @@ pub record WritesTo (base : ℕ) (gone : List ℕ) (i at : ℕ) (old new : List 
   pub numbers : new ≡ names base gone i ++ drop at old
 
 -- 12, and nothing is changed
-pub record AnswersNothing (old : List ℕ) (r : Removals) (new : List ℕ) : Type 0 where
-  pub answer : r ≡ Refused NoRoom
+pub record AnswersNothing (old : List ℕ) (r : Result ℕ Refusal) (new : List ℕ) : Type 0 where
+  pub answer : r ≡ Err NoRoom
   pub same : new ≡ old
 
 -- how many they are, and the numbers
-pub record AnswersNames (l old : List ℕ) (r : Removals) (new : List ℕ) : Type 0 where
-  pub answer : r ≡ Named (length l)
+pub record AnswersNames (l old : List ℕ) (r : Result ℕ Refusal) (new : List ℕ) : Type 0 where
+  pub answer : r ≡ Ok (length l)
   pub numbers : Writes l old new
 
 -- .. by whether they fit
-abbrev pub AnswersIf : Bool → List ℕ → List ℕ → Removals → List ℕ → Type 0
+abbrev pub AnswersIf : Bool → List ℕ → List ℕ → Result ℕ Refusal → List ℕ → Type 0
 AnswersIf true l old r new = AnswersNothing old r new
 AnswersIf false l old r new = AnswersNames l old r new
 
-abbrev pub Answers : List ℕ → List ℕ → Removals → List ℕ → Type 0
+abbrev pub Answers : List ℕ → List ℕ → Result ℕ Refusal → List ℕ → Type 0
 Answers l old r new = AnswersIf (too_long (length old) l) l old r new

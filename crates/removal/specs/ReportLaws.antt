@@ -1,6 +1,6 @@
 -- The report from its parts: a log that was read has its lines behind its head, its slots lie as the walk asks, and the marks name the
 -- least set.
-use Rattle.std.specs.Prelude.{◌≡◌, Bool, true, false, ◌||◌, eqb, get_or, take, drop}
+use Rattle.std.specs.Prelude.{◌≡◌, Bool, true, false, ◌||◌, eqb, get_or, take, drop, Option as Answer, Some, None, Result, Ok, Err}
 use Rattle.std.proofs.Math.Path.{refl, ap, subst}
 use Rattle.std.proofs.Common.{sym, ◌∙◌, not-suc-le-zero, le_of_suc-le-suc, lt-ltb, le-ltb, eqb→eq, get_or-take}
 use Rattle.std.proofs.Math.Logic.{⊎_elim}
@@ -20,6 +20,7 @@ use Rattle.forms.specs.ListLaws.{T_false, any_at, or_cases}
 use Rattle.forms.specs.Read.{no_did}
 use Rattle.forms.specs.Refusals.{number_of}
 use Rattle.forms.specs.declared.DoneRule.TheVariants.{DidInc}
+use Rattle.forms.specs.declared.Refusal.{Refusal}
 use Rattle.forms.specs.declared.Refusal.TheVariants.{AboveLimit, BadLog}
 use Rattle.rules.specs.Book.{base_of}
 use Rattle.rule_laws.specs.CheckLaws.{formed_changes}
@@ -29,13 +30,11 @@ use Rattle.rules.specs.Log.{Journal, journal, no_journal, dids, histories_fit, h
 use Rattle.rule_laws.specs.LogLaws.{histories_most}
 use Rattle.history.specs.EntryLaws.{mem_get_d}
 use Rattle.log_reader.specs.Model.{ReadsLog, Reads}
-use Rattle.log_reader.specs.declared.JournalRead.{JournalRead}
+use Rattle.log_reader.specs.declared.Journal.{Journal as JournalRead}
 use Rattle.recovery.specs.Removal.{numbers_from, is_line, Pair, pairs_of, Removed, removal, Report, refused, named, refuse_if, not_among}
 use Rattle.recovery.specs.Removal.{too_long}
 use Rattle.recovery.specs.Removal.{report_lines, report_log, report}
 use Rattle.recovery.proofs.RemovalLaws.{line_at_lem, named_of_lem, sifted_removal}
-use Rattle.removal.specs.declared.Removals.{Removals}
-use Rattle.removal.specs.declared.Removals.TheVariants.{Refused, NotAmong}
 use Rattle.removal.specs.Chains.{key_at}
 use Rattle.removal.specs.Fall.{net, Gone, Placed, Lost, Marked}
 use Rattle.removal.specs.Slots.{history_at, SlotsAre, StandsFrom, ReadsSlots}
@@ -177,28 +176,33 @@ module _ (log : List ℕ) (j : JournalRead) (book notes : List ℕ) (n : ℕ) (�
 
 -- ### What is said
 
-pub says_refused : (n : ℕ) (r : Removals) (old : List ℕ) → outcome_of r ≡ refusal n → Says (refused n) old r old
+pub says_refused : (n : ℕ) (r : Result (Answer ℕ) Refusal) (old : List ℕ) → outcome_of r ≡ refusal n → Says (refused n) old r old
 says_refused n r old e = record { answer = e; numbers = refl }
 
 let_through : (x : Report) → refuse_if false 16 x ≡ x
 unfolding refuse_if
 let_through x = refl
 
-says-answer : (l old : List ℕ) (r : Removals) (new : List ℕ) → Answers l old r new →
-    Says (refuse_if (too_long (length old) l) 12 (named l)) old r new
+-- the answer of a report whose numbers are all among the lines
+abbrev pub named_in : Result ℕ Refusal → Result (Answer ℕ) Refusal
+named_in (Ok k) = Ok (Some k)
+named_in (Err q) = Err q
+
+says-answer : (l old : List ℕ) (r : Result ℕ Refusal) (new : List ℕ) → Answers l old r new →
+    Says (refuse_if (too_long (length old) l) 12 (named l)) old (named_in r) new
 unfolding refuse_if number_of
 says-answer l old r new A = go (too_long (length old) l) A
   where
-    go : (b : Bool) → AnswersIf b l old r new → Says (cond b (refused 12) (named l)) old r new
-    go true a = record { answer = ap outcome_of a.answer; numbers = a.same }
-    go false a = record { answer = ap outcome_of a.answer; numbers = a.numbers }
+    go : (b : Bool) → AnswersIf b l old r new → Says (cond b (refused 12) (named l)) old (named_in r) new
+    go true a = record { answer = ap (λ (x : Result ℕ Refusal). outcome_of (named_in x)) a.answer; numbers = a.same }
+    go false a = record { answer = ap (λ (x : Result ℕ Refusal). outcome_of (named_in x)) a.answer; numbers = a.numbers }
 
-pub report-above : (log pairs lost old : List ℕ) → log_limit < length log → Reports log pairs lost old (Refused AboveLimit) old
+pub report-above : (log pairs lost old : List ℕ) → log_limit < length log → Reports log pairs lost old (Err AboveLimit) old
 unfolding report refuse_if number_of
 report-above log pairs lost old h =
     subst (λ (b : Bool). Says (cond b (refused 13) (report_log (read_log log) (pairs_of pairs) lost (length old))) old
-    (Refused AboveLimit) old)
-    (sym (lt-ltb log_limit (length log) h)) (says_refused 13 (Refused AboveLimit) old refl)
+    (Err AboveLimit) old)
+    (sym (lt-ltb log_limit (length log) h)) (says_refused 13 (Err AboveLimit) old refl)
 
 module _ (log pairs lost old : List ℕ) (small : length log ≤ log_limit) where
   within : report log (pairs_of pairs) lost (length old) ≡ report_log (read_log log) (pairs_of pairs) lost (length old)
@@ -206,15 +210,15 @@ module _ (log pairs lost old : List ℕ) (small : length log ≤ log_limit) wher
   within = ap (λ (b : Bool). cond b (refused 13) (report_log (read_log log) (pairs_of pairs) lost (length old))) (le-ltb log_limit
       (length log) small)
 
-  pub report-bad : (j : JournalRead) (book notes : List ℕ) → Reads (read_log log) log j book notes → j.ok ≡ false →
-      Reports log pairs lost old (Refused BadLog) old
+  pub report-bad : (book notes : List ℕ) → Reads (read_log log) log None book notes →
+      Reports log pairs lost old (Err BadLog) old
   unfolding report_log number_of
-  report-bad j book notes R off =
-      subst (λ (x : Report). Says x old (Refused BadLog) old) (sym (within ∙ go (read_log log) R))
-      (says_refused 15 (Refused BadLog) old refl)
+  report-bad book notes R =
+      subst (λ (x : Report). Says x old (Err BadLog) old) (sym (within ∙ go (read_log log) R))
+      (says_refused 15 (Err BadLog) old refl)
     where
-      go : (x : Journal) → Reads x log j book notes → report_log x (pairs_of pairs) lost (length old) ≡ refused 15
-      go (journal n β lines) S = absurd (subst T (sym S.holds.ok ∙ off) tt)
+      go : (x : Journal) → Reads x log None book notes → report_log x (pairs_of pairs) lost (length old) ≡ refused 15
+      go (journal n β lines) S = absurd S
       go no_journal S = refl
 
   -- a log that was read, with its lines
@@ -225,12 +229,12 @@ module _ (log pairs lost old : List ℕ) (small : length log ≤ log_limit) wher
     pub same : read_log log ≡ journal histories base_line lines
     pub reads : ReadsLog histories base_line lines log j book notes
 
-  pub read_some : (j : JournalRead) (book notes : List ℕ) → Reads (read_log log) log j book notes → j.ok ≡ true → ReadSome j book notes
-  read_some j book notes R on = go (read_log log) refl R
+  pub read_some : (j : JournalRead) (book notes : List ℕ) → Reads (read_log log) log (Some j) book notes → ReadSome j book notes
+  read_some j book notes R = go (read_log log) refl R
     where
-      go : (x : Journal) → read_log log ≡ x → Reads x log j book notes → ReadSome j book notes
+      go : (x : Journal) → read_log log ≡ x → Reads x log (Some j) book notes → ReadSome j book notes
       go (journal n β lines) p S = record { histories = n; base_line = β; lines = lines; same = p; reads = S }
-      go no_journal p S = absurd (subst T (sym on ∙ S) tt)
+      go no_journal p S = absurd S
 
   module _ (j : JournalRead) (book notes : List ℕ) (S : ReadSome j book notes) where
     abbrev N : ℕ
@@ -286,13 +290,13 @@ module _ (log pairs lost old : List ℕ) (small : length log ≤ log_limit) wher
 
     -- 16
     pub report_unknown : (PairsKnown pairs j.base.0 j.done.0 × LostKnown lost j.base.0 j.done.0 → ⊥) →
-        Reports log pairs lost old NotAmong old
+        Reports log pairs lost old (Ok None) old
     unfolding report_lines refuse_if
     report_unknown not_known =
-        subst (λ (x : Report). Says x old NotAmong old)
+        subst (λ (x : Report). Says x old (Ok None) old)
         (sym (on_lines ∙ ap (λ (b : Bool). cond b (refused 16) (cond (too_long (length old) answer) (refused 12)
         (named answer))) some_unknown))
-        (says_refused 16 NotAmong old refl)
+        (says_refused 16 (Ok None) old refl)
       where
         answer : List ℕ
         answer = removal N log' (pairs_of pairs) lost
@@ -321,11 +325,11 @@ module _ (log pairs lost old : List ℕ) (small : length log ≤ log_limit) wher
 
     -- the answer
     pub report-names : PairsKnown pairs j.base.0 j.done.0 × LostKnown lost j.base.0 j.done.0 → (gone : List ℕ) →
-        MarksExactly j.base.0 log' pairs lost gone → (r : Removals) (new : List ℕ) →
-        Answers (names j.base.0 gone (j.done.0 - j.base.0)) old r new → Reports log pairs lost old r new
+        MarksExactly j.base.0 log' pairs lost gone → (r : Result ℕ Refusal) (new : List ℕ) →
+        Answers (names j.base.0 gone (j.done.0 - j.base.0)) old r new → Reports log pairs lost old (named_in r) new
     unfolding report_lines
     report-names both gone M r new A =
-        subst (λ (x : Report). Says x old r new)
+        subst (λ (x : Report). Says x old (named_in r) new)
         (sym (on_lines ∙ ap (λ (b : Bool). refuse_if b 16 (refuse_if (too_long (length old) answer) 12 (named answer))) (none_unknown both)
         ∙ let_through (refuse_if (too_long (length old) answer) 12 (named answer))))
         (says-answer answer old r new (subst (λ (l : List ℕ). Answers l old r new) (names-removal gone both M) A))

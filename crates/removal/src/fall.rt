@@ -1,7 +1,7 @@
 // Removal by history and removal by transaction, which call each other.
 ghost use Rattle.std.specs.Prelude.{◌≡◌, ◌<◌, ◌/◌, length, replicate};
 ghost use Rattle.removal.specs.Chains.{count_of, Chained};
-ghost use Rattle.removal.specs.Fall.{net, Placed, Fit, FellLine, FellPairs, LaterAt, line_in, IsLineOf, Lost, Marked};
+ghost use Rattle.removal.specs.Fall.{net, net_of, LinksFit, Placed, FellLine, FellPairs, LaterIf, line_in, IsLineOf, Lost, Marked};
 
 use super::chains::{Chains, chain, first, further, mate};
 use super::slots::NO_HISTORY;
@@ -17,15 +17,16 @@ pub type Marks = [u8; LINES];
 // Slots of a line: an update each.
 pub const SLOTS: usize = UPDATES;
 
-// The next slot with the history of slot p: one of a later line. A slot without an update has the history 16.
-fn later(slots: &[u64], chains: &Chains, p: usize) -> usize
+// The next slot with the history of slot p, if there is one: of a later line. A slot without an update has the history 16.
+fn later(slots: &[u64], chains: &Chains, p: usize) -> Option<usize>
     requires { Chained slots.now 1 chains.now × (p < count_of slots.now) }
-    ensures { LaterAt slots.now p result }
+    ensures { LaterIf slots.now p result }
 {
     if slots[2 * p + 1] < NO_HISTORY {
-        return further(slots, chains, 1, p);
+        further(slots, chains, 1, p)
+    } else {
+        None
     }
-    slots.len() / 2
 }
 
 // The line of pair p, counted from 0.
@@ -33,84 +34,54 @@ fn line_of(words: &[u64], base: LogNumber, p: usize) -> usize
     requires { IsLineOf words.now base.0 p }
     ensures { result ≡ line_in base.0 words.now p }
 {
-    let low = base.0;
-    (words[2 * p] - low - 1) as usize
+    (words[2 * p] - base.0 - 1) as usize
+}
+
+// Through what lines fall with one another: the slots of a log by their histories, and the pairs of a report by their lines and by their
+// transactions.
+#[derive(Clone, Copy)]
+struct Links<'a> {
+    slots: &'a [u64],
+    histories: &'a Chains,
+    pairs: &'a [u64],
+    lines: &'a Chains,
+    transactions: &'a Chains,
+    base: LogNumber,
 }
 
 // Removes line i: the next line in each of its histories falls with it, and so all later ones; and so do its transactions.
 #[cycle(by_history_by_transaction)]
-fn by_history(
-    slots: &[u64],
-    histories: &Chains,
-    pairs: &[u64],
-    lines: &Chains,
-    transactions: &Chains,
-    gone: &mut Marks,
-    base: LogNumber,
-    i: usize,
-)
-    requires fit { Fit (net slots.now pairs.now base.0) histories.now lines.now transactions.now gone.old }
-    requires i_in_bounds { i < length slots.now / 8 }
-    ensures { FellLine (net slots.now pairs.now base.0) i gone.old gone.new }
+fn by_history(links: &Links, gone: &mut Marks, i: usize)
+    requires fit { LinksFit links.now gone.old }
+    requires i_in_bounds { i < length links.now.slots.now / 8 }
+    ensures { FellLine (net_of links.now) i gone.old gone.new }
 {
     if gone[i] == 0 {
         gone[i] = 1;
-        let mut u = 0;
-        while u < SLOTS {
-            let q = later(slots, histories, SLOTS * i + u);
-            if q < slots.len() / 2 {
-                let line = line_of(slots, base, q);
-                by_history(
-                    slots,
-                    histories,
-                    pairs,
-                    lines,
-                    transactions,
-                    gone,
-                    base,
-                    line,
-                );
+        for u in 0..SLOTS {
+            if let Some(q) = later(links.slots, links.histories, SLOTS * i + u) {
+                let line = line_of(links.slots, links.base, q);
+                by_history(links, gone, line);
             }
-            u += 1;
         }
-        by_transaction(slots, histories, pairs, lines, transactions, gone, base, i);
+        by_transaction(links, gone, i);
     }
 }
 
 // Removes the next line of each transaction of line i, behind the last one the first again: with that falls the one after it, and so on
-// round to line i.
+// round to line i. No index is counted: the chain tells the next pair.
 #[cycle(by_history_by_transaction)]
-fn by_transaction(
-    slots: &[u64],
-    histories: &Chains,
-    pairs: &[u64],
-    lines: &Chains,
-    transactions: &Chains,
-    gone: &mut Marks,
-    base: LogNumber,
-    i: usize,
-)
-    requires fit { Fit (net slots.now pairs.now base.0) histories.now lines.now transactions.now gone.old }
-    requires i_in_bounds { i < length slots.now / 8 }
-    ensures { FellPairs (net slots.now pairs.now base.0) i gone.old gone.new }
+fn by_transaction(links: &Links, gone: &mut Marks, i: usize)
+    requires fit { LinksFit links.now gone.old }
+    requires i_in_bounds { i < length links.now.slots.now / 8 }
+    ensures { FellPairs (net_of links.now) i gone.old gone.new }
 {
-    let low = base.0;
-    let number = low + 1 + i as u64;
-    let mut p = first(pairs, lines, 0, number);
-    while p < pairs.len() / 2 {
-        let q = mate(pairs, transactions, p);
-        let line = line_of(pairs, base, q);
-        by_history(
-            slots,
-            histories,
-            pairs,
-            lines,
-            transactions,
-            gone,
-            base,
-            line,
-        );
-        p = further(pairs, lines, 0, p);
+    let mut next = first(links.pairs, links.lines, 0, links.base.0 + 1 + i as u64);
+    while let Some(p) = next {
+        let q = mate(links.pairs, links.transactions, p);
+        let line = line_of(links.pairs, links.base, q);
+        by_history(links, gone, line);
+        next = further(links.pairs, links.lines, 0, p);
     }
 }
 
@@ -126,25 +97,20 @@ pub fn mark(slots: &[u64], pairs: &[u64], lost: &[u64], base: LogNumber) -> Mark
     requires { Placed (net slots.now pairs.now base.0) × Lost slots.now base.0 lost.now }
     ensures { Marked (net slots.now pairs.now base.0) lost.now result }
 {
-    let low = base.0;
     let histories = chain(slots, 1);
     let lines = chain(pairs, 0);
     let transactions = chain(pairs, 1);
+    let links = Links {
+        slots,
+        histories: &histories,
+        pairs,
+        lines: &lines,
+        transactions: &transactions,
+        base,
+    };
     let mut gone = no_marks();
-    let mut k = 0;
-    while k < lost.len() {
-        let line = (lost[k] - low - 1) as usize;
-        by_history(
-            slots,
-            &histories,
-            pairs,
-            &lines,
-            &transactions,
-            &mut gone,
-            base,
-            line,
-        );
-        k += 1;
+    for k in lost {
+        by_history(&links, &mut gone, (*k - base.0 - 1) as usize);
     }
     gone
 }

@@ -1,5 +1,5 @@
 -- Input in chunks: what stands of a session between two of them.
-use Rattle.std.specs.Prelude.{ℕ, ◌≤◌, ◌<◌, ◌≡◌, Bool, true, false, List, [], ◌∷◌, ◌++◌, length, take}
+use Rattle.std.specs.Prelude.{ℕ, ◌≤◌, ◌<◌, ◌≡◌, List, [], ◌∷◌, ◌++◌, length, take, Option as Held, Some, None}
 use Rattle.std.proofs.Math.Option.{Option, none}
 use Rattle.forms.specs.Limits.{line_limit}
 use Rattle.rules.specs.State.{State}
@@ -39,18 +39,22 @@ joined (c ∷ cs) = c ++ joined cs
 
 -- ### In the code
 
--- what is held of an unended line: its bytes, or that it is above 1,024 bytes
-abbrev pub LineIs : Bool → List ℕ → List ℕ → Type 0
-LineIs false held line = held ≡ line
-LineIs true held line = line_limit < length line
+-- b holds the unended line: its bytes.
+pub record HoldsLine (b : PartialLine) (line : List ℕ) : Type 0 where
+  pub few : b.len ≤ line_limit
+  pub long : length b.bytes ≡ line_limit
+  pub is : take b.len b.bytes ≡ line
 
--- What the code asks of it.
-pub record UsablePartial (b : PartialLine) : Type 0 where
+-- What is held of an unended line: its bytes, or that it is above 1,024 bytes.
+abbrev pub Begins : Held PartialLine → List ℕ → Type 0
+Begins (Some b) line = HoldsLine b line
+Begins None line = line_limit < length line
+
+-- What the code asks of a line that is held.
+pub record Usable (b : PartialLine) : Type 0 where
   pub few : b.len ≤ line_limit
   pub long : length b.bytes ≡ line_limit
 
--- b holds the unended line.
-pub record Begins (b : PartialLine) (line : List ℕ) : Type 0 where
-  pub few : b.len ≤ line_limit
-  pub long : length b.bytes ≡ line_limit
-  pub is : LineIs b.over (take b.len b.bytes) line
+-- .. and of what is held of any line.
+pub record UsablePartial (begun : Held PartialLine) : Type 0 where
+  pub held : (b : PartialLine) → begun ≡ Some b → Usable b

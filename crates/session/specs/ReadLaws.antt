@@ -1,5 +1,5 @@
 -- What a line's reading gives is what the line asks for: a call with what is held of its updates or of its did line is the call with them.
-use Rattle.std.specs.Prelude.{ℕ, ◌≤◌, ◌≡◌, refl, List, [], ◌++◌, length}
+use Rattle.std.specs.Prelude.{ℕ, ◌≤◌, ◌≡◌, refl, List, [], ◌++◌, length, Option as Held}
 use Rattle.std.proofs.Common.{arith, sym, ap, subst, ◌∙◌, length-append}
 use Rattle.std.proofs.Math.Option.{Option, none, some}
 use Rattle.forms.specs.Decimal.{Step}
@@ -15,7 +15,7 @@ use Rattle.forms.specs.CommandLaws.{command_read}
 use Rattle.rules.specs.State.{State, Reply}
 use Rattle.rules.specs.Calls.{Call, writable, perform, step, redo, redo_read}
 use Rattle.rules.specs.Session.{Turn, turn_of, opening, calling, obey, on_command, turn}
-use Rattle.forms.specs.declared.reader.CommandRead.{CommandRead}
+use Rattle.forms.specs.declared.reader.CommandForm.{CommandForm}
 use Rattle.forms.specs.Read.{command_answer}
 use Rattle.forms.specs.Limits.{line_limit}
 use Rattle.site.specs.Model.{Lent}
@@ -65,9 +65,8 @@ obeys room End rest (some st) w h = refl
 
 -- 1: what is not readable is refused, with a site and before
 unread : (room : ℕ) (s : Option State) → on_command room bad s ≡ obeyed room (command_answer bad) s
-unfolding on_command obeyed site_reply closed_reply command_answer
-unread room none = refl
-unread room (some st) = refl
+unfolding on_command obeyed command_answer
+unread room s = refl
 
 -- A line's turn is that of the form that was read.
 turn_is : (room : ℕ) (line : List ℕ) (s : Option State) → turn room line s ≡ obeyed room (command_answer (read_command line)) s
@@ -81,9 +80,9 @@ turn_is room line s = go (read_command line) refl
     go bad e = unread room s
 
 -- What is done for the form that was read is done for the line.
-pub turns_by : (line : List ℕ) (c : CommandRead) → c ≡ command_answer (read_command line) →
+pub turns_by : (line : List ℕ) (c : Held CommandForm) → c ≡ command_answer (read_command line) →
     (s : Session) (old : Lent) (r : LineResult) (new : Lent) →
     TurnsForm s old c r new → TurnsLine s old line r new
 turns_by line c e s old r new h =
     subst (λ (t : Turn). Turns s old t r new) (sym (turn_is (length old.log) line (session_view s old)))
-    (subst (λ (x : CommandRead). TurnsForm s old x r new) e h)
+    (subst (λ (x : Held CommandForm). TurnsForm s old x r new) e h)

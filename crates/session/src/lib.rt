@@ -1,28 +1,28 @@
 // A session: one form a line in, one reply a line out, over a site whose log stands in a lent buffer.
 #![tactic(auto)]
 
-ghost use Rattle.std.specs.Prelude.{◌≡◌, ◌+◌, false, ◌&&◌, [], leb};
+ghost use Rattle.std.specs.Prelude.{◌≡◌, ◌+◌, ◌&&◌, [], leb, None};
 ghost use Rattle.forms.specs.Held.{replied};
 ghost use Rattle.forms.specs.Limits.{live_limit};
 ghost use Rattle.site.specs.Model.{Lent, received, Valid, RefusedAs, lent};
 ghost use Rattle.session.specs.Model.{ValidSession, Refuses, Starts, TurnsLine, AnswersLine, lists_fit, WritesReply};
 ghost use Rattle.session.specs.Model.{turned_of, OpensLine, DoesForm, TurnsForm};
-ghost use Rattle.session.specs.Feeding.{Begins};
+ghost use Rattle.session.specs.Feeding.{HoldsLine};
 
 use forms::limits::{LINE_BYTES, LIVE};
-use forms::reader::{CommandForm, CommandRead, read_command};
-use forms::writer::{Written, write_reply};
+use forms::reader::{CommandForm, read_command};
+use forms::writer::write_reply;
 use forms::{LogNumber, Refusal, ReplyLine, ReplyNumbers};
 use history::book::BookWords;
 use site::{CallResult, Site, refusal};
 use table::order::Order;
 use table::rows::Rows;
 
-// A session by value: whether its site is open, and that site. Its log buffer is lent to each call.
+// A session by value: its site, once one is open. Its log buffer is lent to each call, and so are the other four arrays: one by one, since
+// the site's calls, and C, take each by itself, and some may only be read.
 #[derive(Clone, Copy)]
 pub struct Session {
-    pub opened: bool,
-    pub site: Site,
+    pub site: Option<Site>,
 }
 
 // What a line gives: the session after it, and the reply.
@@ -32,33 +32,32 @@ pub struct LineResult {
     pub reply: ReplyLine,
 }
 
-// What a line gives with its reply written: the session after it, and where the reply ends.
+// What a line gives with its reply written: the session after it, and where the reply ends, if it had room.
 #[derive(Clone, Copy)]
 pub struct Answered {
     pub session: Session,
-    pub next: Written,
+    pub next: Option<usize>,
 }
 
-// The unended line so far: its first `len` bytes, or that it is above 1,024 bytes.
+// An unended line so far: its first `len` bytes, in an array that has the most there can be, since there is no heap. Where a line is above
+// 1,024 bytes, no such value stands for it.
 #[derive(Clone, Copy)]
 pub struct PartialLine {
     pub bytes: [u8; LINE_BYTES],
     pub len: usize,
-    pub over: bool,
 }
 
 // No byte of a line yet.
 pub fn no_line() -> PartialLine
-    ensures { Begins result [] }
+    ensures { HoldsLine result [] }
 {
     PartialLine {
         bytes: [0; LINE_BYTES],
         len: 0,
-        over: false,
     }
 }
 
-// What an open site hands back where it refuses.
+// What an open site hands back where it refuses: for `(site N)`, which is no call of a site, so that none of its calls says it.
 fn refused(site: Site, q: Refusal) -> CallResult
     ensures { (m : Lent) → RefusedAs site m q result m }
 {
@@ -72,10 +71,9 @@ fn refused(site: Site, q: Refusal) -> CallResult
 fn called(r: CallResult) -> LineResult
     ensures { result ≡ turned_of r }
 {
-    let site = r.site;
     let reply = r.reply;
     LineResult {
-        session: Session { opened: true, site },
+        session: Session { site: Some(r.site) },
         reply,
     }
 }
@@ -88,26 +86,22 @@ fn call(
     order: &mut Order,
     book: &mut BookWords,
     lists: &mut ReplyNumbers,
-    c: CommandRead,
+    form: CommandForm,
 ) -> CallResult
     requires { Valid site (received log.old rows.old order.old book.old) }
-    ensures { DoesForm site (lent log.old rows.old order.old book.old lists.old) c result
+    ensures { DoesForm site (lent log.old rows.old order.old book.old lists.old) form result
         (lent log.new rows.new order.new book.new lists.new) }
 {
-    let form = c.form;
-    let asked = c.asked;
-    let did = c.did;
     match form {
-        CommandForm::Bad => refused(site, Refusal::Unreadable),
         CommandForm::SiteOf(_) => refused(site, Refusal::OutOfTurn),
-        CommandForm::Add(i) => site.add(log, rows, order, book, lists, i, asked),
+        CommandForm::Add(i, asked) => site.add(log, rows, order, book, lists, i, asked),
         CommandForm::Finish(i) => site.finish(log, rows, order, book, lists, i),
         CommandForm::Withdraw(i) => site.withdraw(log, rows, order, book, lists, i),
         CommandForm::Persistent(n) => site.persistent(log, rows, order, book, lists, LogNumber(n)),
         CommandForm::Stable(n) => site.stable(log, rows, order, book, lists, LogNumber(n)),
         CommandForm::Show(h) => site.show(log, rows, order, book, h),
         CommandForm::Cut(k) => site.cut(log, rows, order, book, k),
-        CommandForm::Redo => site.redo_did(log, rows, order, book, did),
+        CommandForm::Redo(did) => site.redo_did(log, rows, order, book, did),
         CommandForm::End => site.end(log, rows, order, book, lists),
     }
 }
@@ -116,32 +110,23 @@ fn call(
 fn lists_fit(first: usize, second: usize, numbers: usize) -> bool
     ensures { result ≡ (leb first live_limit && leb second live_limit && leb (first + second) numbers) }
 {
-    if first > LIVE {
-        return false;
-    }
-    if second > LIVE {
-        return false;
-    }
-    first + second <= numbers
+    first <= LIVE && second <= LIVE && first + second <= numbers
 }
 
 // Writes the reply of a turn, with its end: its lists stand one behind the other at the front of what was lent for them.
 // It has at most 2,741 bytes. Nothing is written of a reply that is of no turn, where its lists do not stand there.
-pub fn write_turn(out: &mut [u8], at: usize, r: ReplyLine, lists: &[u64]) -> Written
+pub fn write_turn(out: &mut [u8], at: usize, r: ReplyLine, lists: &[u64]) -> Option<usize>
     ensures { WritesReply (lists_fit r lists.now) (replied r lists.now) out.old at result out.new }
 {
-    let form = r.form;
-    let n = r.first;
-    let k = r.second;
-    if !lists_fit(n, k, lists.len()) {
-        return Written::NoRoom;
+    if !lists_fit(r.first, r.second, lists.len()) {
+        return None;
     }
-    let m = n + k;
-    write_reply(out, at, form, &lists[..n], &lists[n..m])
+    let (first, rest) = lists.split_at(r.first);
+    write_reply(out, at, r.form, first, &rest[..r.second])
 }
 
 impl Session {
-    // A line that is refused.
+    // A line that is refused. Site and module have such a function too, each with a result of its own.
     pub fn refuse(self, q: Refusal) -> LineResult
         ensures { Refuses self q result }
     {
@@ -160,23 +145,21 @@ impl Session {
         book: &mut BookWords,
         n: u64,
     ) -> LineResult
-        requires { self.opened ≡ false }
+        requires { self.site ≡ None }
         ensures { OpensLine self n (lent log.old rows.now order.old book.old) (lent log.new rows.now order.new book.new) result }
     {
         let c = Site::open(log, rows, order, book, n);
-        let site = c.site;
-        let reply = c.reply;
-        if site.count == 0 {
+        if c.site.count == 0 {
             LineResult {
                 session: self,
-                reply,
+                reply: c.reply,
             }
         } else {
             called(c)
         }
     }
 
-    // What a form asks for: of the open site, or "before site".
+    // What a form asks for, if one was read: of the open site, or "before site".
     fn obey(
         self,
         log: &mut [u8],
@@ -184,21 +167,21 @@ impl Session {
         order: &mut Order,
         book: &mut BookWords,
         lists: &mut ReplyNumbers,
-        c: CommandRead,
+        form: Option<CommandForm>,
     ) -> LineResult
         requires { ValidSession self (received log.old rows.old order.old book.old) }
-        ensures { TurnsForm self (lent log.old rows.old order.old book.old lists.old) c result
+        ensures { TurnsForm self (lent log.old rows.old order.old book.old lists.old) form result
             (lent log.new rows.new order.new book.new lists.new) }
     {
-        let form = c.form;
-        if self.opened {
-            let site = self.site;
-            return called(call(site, log, rows, order, book, lists, c));
-        }
-        match form {
-            CommandForm::Bad => self.refuse(Refusal::Unreadable),
-            CommandForm::SiteOf(n) => self.open_site(log, rows, order, book, n),
-            _ => self.refuse(Refusal::OutOfTurn),
+        let Some(form) = form else {
+            return self.refuse(Refusal::Unreadable);
+        };
+        match self.site {
+            Some(site) => called(call(site, log, rows, order, book, lists, form)),
+            None => match form {
+                CommandForm::SiteOf(n) => self.open_site(log, rows, order, book, n),
+                _ => self.refuse(Refusal::OutOfTurn),
+            },
         }
     }
 
@@ -216,18 +199,14 @@ impl Session {
         ensures { TurnsLine self (lent log.old rows.old order.old book.old lists.old) line.now result
             (lent log.new rows.new order.new book.new lists.new) }
     {
-        let c = read_command(line);
-        self.obey(log, rows, order, book, lists, c)
+        self.obey(log, rows, order, book, lists, read_command(line))
     }
 
     // A session "before site".
     pub fn start() -> Session
         ensures { (m : Lent) → Starts result m }
     {
-        Session {
-            opened: false,
-            site: Site::blank(),
-        }
+        Session { site: None }
     }
 
     // A line of the input, without its end, and its reply, with its end, at the front of `out`.
@@ -246,9 +225,10 @@ impl Session {
             (lent log.new rows.new order.new book.new lists.new) out.old out.new }
     {
         let t = self.turn(log, rows, order, book, lists, line);
-        let session = t.session;
-        let reply = t.reply;
-        let next = write_turn(out, 0, reply, lists);
-        Answered { session, next }
+        let next = write_turn(out, 0, t.reply, lists);
+        Answered {
+            session: t.session,
+            next,
+        }
     }
 }

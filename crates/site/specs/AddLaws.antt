@@ -13,7 +13,7 @@ use Rattle.forms.specs.ListLaws.{T_true, mem_snoc}
 use Rattle.forms.specs.Forms.{Update, Added}
 use Rattle.forms.specs.Held.{outcome_with, updates_of, Numbers, listed}
 use Rattle.forms.specs.Limits.{history_limit}
-use Rattle.forms.specs.declared.AskedHeld.{AskedHeld}
+use Rattle.forms.specs.Held.{AskedHeld}
 use Rattle.forms.specs.declared.ReplyForm.{ReplyForm}
 use Rattle.forms.specs.declared.Refusal.{Refusal}
 use Rattle.forms.specs.declared.Refusal.TheVariants.{NothingOrders, IdPending, AlreadyDone, ReadOvertaken, HighestVersion, TableFull}
@@ -32,9 +32,7 @@ use Rattle.rules.specs.Within.{uses_all, step_within}
 use Rattle.history.specs.declared.History.{History}
 use Rattle.history.specs.declared.Entry.{Entry}
 use Rattle.history.specs.declared.Findings.{Findings}
-use Rattle.history.specs.declared.Verdict.{Verdict}
-use Rattle.history.specs.declared.Verdict.TheVariants.{Refused}
-use Rattle.history.specs.Asking.{verdict_of, HoldsUpdates, Enters}
+use Rattle.history.specs.Asking.{HoldsUpdates, Enters}
 use Rattle.history.specs.Entries.{cells_of, operation_of, InFirst}
 use Rattle.history.specs.Words.{entry_in}
 use Rattle.history.specs.BusyLaws.{items-asked, all_in_first, entry_few}
@@ -68,10 +66,10 @@ module _ (x : CheckInputs) (hs : List History) (i : ℕ) (us : List Update) (ful
       (s.full j) false))))
 
   pub entry_is : updates_refusal x.count us ≡ none → (e : Entry) → Enters (added_operation i us) e →
-      (v : Verdict) → v ≡ verdict_of (entry_refusal x (cells_of hs) (operation_of e).updates) → v ≡ verdict_of others
+      entry_refusal x (cells_of hs) (operation_of e).updates ≡ others
   unfolding entry_refusal
-  entry_is formed e enters v h =
-      h ∙ λ j. verdict_of (check (nothing j) NothingOrders (conflict_refusal x.pending (ran j) (late j) (top_is j) x.full false))
+  entry_is formed e enters =
+      λ j. check (nothing j) NothingOrders (conflict_refusal x.pending (ran j) (late j) (top_is j) x.full false)
     where
       within : InFirst x.count e
       within =
@@ -98,32 +96,22 @@ module _ (x : CheckInputs) (hs : List History) (i : ℕ) (us : List Update) (ful
 
 -- ### By what one pass has found
 
-orders_both : (s o : Bool) → (s && not o) ≡ not (not s || o)
-orders_both true true = refl
-orders_both true false = refl
-orders_both false true = refl
-orders_both false false = refl
-
 module _ (x : CheckInputs) (cells : ℕ → Cell) (us : List Update) (f : Findings) (e : f ≡ findings_in cells us) where
-  -- 6, by the negation
-  orders_is : (b : Bool) → b ≡ (not f.strong || f.orders) → nothing_orders us ≡ not b
+  -- 6
+  orders_is : nothing_orders us ≡ (f.strong && not f.orders)
   unfolding nothing_orders findings_in
-  orders_is b h =
-      sym (ap (λ (g : Findings). g.strong && not g.orders) e) ∙ orders_both f.strong f.orders ∙ ap not (sym h)
+  orders_is = sym (ap (λ (g : Findings). g.strong && not g.orders) e)
 
-  pub nothing_orders_is : (b : Bool) → b ≡ (not f.strong || f.orders) → b ≡ false →
-      Refused NothingOrders ≡ verdict_of (entry_refusal x cells us)
-  unfolding check verdict_of entry_refusal
-  nothing_orders_is b h z = rw (orders_is b h ∙ ap not z) refl
+  pub nothing_orders_is : (f.strong && not f.orders) ≡ true → entry_refusal x cells us ≡ some NothingOrders
+  unfolding check entry_refusal
+  nothing_orders_is z = rw (orders_is ∙ z) refl
 
-  pub conflict_is : (b : Bool) → b ≡ (not f.strong || f.orders) → b ≡ true → (done : Bool) → done ≡ (x.done || f.ran) →
-      (v : Verdict) → v ≡ verdict_of (conflict_refusal x.pending done f.overtaken f.highest x.full false) →
-      v ≡ verdict_of (entry_refusal x cells us)
+  pub conflict_is : (f.strong && not f.orders) ≡ false → (done : Bool) → done ≡ (x.done || f.ran) →
+      conflict_refusal x.pending done f.overtaken f.highest x.full false ≡ entry_refusal x cells us
   unfolding check entry_refusal findings_in
-  conflict_is b h z done d v k =
-      k ∙ λ j. verdict_of
-      (check (sym (orders_is b h ∙ ap not z) j) NothingOrders
-      (conflict_refusal x.pending ((d ∙ ap (λ (g : Findings). x.done || g.ran) e) j) (e j).overtaken (e j).highest x.full false))
+  conflict_is z done d = λ j.
+      check (sym (orders_is ∙ z) j) NothingOrders
+      (conflict_refusal x.pending ((d ∙ ap (λ (g : Findings). x.done || g.ran) e) j) (e j).overtaken (e j).highest x.full false)
 
 -- What passed all checks: `full` does not say that the site may use no more entries.
 pub record Free (full : Bool) (i : ℕ) (us : List Update) (st : State) : Type 0 where

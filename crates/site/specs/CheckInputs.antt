@@ -1,6 +1,6 @@
 -- What the checks of an operation or of a did line read of a state, and the order of those that both have.
-use Rattle.std.specs.Prelude.{ℕ, ◌+◌, ◌<◌, ◌≡◌, Bool, false, ◌||◌, List, length}
-use Rattle.std.proofs.Math.Option.{Option, none}
+use Rattle.std.specs.Prelude.{ℕ, ◌+◌, ◌<◌, ◌≡◌, Bool, false, ◌||◌, List, length, Result, MatchResult}
+use Rattle.std.proofs.Math.Option.{Option, none, some}
 use Rattle.forms.specs.Lists.{sum, any}
 use Rattle.forms.specs.Forms.{Update, Did}
 use Rattle.forms.specs.declared.Refusal.{Refusal}
@@ -11,13 +11,15 @@ use Rattle.rules.specs.Checks.{check}
 use Rattle.rules.specs.State.{Operation, State, log_bytes, start_of, line_bytes}
 use Rattle.rules.specs.Calls.{nothing_orders, id_pending, id_done, table_full}
 use Rattle.history.specs.declared.History.{History}
-use Rattle.history.specs.declared.Verdict.TheVariants.{Passes}
-use Rattle.history.specs.Asking.{verdict_of, Enters, EntersDid}
+use Rattle.history.specs.declared.Entry.{Entry}
+use Rattle.history.specs.Asking.{Enters, EntersDid}
 use Rattle.history.specs.Cells.{already_done_in, read_overtaken_in, at_highest_in}
 use Rattle.history.specs.Entries.{cells_of}
-use Rattle.site.specs.declared.seen.Admission.{Admission}
+use Rattle.rules.specs.Within.{uses_all}
+use Rattle.history.specs.Words.{histories_in}
+use Rattle.site.specs.declared.Site.{Site}
 use Rattle.site.specs.declared.seen.CheckInputs.{CheckInputs}
-use Rattle.site.specs.declared.seen.LineAdmission.{LineAdmission}
+use Rattle.site.specs.Model.{Lent, view}
 
 -- What was read is so in the state st, for the id i, and the histories hold its book; `used` says that the site may use no more entries.
 pub record Sees (x : CheckInputs) (hs : List History) (i : ℕ) (used : Bool) (st : State) : Type 0 where
@@ -27,6 +29,10 @@ pub record Sees (x : CheckInputs) (hs : List History) (i : ℕ) (used : Bool) (s
   pub done : x.done ≡ id_done i st
   pub full : x.full ≡ (used || table_full st)
   pub book : (h : ℕ) → h < x.count → cells_of hs h ≡ cell (start_of st) h st.log
+
+-- What was read of a site is so in its state, for the id i; it may use the entries in the order.
+abbrev pub SeesAll : CheckInputs → Site → Lent → ℕ → Type 0
+SeesAll x s m i = Sees x (histories_in m.book) i (uses_all (length m.order) (view s m)) (view s m)
 
 -- So many bytes of the log buffer are neither in use nor reserved.
 abbrev pub LeavesLines : ℕ → State → Type 0
@@ -51,12 +57,15 @@ abbrev pub added_operation : ℕ → List Update → Operation
 added_operation i us = record { id = i; updates = us; running = false }
 
 -- What the checks of an add said is what the specification says, o; and an operation that passes has its entry.
-pub record Admits (i : ℕ) (us : List Update) (o : Option Refusal) (r : Admission) : Type 0 where
-  pub verdict : r.verdict ≡ verdict_of o
-  pub enters : r.verdict ≡ Passes → Enters (added_operation i us) r.entry
+abbrev pub Admits : ℕ → List Update → Option Refusal → Result Entry Refusal → Type 0
+Admits i us o r = MatchResult r (λ e. (o ≡ none) × Enters (added_operation i us) e) (λ q. o ≡ some q)
 
--- What the checks of a redo said is what the specification says, o; and a did line that passes has its entry, and its length is known.
-pub record AdmitsLine (did : Did) (o : Option Refusal) (r : LineAdmission) : Type 0 where
-  pub verdict : r.verdict ≡ verdict_of o
-  pub enters : r.verdict ≡ Passes → EntersDid did r.entry
-  pub size : r.verdict ≡ Passes → r.length ≡ line_bytes did
+-- A did line passes the checks, of which the specification says o: it has its entry, and its length is known.
+pub record PassesLine (did : Did) (o : Option Refusal) (e : Entry) (n : ℕ) : Type 0 where
+  pub free : o ≡ none
+  pub enters : EntersDid did e
+  pub size : n ≡ line_bytes did
+
+-- What the checks of a redo said is what the specification says, o.
+abbrev pub AdmitsLine : Did → Option Refusal → Result (Entry × ℕ) Refusal → Type 0
+AdmitsLine did o r = MatchResult r (λ x. PassesLine did o x.0 x.1) (λ q. o ≡ some q)

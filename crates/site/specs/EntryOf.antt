@@ -1,6 +1,6 @@
 -- The entry of an id. A live operation (a line that waits, an operation that is not done, or one that is done and has not left the table)
 -- has one entry until it leaves; "a freed entry is used again".
-use Rattle.std.specs.Prelude.{ℕ, ◌≡◌, refl, Bool, true, false}
+use Rattle.std.specs.Prelude.{ℕ, ◌≡◌, refl, Bool, true, false, Option, Some, None}
 use Rattle.std.proofs.Common.{arith, sym, ◌∙◌}
 use Rattle.std.proofs.Math.Path.{ap, ap₂, subst}
 use Rattle.std.proofs.Math.Bool.{◌||◌}
@@ -12,8 +12,7 @@ use Rattle.rules.specs.State.{State}
 use Rattle.rules.specs.Calls.{id_pending, id_done}
 use Rattle.rule_laws.specs.Good.{did_ids, operation_ids}
 use Rattle.history.specs.Entries.{did_of_entry}
-use Rattle.table.specs.declared.Lookup.{Lookup}
-use Rattle.table.specs.declared.Lookup.TheVariants.{At, Nothing}
+use Rattle.table.specs.declared.EntryNumber.{EntryNumber}
 use Rattle.table.specs.Rows.{row_at}
 use Rattle.table.specs.Tables.{rows_of, live_numbers, has_id, id_of, entry_of}
 use Rattle.table.specs.FindLaws.{ids-lines, ids_operations}
@@ -28,11 +27,11 @@ unfoldable pub is_live : ℕ → State → Bool
 is_live i st = id_done i st || id_pending i st
 
 -- What is found of an id is its one entry among the live ones, and nothing exactly if it is not live.
-pub record EntryIs (s : Site) (m : Lent) (id : ℕ) (r : Lookup) : Type 0 where
-  pub stands : (e : ℕ) → r ≡ At (record { 0 = e }) → Mem e (live_numbers s.table m.order) × ((row_at m.rows e).id ≡ id)
-  pub only : (e : ℕ) → Mem e (live_numbers s.table m.order) → (row_at m.rows e).id ≡ id → r ≡ At (record { 0 = e })
-  pub none : r ≡ Nothing → is_live id (view s m) ≡ false
-  pub not_live : is_live id (view s m) ≡ false → r ≡ Nothing
+pub record EntryIs (s : Site) (m : Lent) (id : ℕ) (r : Option EntryNumber) : Type 0 where
+  pub stands : (e : ℕ) → r ≡ Some (record { 0 = e }) → Mem e (live_numbers s.table m.order) × ((row_at m.rows e).id ≡ id)
+  pub only : (e : ℕ) → Mem e (live_numbers s.table m.order) → (row_at m.rows e).id ≡ id → r ≡ Some (record { 0 = e })
+  pub none : r ≡ None → is_live id (view s m) ≡ false
+  pub not_live : is_live id (view s m) ≡ false → r ≡ None
 
 module _ (s : Site) (m : Lent) (v : Valid s m) where
   abbrev w : Representation

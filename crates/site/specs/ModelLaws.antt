@@ -1,7 +1,7 @@
 -- The laws through which every call goes: what a site holds is its view, and so it is valid.
 use Rattle.std.specs.Prelude.{ℕ, ◌+◌, ◌≡◌, refl, true, List, [], length, drop}
 use Rattle.std.proofs.Common.{arith, sym, ap, ap₂, subst, ◌∙◌}
-use Rattle.forms.specs.Forms.{Answer, Refused, Accepted}
+use Rattle.forms.specs.Forms.{Answer, Accepted}
 use Rattle.forms.specs.Held.{Numbers, listed, numbers_of, Replied, replied, outcome_with, outcome_of}
 use Rattle.forms.specs.Limits.{live_limit}
 use Rattle.rule_laws.specs.KeptLaws.{good_reads}
@@ -26,7 +26,7 @@ use Rattle.site.specs.declared.Site.{Site}
 use Rattle.site.specs.declared.CallResult.{CallResult}
 use Rattle.site.specs.Representation.{Representation, lines_of_journal, lines_read, base_of_journal, base_read, state_of, Carries}
 use Rattle.site.specs.Representation.{Represents, Sound}
-use Rattle.site.specs.Model.{Lent, lent, represented, view, Few, NumberOnly, Says, DoesWith, Does, Steps, StepsWithin}
+use Rattle.site.specs.Model.{Lent, lent, represented, view, Few, NumberOnly, Says, RefusedAs, DoesWith, Does, Steps, StepsWithin}
 
 -- ### Replies
 
@@ -230,22 +230,20 @@ does s old x r new = does_with old.order s old x r new
 
 -- A call that the specification refuses: site and all that is lent are the very ones that came in.
 pub refuses_with : (numbers : List ℕ) (s : Site) (old : Lent) (reply : Reply) (q : Refusal) (r : CallResult) → reply ≡ refused q →
-    Says (replied r.reply old.lists) (Refused q) → r.site ≡ s → DoesWith numbers s old reply r old
-refuses_with numbers s old reply q r e says same =
-    subst (λ (x : Reply). DoesWith numbers s old x r old) (sym e) (record { answer = says; site = same; kept = refl })
+    RefusedAs s old q r old → DoesWith numbers s old reply r old
+refuses_with numbers s old reply q r e is = subst (λ (x : Reply). DoesWith numbers s old x r old) (sym e) is
 
-pub refuses : (s : Site) (old : Lent) (reply : Reply) (q : Refusal) (r : CallResult) → reply ≡ refused q →
-    Says (replied r.reply old.lists) (Refused q) → r.site ≡ s → Does s old reply r old
+pub refuses : (s : Site) (old : Lent) (reply : Reply) (q : Refusal) (r : CallResult) → reply ≡ refused q → RefusedAs s old q r old →
+    Does s old reply r old
 refuses s old = refuses_with old.order s old
 
 -- .. the log too, where the writer found no room
 pub refuses-full : (numbers : List ℕ) (s : Site) (old : Lent) (new : List ℕ) (reply : Reply) (q : Refusal) (r : CallResult) →
-    reply ≡ refused q →
-    new ≡ old.log → Says (replied r.reply old.lists) (Refused q) → r.site ≡ s →
+    reply ≡ refused q → new ≡ old.log → RefusedAs s old q r old →
     DoesWith numbers s old reply r (lent new old.rows old.order old.book old.lists)
-refuses-full numbers s old new reply q r e f says same =
+refuses-full numbers s old new reply q r e f is =
     subst (λ (b : List ℕ). DoesWith numbers s old reply r (lent b old.rows old.order old.book old.lists)) (sym f)
-    (refuses_with numbers s old reply q r e says same)
+    (refuses_with numbers s old reply q r e is)
 
 -- A call that the specification accepts: the site after it holds the next state.
 pub accepts_call : (old : List ℕ) (reply : Reply) (st : State) (a : Answer) (r : Taken) (new : List ℕ) → reply ≡ ok st a →

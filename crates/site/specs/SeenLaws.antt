@@ -1,6 +1,6 @@
 -- Laws of the checks that an add and a redo share: what is read of a valid site is so in its state_of, and a verdict is that of the
 -- specification.
-use Rattle.std.specs.Prelude.{ℕ, ◌+◌, ◌≤◌, ◌≡◌, Bool, true, false, ◌||◌, List, map, leb, eqb, length}
+use Rattle.std.specs.Prelude.{ℕ, ◌+◌, ◌≤◌, ◌≡◌, Bool, true, false, ◌||◌, List, map, leb, eqb, length, Result, Ok, Err}
 use Rattle.std.proofs.Common.{arith, sym, ap, ◌∙◌, leb-false}
 use Rattle.std.proofs.Math.Path.{refl}
 use Rattle.std.proofs.Math.Option.{Option, none, some}
@@ -15,14 +15,15 @@ use Rattle.rules.specs.Checks.{check, and_then}
 use Rattle.rules.specs.State.{Operation, State, live_done, live}
 use Rattle.rules.specs.Calls.{id_pending, id_done, table_full}
 use Rattle.rules.specs.Within.{uses_all}
-use Rattle.history.specs.declared.Verdict.{Verdict}
-use Rattle.history.specs.declared.Verdict.TheVariants.{Passes, Refused}
 use Rattle.history.specs.Asking.{verdict_of}
 use Rattle.history.specs.Entries.{operation_of, did_of_entry}
 use Rattle.table.specs.FindLaws.{has-operation, has-line}
-use Rattle.table.specs.Tables.{has_id}
+use Rattle.table.specs.Tables.{has_id, finished_rows, queue_rows}
 use Rattle.site.specs.Representation.{Representation, state_of, pending_in, waiting_in, Carries, Sound}
-use Rattle.site.specs.CheckInputs.{Sees}
+use Rattle.site.specs.declared.Site.{Site}
+use Rattle.site.specs.Model.{Lent, represented, Valid}
+use Rattle.site.specs.TableLaws.{live-length}
+use Rattle.site.specs.CheckInputs.{Sees, SeesAll}
 
 -- ### The table
 
@@ -83,11 +84,25 @@ site_sees s bytes v n most i pending done full p d f =
       book = v.carries.book;
     }
 
+-- .. so what a call reads of its site is so in the site's state
+pub lent_sees : (s : Site) (m : Lent) → Valid s m → (i : ℕ) (pending done : Bool) →
+    pending ≡ any (has_id i) (queue_rows s.table m.order m.rows) → done ≡ any (has_id i) (finished_rows s.table m.order m.rows) →
+    SeesAll (record {
+      restoring = s.restoring;
+      count = s.count;
+      pending = pending;
+      done = done;
+      full = leb (length m.order) (s.table.finished + s.table.queue);
+    }) s m i
+lent_sees s m v i pending done p d =
+    site_sees (represented s m) m.log v.sound (length m.order) v.owns.usable.long i pending done _ p d
+    (ap (leb (length m.order)) (sym (live-length s.table m.order m.rows v.owns)))
+
 -- ### Verdicts
 
-abbrev refusal_in : Verdict → Option Refusal
-refusal_in Passes = none
-refusal_in (Refused q) = some q
+abbrev refusal_in : Result (Unit {0}) Refusal → Option Refusal
+refusal_in (Ok x) = none
+refusal_in (Err q) = some q
 
 verdict_back : (o : Option Refusal) → refusal_in (verdict_of o) ≡ o
 unfolding verdict_of
@@ -95,32 +110,23 @@ verdict_back none = refl
 verdict_back (some r) = refl
 
 -- a verdict that passes refuses nothing
-pub passes_is : (o : Option Refusal) → Passes ≡ verdict_of o → o ≡ none
+pub passes_is : (o : Option Refusal) → Ok tt ≡ verdict_of o → o ≡ none
 passes_is o e = sym (ap refusal_in e ∙ verdict_back o)
 
-pub refused_is : (o : Option Refusal) (q : Refusal) → Refused q ≡ verdict_of o → o ≡ some q
+pub refused_is : (o : Option Refusal) (q : Refusal) → Err q ≡ verdict_of o → o ≡ some q
 refused_is o q e = sym (ap refusal_in e ∙ verdict_back o)
-
--- a verdict that refuses does not pass
-kind_of : Verdict → ℕ
-kind_of Passes = 0
-kind_of (Refused q) = 1
-
-pub refuses-not : (v : Verdict) (q : Refusal) → v ≡ Refused q → v ≡ Passes → ⊥
-unfolding kind_of
-refuses-not v q e f = let z : ◌≡◌ {A = ℕ} 1 0 = ap kind_of (sym e ∙ f) in omega (arith, z)
 
 -- Checks that begin with the turn and the form.
 module _ (o : Option Refusal) (turn : Bool) (form rest : Option Refusal) (is : o ≡ check turn OutOfTurn (and_then form rest)) where
-  pub out_of_turn : turn ≡ true → Refused OutOfTurn ≡ verdict_of o
-  unfolding check verdict_of
+  pub out_of_turn : turn ≡ true → o ≡ some OutOfTurn
+  unfolding check
   out_of_turn e = rw (is, e) refl
 
   module _ (on : turn ≡ false) where
-    pub misformed : (q : Refusal) → Refused q ≡ verdict_of form → Refused q ≡ verdict_of o
-    unfolding check and_then verdict_of
-    misformed q e = rw (is, on, refused_is form q e) refl
-
-    pub formed_then : Passes ≡ verdict_of form → (v : Verdict) → v ≡ verdict_of rest → v ≡ verdict_of o
+    pub misformed : (q : Refusal) → form ≡ some q → o ≡ some q
     unfolding check and_then
-    formed_then e v h = rw (is, on, passes_is form e) h
+    misformed q e = rw (is, on, e) refl
+
+    pub formed_then : form ≡ none → o ≡ rest
+    unfolding check and_then
+    formed_then e = rw (is, on, e) refl

@@ -1,12 +1,14 @@
 -- What a call makes of its table, from what each of its steps makes of it.
-use Rattle.std.specs.Prelude.{ℕ, ◌+◌, ◌≤◌, ◌≡◌, refl, List, [], length}
+use Rattle.std.specs.Prelude.{ℕ, ◌+◌, ◌≤◌, ◌<◌, ◌≡◌, refl, List, [], length, get_or}
 use Rattle.std.proofs.Common.{arith, sym, ap, ap₂, subst, ◌∙◌}
 use Rattle.history.specs.declared.Entry.{Entry}
 use Rattle.table.specs.declared.Table.{Table}
 use Rattle.table.specs.Order.{tally}
-use Rattle.table.specs.RangeLaws.{range_none}
+use Rattle.history.specs.Entries.{UsableEntry}
+use Rattle.table.specs.RangeLaws.{past_entry, range_none}
+use Rattle.table.specs.Rows.{row_at}
 use Rattle.table.specs.Tables.{rows_in, live_count, live_numbers, finished_rows, queue_rows, Usable, Owns, Frame, Becomes}
-use Rattle.table.specs.TableLaws.{finished-length, queue-length}
+use Rattle.table.specs.TableLaws.{finished-length, queue-length, queue-at, queue_usable}
 use Rattle.table.specs.StepLaws.{frame_then}
 use Rattle.site.specs.ModelLaws.{KeepsTable}
 
@@ -78,3 +80,17 @@ pub keeps_tried : {o old : List ℕ} {t : Table} {p mid new : List ℕ} {f q : L
     Frame (live_numbers t p) mid new → KeepsTable o old t p new
 keeps_tried {o} {old} {t} {p} {mid} {new} b own frame =
     keeps_then o old t p mid t p new (keeps_of b) (record { owns = own; same = λ e. refl; frame = frame }) (λ e z. z)
+
+-- An entry that is not done, at a place of the queue.
+module _ (t : Table) (o ws : List ℕ) (own : Owns t o ws) (at : ℕ) (below : at < t.queue) where
+  -- it stands in the order
+  pub queue_placed : t.finished + at < length o
+  queue_placed = omega (arith, below, own.usable.few, own.usable.long)
+
+  -- .. and its row, as it is read
+  module _ (e : Entry) (is : e ≡ row_at ws (get_or o (t.finished + at) 0)) where
+    pub queue_read : e ≡ get_or (queue_rows t o ws) at past_entry
+    queue_read = is ∙ sym (queue-at t o ws own at past_entry below)
+
+    pub queue_fine : UsableEntry e
+    queue_fine = subst UsableEntry (sym is) (queue_usable t o ws own at below)

@@ -7,8 +7,8 @@ use Rattle.forms.specs.Writable.{WritableUpdate, WritableChange, WritableDid, Ea
 use Rattle.forms.specs.Limits.{update_limit}
 use Rattle.forms.specs.declared.Asked.{Asked}
 use Rattle.forms.specs.declared.Done.{Done}
-use Rattle.forms.specs.declared.AskedHeld.{AskedHeld}
-use Rattle.forms.specs.declared.DoneHeld.{DoneHeld}
+use Rattle.forms.specs.Held.{AskedHeld}
+use Rattle.forms.specs.Held.{DoneHeld}
 use Rattle.forms.specs.declared.DidLine.{DidLine}
 use Rattle.rules.specs.State.{State, Reply}
 use Rattle.rules.specs.Calls.{unless, redo_refusal, redo_refusal_when, delivered}

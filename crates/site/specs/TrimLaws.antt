@@ -19,8 +19,8 @@ use Rattle.forms.specs.BaseHeldLaws.{padded-length}
 use Rattle.forms.specs.Limits.{update_limit}
 use Rattle.forms.specs.declared.Asked.{Asked}
 use Rattle.forms.specs.declared.Done.{Done}
-use Rattle.forms.specs.declared.AskedHeld.{AskedHeld}
-use Rattle.forms.specs.declared.DoneHeld.{DoneHeld}
+use Rattle.forms.specs.Held.{AskedHeld}
+use Rattle.forms.specs.Held.{DoneHeld}
 use Rattle.forms.specs.declared.Refusal.{Refusal}
 use Rattle.forms.specs.declared.Refusal.TheVariants.{WrongCount, NoSuchHistory, HistoryTwice, OperandRange, OutOfTurn}
 use Rattle.rules.specs.Checks.{check, and_then, wrong_count, no_such_history, history_twice, form_refusal, updates_refusal}

@@ -1,5 +1,5 @@
 -- Withdraw against the specification.
-use Rattle.std.specs.Prelude.{ℕ, suc, ◌+◌, ◌≤◌, ◌<◌, ◌≡◌, Bool, true, false, ◌&&◌, length, take, drop}
+use Rattle.std.specs.Prelude.{ℕ, suc, ◌+◌, ◌≤◌, ◌<◌, ◌≡◌, Bool, true, false, ◌&&◌, length, take, drop, Some, None}
 use native.Mathlib.Omega.{arith}
 use Rattle.std.proofs.Math.Path.{refl, ap, subst}
 use Rattle.std.proofs.Common.{sym, ◌∙◌}
@@ -23,7 +23,6 @@ use Rattle.rule_laws.specs.PollLaws.{busy_withdrawn}
 use Rattle.rules.specs.State.{Operation, State, refused, ok, live_done, became_dry, with_pending}
 use Rattle.rules.specs.Calls.{Call, unless, writable, perform, step, without, withdraw_refusal, withdraw}
 use Rattle.rule_laws.specs.Good.{operation_ids, did_ids}
-use Rattle.table.specs.declared.Found.TheVariants.{At, Nothing}
 use Rattle.table.specs.Lists.{first_at}
 use Rattle.table.specs.declared.versions.Naming.TheVariants.{Dried}
 use Rattle.table.specs.Arrays.{singled}
@@ -52,7 +51,7 @@ unfolding withdraw withdraw_refusal check unless
 withdraw_refused_turn s bytes i le e = withdraw_performs i (state_of s bytes) le ∙ rw e refl
 
 pub withdraw_refused_state : (s : Representation) (bytes : List ℕ) (i : ℕ) → i ≤ top → s.restoring ≡ false →
-    first_at (is_entry i false) s.queue ≡ Nothing →
+    first_at (is_entry i false) s.queue ≡ None →
     step (Call.Withdraw i) (state_of s bytes) ≡ refused WrongState
 unfolding withdraw withdraw_refusal check unless
 withdraw_refused_state s bytes i le e nothing = withdraw_performs i (state_of s bytes) le ∙ rw (e, no_future i s.queue nothing) refl
@@ -62,14 +61,14 @@ abbrev pub withdrawn_from : ℕ → Representation → List ℕ → State
 withdrawn_from i s bytes = with_pending (without i (pending_in s.restoring s)) (state_of s bytes)
 
 withdraw_accepted : (s : Representation) (bytes : List ℕ) (i k : ℕ) → i ≤ top → s.restoring ≡ false →
-    first_at (is_entry i false) s.queue ≡ At k →
+    first_at (is_entry i false) s.queue ≡ Some k →
     step (Call.Withdraw i) (state_of s bytes) ≡ ok (withdrawn_from i s bytes)
     (Withdrawn (became_dry (state_of s bytes) (withdrawn_from i s bytes)))
 unfolding withdraw withdraw_refusal check unless
 withdraw_accepted s bytes i k le e found = withdraw_performs i (state_of s bytes) le ∙ rw (e, any-future i s.queue k found) refl
 
 -- An entry that was found is one of those looked at.
-pub found_below : (q : List Entry) (i : ℕ) (running : Bool) (k : ℕ) → first_at (is_entry i running) q ≡ At k → k < length q
+pub found_below : (q : List Entry) (i : ℕ) (running : Bool) (k : ℕ) → first_at (is_entry i running) q ≡ Some k → k < length q
 found_below q i running k found = (first_found (is_entry i running) past_entry q k found).lt
 
 and_first : (a b : Bool) → (a && b) ≡ true → a ≡ true
@@ -78,7 +77,7 @@ and_first false b e = e
 
 -- The operation that was found.
 module _ (s : Representation) (bytes : List ℕ) (i k : ℕ) (v : Sound s bytes) (e : s.restoring ≡ false)
-    (found : first_at (is_entry i false) s.queue ≡ At k) (entry : Entry) (read : entry ≡ get_or s.queue k past_entry) where
+    (found : first_at (is_entry i false) s.queue ≡ Some k) (entry : Entry) (read : entry ≡ get_or s.queue k past_entry) where
   abbrev operation : Operation
   operation = operation_of entry
 
@@ -120,7 +119,7 @@ module _ (s : Representation) (bytes : List ℕ) (i k : ℕ) (v : Sound s bytes)
         omega (arith, v.carries.busy h lt, lowered h)
 
 module _ (s : Representation) (bytes : List ℕ) (i k : ℕ) (v : Sound s bytes) (le : i ≤ top) (e : s.restoring ≡ false)
-    (found : first_at (is_entry i false) s.queue ≡ At k) (entry : Entry) (read : entry ≡ get_or s.queue k past_entry)
+    (found : first_at (is_entry i false) s.queue ≡ Some k) (entry : Entry) (read : entry ≡ get_or s.queue k past_entry)
     (left : List Entry) (before after : List ℕ) (a : Numbers) (ys : List ℕ)
     (removed : left ≡ take k s.queue ++ drop (k + 1) s.queue)
     (was : before ≡ s.busy)

@@ -2,7 +2,7 @@
 ghost use Rattle.rules.specs.Calls.{Call};
 ghost use Rattle.site.specs.Model.{received, Valid, Steps, lent};
 
-use super::{CallResult, Site, refusal};
+use super::{CallResult, Site};
 use forms::{Refusal, ReplyForm, ReplyLine, ReplyNumbers};
 use history::book::BookWords;
 use table::Table;
@@ -22,29 +22,23 @@ impl Site {
         ensures { Steps self (lent log.now rows.now order.now book.now lists.old) Call.End result
             (lent log.now rows.now order.now book.now lists.new) }
     {
-        let restoring = self.restoring;
-        if restoring {
-            let table = self.table;
-            let finished = table.finished;
-            let named = ids(order, rows, finished, finished + table.queue, lists, 0);
-            let mut site = self;
-            let left = Table { finished, queue: 0 };
-            site.table = left;
-            site.restoring = false;
-            site.reserved = 0;
-            CallResult {
-                site,
-                reply: ReplyLine {
-                    form: ReplyForm::Ended,
-                    first: named,
-                    second: 0,
-                },
-            }
-        } else {
-            CallResult {
-                site: self,
-                reply: refusal(Refusal::OutOfTurn),
-            }
+        if !self.restoring {
+            return self.refuse(Refusal::OutOfTurn);
+        }
+        let finished = self.table.finished;
+        let named = ids(order, rows, finished, finished + self.table.queue, lists, 0);
+        CallResult {
+            site: Site {
+                table: Table { finished, queue: 0 },
+                restoring: false,
+                reserved: 0,
+                ..self
+            },
+            reply: ReplyLine {
+                form: ReplyForm::Ended,
+                first: named,
+                second: 0,
+            },
         }
     }
 }

@@ -1,10 +1,10 @@
 // One site: its counters, and, in what is lent to it, its histories, its table of live operations and its log.
 #![tactic(auto)]
 
-ghost use Rattle.std.specs.Prelude.{◌≡◌, List, [], ℕ, max};
+ghost use Rattle.std.specs.Prelude.{◌≡◌, List, [], ℕ};
 ghost use Rattle.forms.specs.Forms.{Refused};
 ghost use Rattle.forms.specs.Held.{replied, outcome_with};
-ghost use Rattle.site.specs.Model.{Says};
+ghost use Rattle.site.specs.Model.{Says, Lent, RefusedAs};
 
 use forms::{LogNumber, Refusal, ReplyForm, ReplyLine};
 use table::Table;
@@ -25,7 +25,9 @@ pub mod stable;
 pub mod withdraw;
 
 // A site by value. What the caller lends to each call: a buffer whose first `used` bytes are its log, the rows of its table, the order of
-// its entries, the numbers of its histories, and an array for the lists of the reply, one behind the other.
+// its entries, the numbers of its histories, and an array for the lists of the reply, one behind the other. These are arguments of their
+// own, and that the site is valid with them (`Valid`) is asked of each call: C lends each array by itself, and which of them a call may
+// write is a promise of its signature, as `withdraw` takes the log as `&[u8]`.
 #[derive(Clone, Copy)]
 pub struct Site {
     // how many histories there are
@@ -65,11 +67,23 @@ impl Site {
     pub const LOG_BYTES: usize = forms::limits::LOG_BYTES;
     // "above 1,024 bytes without its end"
     pub const LINE_BYTES: usize = forms::limits::LINE_BYTES;
+
+    // "A refusal returns its number only; site, log .. and all other lent buffers do not change." Session and module have such a function
+    // too: each gives its own result, whose fields the contracts name, in as few lines.
+    fn refuse(self, q: Refusal) -> CallResult
+        ensures { (old : Lent) → RefusedAs self old q result old }
+    {
+        CallResult {
+            site: self,
+            reply: refusal(q),
+        }
+    }
 }
 
 // A reply without numbers behind those of its form.
 fn bare(form: ReplyForm) -> ReplyLine
-    ensures { (ns : List ℕ) → Says (replied result ns) (outcome_with form [] []) }
+    ensures line { result ≡ record { form = form; first = 0; second = 0 } }
+    ensures says { (ns : List ℕ) → Says (replied result ns) (outcome_with form [] []) }
 {
     ReplyLine {
         form,
@@ -83,11 +97,4 @@ pub fn refusal(q: Refusal) -> ReplyLine
     ensures { (ns : List ℕ) → Says (replied result ns) (Refused q) }
 {
     bare(ReplyForm::Refused(q))
-}
-
-// The greater of two numbers.
-fn greater(a: u64, b: u64) -> u64
-    ensures { result ≡ max a b }
-{
-    if a < b { b } else { a }
 }

@@ -4,7 +4,8 @@ ghost use Rattle.site.specs.Polls.{ValidWith, Polls};
 use super::Site;
 use history::book::{BUSY, BookWords, WIDTH};
 
-// What a poll says of a history.
+// What a poll says of a history. That there is none is a case of the answer and no Err: a poll meets this refusal alone, and a Result would
+// say that it may meet any.
 #[derive(Clone, Copy)]
 pub enum PollAnswer {
     Dry,
@@ -18,12 +19,10 @@ impl Site {
         requires { ValidWith self book.now }
         ensures { Polls self book.now h result }
     {
-        let n = self.count;
-        if n as u64 <= h {
+        if self.count as u64 <= h {
             return PollAnswer::NoSuchHistory;
         }
-        let i = h as usize;
-        if book[WIDTH * i + BUSY] == 0 {
+        if book[WIDTH * h as usize + BUSY] == 0 {
             PollAnswer::Dry
         } else {
             PollAnswer::Busy

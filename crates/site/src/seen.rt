@@ -1,12 +1,14 @@
 // What the checks of an add and of a redo read of a site, and those that both have.
-ghost use Rattle.std.specs.Prelude.{◌≡◌};
-ghost use Rattle.history.specs.declared.Verdict.TheVariants.{Refused};
+ghost use Rattle.std.specs.Prelude.{◌≡◌, ℕ, List};
 ghost use Rattle.history.specs.Asking.{verdict_of};
-ghost use Rattle.site.specs.CheckInputs.{conflict_refusal};
+ghost use Rattle.table.specs.Tables.{Owns};
+ghost use Rattle.site.specs.Model.{received, Valid};
+ghost use Rattle.site.specs.CheckInputs.{conflict_refusal, SeesAll};
 
+use super::Site;
 use forms::Refusal;
-use history::entries::blank_item;
-use history::{Entry, Verdict};
+use history::Verdict;
+use table::search::has_id;
 
 // What the checks of an operation or of a did line read of a site, beside its histories.
 #[derive(Clone, Copy)]
@@ -21,39 +23,27 @@ pub struct CheckInputs {
     pub full: bool,
 }
 
-// What the checks of an add say, and the entry of an operation that passes them.
-#[derive(Clone, Copy)]
-pub struct Admission {
-    pub verdict: Verdict,
-    pub entry: Entry,
-}
-
-// What the checks of a redo say, and of a did line that passes them its entry and its length, with its end.
-#[derive(Clone, Copy)]
-pub struct LineAdmission {
-    pub verdict: Verdict,
-    pub entry: Entry,
-    pub length: usize,
-}
-
-// What is refused has no entry.
-pub fn refused(q: Refusal) -> Admission
-    ensures { result.verdict ≡ Refused q }
-{
-    let x = blank_item();
-    let entry = Entry {
-        id: 0,
-        running: false,
-        count: 0,
-        items: [x, x, x, x],
-    };
-    Admission {
-        verdict: Verdict::Refused(q),
-        entry,
+impl Site {
+    // What the checks read of a site, for the operation or the did line with this id.
+    pub(crate) fn inputs(self, order: &[u8], rows: &[u64], id: u64) -> CheckInputs
+        requires { Owns self.table order.now rows.now }
+        ensures count { result.count ≡ self.count }
+        ensures seen { (log book : List ℕ) → Valid self (received log rows.now order.now book) →
+            SeesAll result self (received log rows.now order.now book) id }
+    {
+        let finished = self.table.finished;
+        let live = finished + self.table.queue;
+        CheckInputs {
+            restoring: self.restoring,
+            count: self.count,
+            pending: has_id(order, rows, finished, live, id),
+            done: has_id(order, rows, 0, finished, id),
+            full: order.len() <= live,
+        }
     }
 }
 
-// The checks 7 to 9, 17, 10 and 12, by what each has found.
+// The checks 7 to 9, 17, 10 and 12, by what each has found: several may have found something, so that they are no kinds of one thing.
 pub fn conflict(
     pending: bool,
     done: bool,
@@ -65,22 +55,22 @@ pub fn conflict(
     ensures { result ≡ verdict_of (conflict_refusal pending done overtaken highest full short) }
 {
     if pending {
-        return Verdict::Refused(Refusal::IdPending);
+        return Err(Refusal::IdPending);
     }
     if done {
-        return Verdict::Refused(Refusal::AlreadyDone);
+        return Err(Refusal::AlreadyDone);
     }
     if overtaken {
-        return Verdict::Refused(Refusal::ReadOvertaken);
+        return Err(Refusal::ReadOvertaken);
     }
     if highest {
-        return Verdict::Refused(Refusal::HighestVersion);
+        return Err(Refusal::HighestVersion);
     }
     if full {
-        return Verdict::Refused(Refusal::TableFull);
+        return Err(Refusal::TableFull);
     }
     if short {
-        return Verdict::Refused(Refusal::NoRoom);
+        return Err(Refusal::NoRoom);
     }
-    Verdict::Passes
+    Ok(())
 }

@@ -3,8 +3,8 @@ ghost use Rattle.std.specs.Prelude.{ℕ, List};
 ghost use Rattle.rules.specs.Calls.{Call};
 ghost use Rattle.site.specs.Model.{received, Valid, Steps, lent};
 
-use super::{CallResult, Site, refusal};
-use forms::{Refusal, ReplyForm, ReplyLine, Shown, Version};
+use super::{CallResult, Site, bare};
+use forms::{Refusal, ReplyForm, Shown, Version};
 use history::book::{BookWords, PERSISTED, STABILISED, WIDTH, history_at};
 
 impl Site {
@@ -21,32 +21,21 @@ impl Site {
         ensures { (ns : List ℕ) →
             Steps self (lent log.now rows.now order.now book.now ns) (Call.Show h) result (lent log.now rows.now order.now book.now ns) }
     {
-        let n = self.count;
-        if n as u64 <= h {
-            return CallResult {
-                site: self,
-                reply: refusal(Refusal::NoSuchHistory),
-            };
+        if self.count as u64 <= h {
+            return self.refuse(Refusal::NoSuchHistory);
         }
         let i = h as usize;
-        let c = history_at(book, i);
-        let version = c.version;
-        let place = c.place;
-        let shown = Shown {
-            history: h,
-            version,
-            persistent: Version(book[WIDTH * i + PERSISTED]),
-            stable: Version(book[WIDTH * i + STABILISED]),
-            place,
-            profile: c.profile,
-        };
+        let now = history_at(book, i);
         CallResult {
             site: self,
-            reply: ReplyLine {
-                form: ReplyForm::Shows(shown),
-                first: 0,
-                second: 0,
-            },
+            reply: bare(ReplyForm::Shows(Shown {
+                history: h,
+                version: now.version,
+                persistent: Version(book[WIDTH * i + PERSISTED]),
+                stable: Version(book[WIDTH * i + STABILISED]),
+                place: now.place,
+                profile: now.profile,
+            })),
         }
     }
 }

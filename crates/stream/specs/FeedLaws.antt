@@ -1,7 +1,7 @@
 -- A chunk, line after line.
 use Prim.Native.Nat.{ℕ, ◌+◌, ◌-◌, ◌≤◌, ◌<◌}
 use Rattle.std.proofs.Common.{arith, sym, ap, ap₂, ◌∙◌, take-append-drop, length-drop, take_all}
-use Rattle.std.specs.Prelude.{◌≡◌, refl, length, take, drop}
+use Rattle.std.specs.Prelude.{◌≡◌, refl, length, take, drop, Option as Held}
 use Rattle.std.proofs.Math.Path.{subst}
 use mathlib.Core.List.{List, [], ◌∷◌, ◌++◌, append-nil}
 use Rattle.std.proofs.Math.Seq.{take-length}
@@ -85,7 +85,7 @@ module _ (s : Stream) (old : Lent) (chunk : List ℕ) (r : FeedResult) (new : Le
       }
 
   -- No line ends any more: the rest is kept.
-  pub along_rest : (b : PartialLine) → NoEnd (drop r.used chunk) →
+  pub along_rest : (b : Held PartialLine) → NoEnd (drop r.used chunk) →
       ((line : List ℕ) → Begins r.stream.begun line → Begins b (line ++ take (length chunk - r.used) (drop r.used chunk))) →
       Along s old chunk
       (record { stream = record { session = r.stream.session; begun = b }; used = length chunk; written = r.written }) new out page
@@ -146,7 +146,7 @@ module _ (s : Stream) (old : Lent) (chunk : List ℕ) (r : FeedResult) (new : Le
     pub line_printable : Printable (replied t.reply after.lists)
     line_printable = let l = some-line r.stream.begun a.valid.begun in (turns l.line l.begins).answer.printable
 
-    pub along_line : (b : PartialLine) (n : ℕ) (next : List ℕ) → length after.log ≡ length new.log → length next ≡ length page →
+    pub along_line : (b : Held PartialLine) (n : ℕ) (next : List ℕ) → length after.log ≡ length new.log → length next ≡ length page →
         Begins b [] →
         Wrote page r.written (ended (outcome_text (outcome_of (replied t.reply after.lists)))) n next →
         Along s old chunk (record { stream = record { session = t.session; begun = b }; used = e + 1; written = n }) after out next

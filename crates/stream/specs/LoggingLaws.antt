@@ -1,5 +1,5 @@
 -- What a turn leaves in the log buffer.
-use Rattle.std.specs.Prelude.{ℕ, ◌≡◌, refl, Bool, true, false, List, [], ◌∷◌, ◌++◌, length, drop}
+use Rattle.std.specs.Prelude.{ℕ, ◌≡◌, refl, List, [], ◌∷◌, ◌++◌, length, drop, Option as Held, Some, None}
 use Rattle.std.proofs.Common.{sym, ap, ap₂, ◌∙◌, take-append-drop, length-take-le}
 use Rattle.std.proofs.Math.Option.{Option}
 use Rattle.forms.specs.Forms.{Outcome, Refused, Accepted}
@@ -10,7 +10,7 @@ use Rattle.site.specs.Representation.{Sound}
 use Rattle.site.specs.Model.{Lent, view, Valid}
 use Rattle.session.specs.declared.Session.{Session}
 use Rattle.session.specs.declared.LineResult.{LineResult}
-use Rattle.session.specs.Model.{view_if, session_view, ValidSession, used_if, Keeps, Turns}
+use Rattle.session.specs.Model.{view_of, session_view, ValidOpened, ValidSession, used_of, Keeps, Turns}
 use Rattle.stream.specs.Logging.{overlaid, logged}
 
 -- A valid site's log stands at the front, and behind it are the bytes of a buffer that is the same from there on.
@@ -24,12 +24,12 @@ over-site s m other v e =
     size : s.used ≡ length (log_bytes (view s m))
     size = sym (length-take-le s.used m.log v.sound.carries.within) ∙ ap length v.sound.carries.text
 
-over-view : (o : Bool) (s : Site) (m : Lent) (other : List ℕ) → (o ≡ true → Valid s m) →
-    drop (used_if o s) m.log ≡ drop (used_if o s) other →
-    m.log ≡ overlaid (view_if o s m) other
+over-view : (o : Held Site) (m : Lent) (other : List ℕ) → ValidOpened o m.log m.rows m.order m.book →
+    drop (used_of o) m.log ≡ drop (used_of o) other →
+    m.log ≡ overlaid (view_of o m) other
 unfolding overlaid
-over-view true s m other v e = over-site s m other (v refl) e
-over-view false s m other v e = e
+over-view (Some s) m other v e = over-site s m other (v.site s refl) e
+over-view None m other v e = e
 
 -- The buffer after a turn.
 pub turn_logs : (s : Session) (old : Lent) (t : Turn) (r : LineResult) (new : Lent) → ValidSession s old → Turns s old t r new →
@@ -38,9 +38,8 @@ turn_logs s old t r new v h = by_reply t.reply h.keeps ∙ ap (λ (x : Option St
   where
     by_reply : (o : Outcome) → Keeps o s old r new → new.log ≡ overlaid (session_view r.session new) old.log
     by_reply (Refused q) k =
-        over-view r.session.opened r.session.site new old.log h.valid.site
-        (ap (λ (l : Lent). drop (used_if r.session.opened r.session.site) l.log) k.kept)
-    by_reply (Accepted a) k = over-view r.session.opened r.session.site new old.log h.valid.site k.past
+        over-view r.session.site new old.log h.valid (ap (λ (l : Lent). drop (used_of r.session.site) l.log) k.kept)
+    by_reply (Accepted a) k = over-view r.session.site new old.log h.valid k.past
 
 -- Lines in two parts.
 pub logged-append : (room : ℕ) (a b : List (List ℕ)) (s : Option State) (bytes : List ℕ) →

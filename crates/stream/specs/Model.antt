@@ -1,12 +1,11 @@
 -- A stream as the specification's progress, and what feeding it a chunk promises.
-use Rattle.std.specs.Prelude.{ℕ, ◌+◌, ◌≤◌, ◌<◌, ◌≡◌, Bool, true, false, List, [], ◌++◌, length, take, drop}
+use Rattle.std.specs.Prelude.{ℕ, ◌+◌, ◌≤◌, ◌<◌, ◌≡◌, Bool, true, false, List, [], ◌++◌, length, take, drop, Option as Held}
 use Rattle.std.proofs.Math.Option.{none}
 use Rattle.forms.specs.Limits.{reply_limit}
 use Rattle.rules.specs.Log.{lines_from, lines_of}
 use Rattle.rules.specs.Session.{after_lines, session_in}
-use Rattle.table.specs.declared.Table.{Table}
-use Rattle.site.specs.Representation.{Representation}
-use Rattle.site.specs.Model.{Lent, represented}
+use Rattle.site.specs.declared.Site.{Site}
+use Rattle.site.specs.Model.{Lent}
 use Rattle.session.specs.declared.PartialLine.{PartialLine}
 use Rattle.session.specs.Model.{session_view, ValidOpened, ValidSession}
 use Rattle.session.specs.Feeding.{Progress, at_start, fed, UsablePartial, Begins}
@@ -19,13 +18,12 @@ use Rattle.stream.specs.declared.SessionRun.{SessionRun}
 -- ### The stream
 
 -- The invariant of a stream and what is lent to it.
-pub record ValidParts (opened : Bool) (w : Representation) (t : Table) (log order rows : List ℕ) (b : PartialLine) : Type 0 where
-  pub session : ValidOpened opened w t log order rows
-  pub begun : UsablePartial b
+pub record ValidParts (site : Held Site) (log rows order book : List ℕ) (partial : Held PartialLine) : Type 0 where
+  pub session : ValidOpened site log rows order book
+  pub begun : UsablePartial partial
 
 abbrev pub ValidStream : Stream → Lent → Type 0
-ValidStream s m =
-    ValidParts s.session.opened (represented s.session.site m) s.session.site.table m.log m.order m.rows s.begun
+ValidStream s m = ValidParts s.session.site m.log m.rows m.order m.book s.begun
 
 -- The specification's progress that a stream is, whose unended line is `line`, with nothing replied yet.
 abbrev pub standing : Stream → List ℕ → Lent → Progress

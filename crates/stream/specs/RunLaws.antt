@@ -1,5 +1,5 @@
 -- The reply to an unended rest, and a whole input.
-use Rattle.std.specs.Prelude.{ℕ, ◌+◌, ◌≤◌, ◌<◌, ◌≡◌, refl, Bool, true, false, leb, length, take, drop}
+use Rattle.std.specs.Prelude.{ℕ, ◌+◌, ◌≤◌, ◌<◌, ◌≡◌, ◌≢◌, refl, Bool, true, false, leb, length, take, drop, Option as Held, Some, None, unwrap_or}
 use Rattle.std.proofs.Common.{arith, add-zero, ◌∙◌, length-append, take-append-drop, take_all, length-take-le, leb-true, leb-false}
 use Rattle.std.proofs.Math.Path.{sym, ap, subst}
 use mathlib.Core.List.{List, [], ◌∷◌, ◌++◌}
@@ -14,41 +14,39 @@ use Rattle.site.specs.Model.{Lent}
 use Rattle.session.specs.declared.PartialLine.{PartialLine}
 use Rattle.session.specs.declared.Session.{Session}
 use Rattle.session.specs.Model.{session_view, Starts}
-use Rattle.session.specs.Feeding.{Progress, at_start, fed, UsablePartial, Begins}
+use Rattle.session.specs.Feeding.{Progress, at_start, fed, HoldsLine, Begins, UsablePartial}
 use Rattle.forms.specs.Write.{Wrote, Writes, WritesIf, with_end}
 use Rattle.forms.specs.WriteLaws.{placed_none, writes_there, writes_not}
-use Rattle.forms.specs.declared.writer.Written.{Written}
-use Rattle.forms.specs.declared.writer.Written.TheVariants.{At, NoRoom}
 use Rattle.stream.specs.declared.Stream.{Stream}
 use Rattle.stream.specs.declared.FeedResult.{FeedResult}
 use Rattle.stream.specs.Model.{StartsStream, Fronts, Progressed, Feeds, Runs}
 use Rattle.stream.specs.Logging.{logged}
-use Rattle.stream.specs.LineLaws.{some-line, usable, over_is, held_is}
+use Rattle.stream.specs.LineLaws.{some-line, usable, none_held}
 use Rattle.stream.specs.ProgressLaws.{replied_grows, session_is, fronts_more, fronts_as}
 
 -- ### Where it was written, and where there was no room
 
-no_room : {C : Type 0} (n : ℕ) → At n ≡ NoRoom → C
+no_room : {C : Type 0} (n : ℕ) → Some n ≡ None → C
 no_room n e = let y : ◌≡◌ {A = ℕ} 0 1 = cc in absurd (omega arith)
 
-pub wrote_at : (l : List ℕ) (at : ℕ) (bs : List ℕ) (r : Written) (m : List ℕ) (next : ℕ) → Writes l at bs r m → r ≡ At next →
+pub wrote_at : (l : List ℕ) (at : ℕ) (bs : List ℕ) (r : Held ℕ) (m : List ℕ) (next : ℕ) → Writes l at bs r m → r ≡ Some next →
     Wrote l at bs next m
 unfolding Writes
 wrote_at l at bs r m next w e = by_test (leb (at + length bs) (length l)) w
   where
     by_test : (b : Bool) → WritesIf b l at bs r m → Wrote l at bs next m
-    by_test true x = let z : At next ≡ At (at + length bs) = sym e ∙ x.answer in record { behind = cc; bytes = x.bytes }
+    by_test true x = let z : Some next ≡ Some (at + length bs) = sym e ∙ x.answer in record { behind = cc; bytes = x.bytes }
     by_test false x = no_room next (sym e ∙ x.answer)
 
 -- what was written lies within the buffer
-pub wrote_within : (l : List ℕ) (at : ℕ) (bs : List ℕ) (r : Written) (m : List ℕ) (next : ℕ) → Writes l at bs r m → r ≡ At next →
+pub wrote_within : (l : List ℕ) (at : ℕ) (bs : List ℕ) (r : Held ℕ) (m : List ℕ) (next : ℕ) → Writes l at bs r m → r ≡ Some next →
     next ≤ length l
 unfolding Writes
 wrote_within l at bs r m next w e = by_test (leb (at + length bs) (length l)) refl w
   where
     by_test : (b : Bool) → leb (at + length bs) (length l) ≡ b → WritesIf b l at bs r m → next ≤ length l
     by_test true t x =
-        let z : At next ≡ At (at + length bs) = sym e ∙ x.answer in
+        let z : Some next ≡ Some (at + length bs) = sym e ∙ x.answer in
         let k : next ≡ at + length bs = cc in
         let h = leb-true (at + length bs) (length l) t in
         omega (arith, k, h)
@@ -59,13 +57,19 @@ pub record Lacks (l : List ℕ) (at : ℕ) (bs m : List ℕ) : Type 0 where
   pub short : length l < at + length bs
   pub bytes : m ≡ l
 
-pub wrote_not : (l : List ℕ) (at : ℕ) (bs : List ℕ) (r : Written) (m : List ℕ) → Writes l at bs r m → r ≡ NoRoom → Lacks l at bs m
+pub wrote_not : (l : List ℕ) (at : ℕ) (bs : List ℕ) (r : Held ℕ) (m : List ℕ) → Writes l at bs r m → r ≡ None → Lacks l at bs m
 unfolding Writes
 wrote_not l at bs r m w e = by_test (leb (at + length bs) (length l)) refl w
   where
     by_test : (b : Bool) → leb (at + length bs) (length l) ≡ b → WritesIf b l at bs r m → Lacks l at bs m
     by_test true t x = no_room (at + length bs) (sym x.answer ∙ e)
     by_test false t x = record { short = leb-false (at + length bs) (length l) t; bytes = x.bytes }
+
+-- There is room: it was written, whatever stands for a want of room.
+pub wrote_anyway : (l : List ℕ) (at : ℕ) (bs : List ℕ) (r : Held ℕ) (m : List ℕ) (d : ℕ) → Writes l at bs r m → at + length bs ≤ length l →
+    Wrote l at bs (unwrap_or r d) m
+wrote_anyway l at bs (Some next) m d w h = wrote_at l at bs (Some next) m next w refl
+wrote_anyway l at bs None m d w h = let s = (wrote_not l at bs None m w refl).short in absurd (omega (arith, s, h))
 
 -- ### The unended rest
 
@@ -78,47 +82,41 @@ refuses-some (b ∷ bs) h = refl
 abbrev refuses_rest : List ℕ
 refuses_rest = with_end (outcome_text (outcome_with (ReplyForm.Refused Unreadable) [] []))
 
-rest-written : (out : List ℕ) (at : ℕ) (line : List ℕ) (r : Written) (page : List ℕ) → 0 < length line → Writes out at refuses_rest r page →
+rest-written : (out : List ℕ) (at : ℕ) (line : List ℕ) (r : Held ℕ) (page : List ℕ) → 0 < length line → Writes out at refuses_rest r page →
     Writes out at (rest_reply line) r page
 unfolding ended outcome_with
 rest-written out at line r page h w = subst (λ (l : List ℕ). Writes out at l r page) (sym (refuses-some line h)) w
 
-module _ (b : PartialLine) (line : List ℕ) (h : Begins b line) (out : List ℕ) (at : ℕ) where
-  -- "Unended rest of input: 1."
-  pub rest_over : (r : Written) (page : List ℕ) → b.over ≡ true → Writes out at refuses_rest r page → Writes out at (rest_reply line) r page
-  rest_over r page e w = rest-written out at line r page (let k = over_is b line h e in omega (arith, k)) w
-
-  pub rest-held : (r : Written) (page : List ℕ) → b.over ≡ false → 0 < b.len → Writes out at refuses_rest r page →
-      Writes out at (rest_reply line) r page
-  rest-held r page e lt w =
-      let m : length line ≡ b.len = sym (ap length (held_is b line h e))
-      ∙ length-take-le b.len b.bytes (omega (arith, h.few, h.long)) in
-      rest-written out at line r page (omega (arith, m)) w
-
-  -- no rest
-  nothing : b.over ≡ false → b.len ≤ 0 → line ≡ []
-  nothing e z = let k : b.len ≡ 0 = omega arith in sym (held_is b line h e) ∙ ap (λ (n : ℕ). take n b.bytes) k
-
-  pub rest_none : b.over ≡ false → b.len ≤ 0 → at ≤ length out → Writes out at (rest_reply line) (At at) out
+-- A line that is held and has no byte is no rest.
+module _ (b : PartialLine) (line : List ℕ) (h : HoldsLine b line) (z : b.len ≡ 0) (out : List ℕ) (at : ℕ) where
+  pub rest_none : at ≤ length out → Writes out at (rest_reply line) (Some at) out
   unfolding rest_reply
-  rest_none e z le =
-      subst (λ (l : List ℕ). Writes out at (rest_reply l) (At at) out) (sym (nothing e z))
+  rest_none le =
+      subst (λ (l : List ℕ). Writes out at (rest_reply l) (Some at) out) (sym (none_held b line h z))
       (writes_there (omega arith) (record { behind = sym (add-zero at); bytes = sym (placed_none out at) }))
 
-  pub rest_far : b.over ≡ false → b.len ≤ 0 → length out < at → Writes out at (rest_reply line) NoRoom out
+  pub rest_far : length out < at → Writes out at (rest_reply line) None out
   unfolding rest_reply
-  rest_far e z lt =
-      subst (λ (l : List ℕ). Writes out at (rest_reply l) NoRoom out) (sym (nothing e z)) (writes_not out at [] (omega arith))
+  rest_far lt = subst (λ (l : List ℕ). Writes out at (rest_reply l) None out) (sym (none_held b line h z)) (writes_not out at [] (omega arith))
+
+-- "Unended rest of input: 1.", whether it is held or above the limit.
+pub rest-held : (begun : Held PartialLine) (line : List ℕ) → Begins begun line → ((b : PartialLine) → begun ≡ Some b → b.len ≢ 0) →
+    (out : List ℕ) (at : ℕ) (r : Held ℕ) (page : List ℕ) → Writes out at refuses_rest r page → Writes out at (rest_reply line) r page
+rest-held (Some b) line h some out at r page w =
+    let m : length line ≡ b.len = sym (ap length h.is) ∙ length-take-le b.len b.bytes (omega (arith, h.few, h.long)) in
+    let k = some b refl in
+    rest-written out at line r page (omega (arith, m, k)) w
+rest-held None line h some out at r page w = rest-written out at line r page (omega (arith, h)) w
 
 -- The reply to the rest lies within the buffer.
-pub rest-within : (b : PartialLine) (out : List ℕ) (at : ℕ) (r : Written) (page : List ℕ) (n : ℕ) → UsablePartial b →
-    ((line : List ℕ) → Begins b line → Writes out at (rest_reply line) r page) → r ≡ At n → n ≤ length out
+pub rest-within : (b : Held PartialLine) (out : List ℕ) (at : ℕ) (r : Held ℕ) (page : List ℕ) (n : ℕ) → UsablePartial b →
+    ((line : List ℕ) → Begins b line → Writes out at (rest_reply line) r page) → r ≡ Some n → n ≤ length out
 rest-within b out at r page n u w e = let l = some-line b u in
     wrote_within out at (rest_reply l.line) r page n (w l.line l.begins) e
 
 -- ### The start
 
-pub starts_stream : (x : Session) (b : PartialLine) (bytes : Lent) → Starts x bytes → Begins b [] →
+pub starts_stream : (x : Session) (b : Held PartialLine) (bytes : Lent) → Starts x bytes → Begins b [] →
     StartsStream (record { session = x; begun = b }) bytes
 unfolding at_start
 starts_stream x b bytes s h =
@@ -175,7 +173,7 @@ module _ (input : List ℕ) (old : Lent) (s : Stream) (f : FeedResult) (new : Le
         replies = record { within = feeds.within; short = omega (arith, k, g, h); replies = comes.replies };
       }
 
-  module _ (all : length input ≤ f.used) (r : Written) (last : List ℕ)
+  module _ (all : length input ≤ f.used) (r : Held ℕ) (last : List ℕ)
       (rest : (line : List ℕ) → Begins f.stream.begun line → Writes page f.written (rest_reply line) r last) where
     is_all : take f.used input ≡ input
     is_all = take_all f.used input all
@@ -187,7 +185,7 @@ module _ (input : List ℕ) (old : Lent) (s : Stream) (f : FeedResult) (new : Le
         (sym is_all)
 
     -- The rest has its reply too.
-    pub run-whole : (n : ℕ) → r ≡ At n → Runs input old.log (record { whole = true; used = f.used; written = n }) new.log out last
+    pub run-whole : (n : ℕ) → r ≡ Some n → Runs input old.log (record { whole = true; used = f.used; written = n }) new.log out last
     run-whole n e =
         record {
           room = feeds.room;
@@ -202,7 +200,7 @@ module _ (input : List ℕ) (old : Lent) (s : Stream) (f : FeedResult) (new : Le
         }
 
     -- There is no room for the reply to the rest.
-    pub run_short : r ≡ NoRoom → length page ≡ length out →
+    pub run_short : r ≡ None → length page ≡ length out →
         Runs input old.log (record { whole = false; used = f.used; written = f.written }) new.log out last
     run_short e long =
         let x = wrote_not page f.written (rest_reply done.begun) r last (rest done.begun comes.begun) e in

@@ -6,9 +6,8 @@ use mathlib.Core.List.Memᴰ
 use mathlib.Core.List.{Memᴰ as Mem}
 use Rattle.forms.specs.Forms.{Base, Update, Change, Did}
 use Rattle.forms.specs.Limits.{history_limit}
-use Rattle.rules.specs.Rules.{may_run, timing, is_never}
+use Rattle.rules.specs.Rules.{may_run}
 use Rattle.rules.specs.Book.{Cell, runs_at, can_run, can_run_with}
-use Rattle.history.specs.Cells.{never_in}
 use Rattle.history.specs.declared.History.{History}
 use Rattle.history.specs.declared.Item.{Item}
 use Rattle.history.specs.declared.Entry.{Entry}
@@ -17,8 +16,7 @@ use Rattle.history.specs.Entries.{may_run_in, UsableEntry}
 use Rattle.history.specs.AtLog.{HoldsBook}
 use Rattle.history.specs.Tests.{all_agree}
 use Rattle.table.specs.Tables.{can_run_entry}
-use Rattle.table.specs.declared.Marks.{Marks}
-use Rattle.table.specs.Tries.{entry_updates, free_by}
+use Rattle.table.specs.Tries.{entry_updates}
 
 -- what is made of the items of a usable entry keeps their histories
 item_low : {B : Type 0} (f : Item → B) (history : B → ℕ) → ((x : Item) → history (f x) ≡ x.history) → (e : Entry) → UsableEntry e
@@ -63,15 +61,3 @@ module _ (hs : List History) (y : Item) {h : History} {b : Bool} where
       (g
       ∙ ap (λ (k : History). may_run x.rule k.version.0 x.version.0) f
       ∙ ap (λ (z : Item). may_run z.rule (cells_of hs z.history).version z.version.0) e)
-
-  pub never_read : {x : Item} → x ≡ y → h ≡ get_or hs x.history no_history → b ≡ is_never (timing x.rule h.version.0 x.version.0)
-      → never_in (cells_of hs) (item_update y) ≡ b
-  unfolding never_in
-  never_read {x} e f g =
-      sym
-      (g
-      ∙ ap (λ (k : History). is_never (timing x.rule k.version.0 x.version.0)) f
-      ∙ ap (λ (z : Item). is_never (timing z.rule (cells_of hs z.history).version z.version.0)) e)
-
-pub free_read : (m : Marks) (x y : Item) (b : Bool) → x ≡ y → b ≡ free_by m (item_update x) → free_by m (item_update y) ≡ b
-free_read m x y b e g = sym (g ∙ ap (λ (z : Item). free_by m (item_update z)) e)

@@ -2,7 +2,7 @@
 use Prim.Native.Nat.{ℕ, suc, ◌+◌, ◌<◌}
 use Rattle.std.proofs.Common.{arith, sym, ap, ◌∙◌, ne_eqb, eqb-true, length-take-le}
 use Rattle.std.proofs.Math.Path.{◌≡◌, refl, ap₂, subst}
-use Rattle.std.specs.Prelude.{Bool, not, ◌&&◌, eqb, T, length, get_or, take, drop}
+use Rattle.std.specs.Prelude.{Bool, not, ◌&&◌, eqb, T, length, get_or, take, drop, Option, Some, None, option_map}
 use Rattle.std.proofs.Math.Bool.{true, false, cond, ◌||◌, or-true}
 use mathlib.Core.List.{List, [], ◌∷◌, ◌++◌, map, map-append}
 use mathlib.Core.List.Memᴰ
@@ -24,9 +24,7 @@ use Rattle.history.specs.declared.Entry.{Entry}
 use Rattle.history.specs.Entries.{cells_of, operation_of, did_of_entry}
 use Rattle.history.specs.AtLog.{HoldsBook}
 use Rattle.history.specs.Tests.{any-map, any_agree, map-map}
-use Rattle.table.specs.declared.Found.{Found}
-use Rattle.table.specs.declared.Found.TheVariants.{At, Nothing}
-use Rattle.table.specs.Lists.{one_later, first_at}
+use Rattle.table.specs.Lists.{first_at}
 use Rattle.table.specs.Tables.{has_id, is_entry, id_of, can_run_entry}
 use Rattle.table.specs.Tries.{operations_of}
 use Rattle.table.specs.RangeLaws.{past_entry}
@@ -41,27 +39,27 @@ module _ {A : Type 0} (p : A → Bool) (d : A) where
     pub hit : p (get_or l k d) ≡ true
     pub miss : any p (take k l) ≡ false
 
-  pub first_found : (l : List A) (k : ℕ) → first_at p l ≡ At k → First l k
+  pub first_found : (l : List A) (k : ℕ) → first_at p l ≡ Some k → First l k
   unfolding first_at
   first_found [] k e = absurd (let z : ◌≡◌ {A = ℕ} 0 1 = cc in omega arith)
   first_found (x ∷ l) k e = go (p x) refl (first_at p l) (λ j q. first_found l j q) e
     where
-      go : (b : Bool) → p x ≡ b → (r : Found) → ((j : ℕ) → r ≡ At j → First l j) → cond b (At 0) (one_later r) ≡ At k → First (x ∷ l) k
+      go : (b : Bool) → p x ≡ b → (r : Option ℕ) → ((j : ℕ) → r ≡ Some j → First l j) → cond b (Some 0) (option_map suc r) ≡ Some k → First (x ∷ l) k
       go true h r f q = let z : 0 ≡ k = cc in subst (First (x ∷ l)) z (record { lt = omega arith; hit = h; miss = refl })
-      go false h (At j) f q =
+      go false h (Some j) f q =
           let z : suc j ≡ k = cc in
           subst (First (x ∷ l)) z (record { lt = omega (arith, (f j refl).lt); hit = (f j refl).hit; miss = ap₂ ◌||◌ h (f j refl).miss })
-      go false h Nothing f q = absurd (let z : ◌≡◌ {A = ℕ} 0 1 = cc in omega arith)
+      go false h None f q = absurd (let z : ◌≡◌ {A = ℕ} 0 1 = cc in omega arith)
 
-  pub first_missed : (l : List A) → first_at p l ≡ Nothing → any p l ≡ false
+  pub first_missed : (l : List A) → first_at p l ≡ None → any p l ≡ false
   unfolding first_at
   first_missed [] e = refl
   first_missed (x ∷ l) e = go (p x) (first_at p l) (λ q. first_missed l q) e
     where
-      go : (b : Bool) (r : Found) → (r ≡ Nothing → any p l ≡ false) → cond b (At 0) (one_later r) ≡ Nothing → (b || any p l) ≡ false
+      go : (b : Bool) (r : Option ℕ) → (r ≡ None → any p l ≡ false) → cond b (Some 0) (option_map suc r) ≡ None → (b || any p l) ≡ false
       go true r f q = absurd (let z : ◌≡◌ {A = ℕ} 0 1 = cc in omega arith)
-      go false (At j) f q = absurd (let z : ◌≡◌ {A = ℕ} 0 1 = cc in omega arith)
-      go false Nothing f q = f refl
+      go false (Some j) f q = absurd (let z : ◌≡◌ {A = ℕ} 0 1 = cc in omega arith)
+      go false None f q = f refl
 
 module _ {A B : Type 0} (f : A → B) (l : List A) (d : A) (k : ℕ) (lt : k < length l) where
   map_split : map f l ≡ map f (take k l) ++ f (get_or l k d) ∷ map f (drop (suc k) l)
@@ -106,7 +104,7 @@ ids_operations l = sym (map-map operation_of (λ (x : Operation). x.id) l)
 
 -- ### Finish and withdraw
 
-pub find-in_progress : (i : ℕ) (l : List Entry) (k : ℕ) → first_at (is_entry i true) l ≡ At k
+pub find-in_progress : (i : ℕ) (l : List Entry) (k : ℕ) → first_at (is_entry i true) l ≡ Some k
     → find (in_progress i) (operations_of l) ≡ some (operation_of (get_or l k past_entry))
 unfolding is_entry in_progress operation_of
 find-in_progress i l k e =
@@ -115,12 +113,12 @@ find-in_progress i l k e =
     ∙ find_mid (in_progress i) (operations_of (take k l)) (operation_of (get_or l k past_entry)) (operations_of (drop (suc k) l))
     (any-map operation_of (in_progress i) (take k l) ∙ f.miss) f.hit
 
-pub find-not-in_progress : (i : ℕ) (l : List Entry) → first_at (is_entry i true) l ≡ Nothing → find (in_progress i) (operations_of l) ≡ none
+pub find-not-in_progress : (i : ℕ) (l : List Entry) → first_at (is_entry i true) l ≡ None → find (in_progress i) (operations_of l) ≡ none
 unfolding is_entry in_progress operation_of
 find-not-in_progress i l e =
     find_none (in_progress i) (operations_of l) (any-map operation_of (in_progress i) l ∙ first_missed (is_entry i true) past_entry l e)
 
-pub any-future : (i : ℕ) (l : List Entry) (k : ℕ) → first_at (is_entry i false) l ≡ At k → any (future i) (operations_of l) ≡ true
+pub any-future : (i : ℕ) (l : List Entry) (k : ℕ) → first_at (is_entry i false) l ≡ Some k → any (future i) (operations_of l) ≡ true
 unfolding is_entry future operation_of
 any-future i l k e =
     let f = first_found (is_entry i false) past_entry l k e in
@@ -131,13 +129,13 @@ any-future i l k e =
     any_mid [] x b h = ap (λ (t : Bool). t || any (future i) b) h
     any_mid (y ∷ a) x b h = ap (λ (t : Bool). future i y || t) (any_mid a x b h) ∙ or-true (future i y)
 
-pub no_future : (i : ℕ) (l : List Entry) → first_at (is_entry i false) l ≡ Nothing → any (future i) (operations_of l) ≡ false
+pub no_future : (i : ℕ) (l : List Entry) → first_at (is_entry i false) l ≡ None → any (future i) (operations_of l) ≡ false
 unfolding is_entry future operation_of
 no_future i l e = any-map operation_of (future i) l ∙ first_missed (is_entry i false) past_entry l e
 
 -- Ids being distinct, the operations without that id are those left when the entry found is removed.
 pub without_is : (i : ℕ) (running : Bool) (l : List Entry) (k : ℕ) → Nodup (operation_ids (operations_of l))
-    → first_at (is_entry i running) l ≡ At k
+    → first_at (is_entry i running) l ≡ Some k
     → without i (operations_of l) ≡ operations_of (take k l ++ drop (k + 1) l)
 unfolding is_entry without operation_of
 without_is i running l k once e =
@@ -219,7 +217,7 @@ module _ (σ : Base) (n : ℕ) (log : List Did) (hs : List History) (l : List En
       (λ e m. can_run_is σ n log hs e same (low e (into e m))))
 
   -- The first line that can run is the one that the specification picks, and the queue without it holds the others.
-  pub pick_is : (k : ℕ) → first_at (can_run_entry (cells_of hs)) l ≡ At k
+  pub pick_is : (k : ℕ) → first_at (can_run_entry (cells_of hs)) l ≡ Some k
       → pick σ log (map did_of_entry l) ≡ this (k + 1) (did_of_entry (get_or l k past_entry)) (map did_of_entry (take k l ++ drop (k + 1) l))
   pick_is k e =
       ap (pick σ log) (map_split did_of_entry l past_entry k f.lt)
@@ -239,7 +237,7 @@ module _ (σ : Base) (n : ℕ) (log : List Did) (hs : List History) (l : List En
       whole : (x : Entry) → Mem x (take k l ++ get_or l k past_entry ∷ drop (suc k) l) → Mem x l
       whole x m = mem_along (sym (split_at l k past_entry f.lt)) m
 
-  pub pick_nobody : first_at (can_run_entry (cells_of hs)) l ≡ Nothing → pick σ log (map did_of_entry l) ≡ nobody (length l)
+  pub pick_nobody : first_at (can_run_entry (cells_of hs)) l ≡ None → pick σ log (map did_of_entry l) ≡ nobody (length l)
   pick_nobody e =
       pick_none σ log (map did_of_entry l) (agree l (λ x m. m) ∙ first_missed (can_run_entry (cells_of hs)) past_entry l e)
       ∙ ap nobody (length-map l did_of_entry)

@@ -16,6 +16,7 @@ pub mod Tries
 pub mod Overtaken
 pub mod LoopLaws
 pub mod RangeLaws
+pub mod PassedLaws
 pub mod ArrayLaws
 pub mod EntryLaws
 pub mod NumberLaws

@@ -1,18 +1,11 @@
 -- The first element that passes a test, and a list without one element.
-use Rattle.std.specs.Prelude.{ℕ, zero, suc, ◌+◌, ◌≡◌, Bool, cond, List, [], ◌∷◌, length}
+use Rattle.std.specs.Prelude.{ℕ, zero, suc, ◌+◌, ◌≡◌, Bool, cond, List, [], ◌∷◌, length, Option, Some, None, option_map}
 use Rattle.forms.specs.Write.{Wrote}
-use Rattle.table.specs.declared.Found.{Found}
-use Rattle.table.specs.declared.Found.TheVariants.{At, Nothing}
-
--- one place further on
-abbrev pub one_later : Found → Found
-one_later (At k) = At (suc k)
-one_later Nothing = Nothing
 
 -- Where the first element stands that passes the test.
-unfoldable pub first_at : {A : Type 0} → (A → Bool) → List A → Found
-first_at p [] = Nothing
-first_at p (x ∷ xs) = cond (p x) (At 0) (one_later (first_at p xs))
+unfoldable pub first_at : {A : Type 0} → (A → Bool) → List A → Option ℕ
+first_at p [] = None
+first_at p (x ∷ xs) = cond (p x) (Some 0) (option_map suc (first_at p xs))
 
 -- The list without its element at k: what a shift of the elements behind it leaves.
 unfoldable pub omit : {A : Type 0} → ℕ → List A → List A

@@ -1,7 +1,8 @@
 -- What loops over the first elements of an array meet: one element more, the element that decides, and stores.
-use Rattle.std.specs.Prelude.{ℕ, zero, suc, ◌+◌, ◌≤◌, ◌<◌, ◌≡◌, refl, ◌⊎◌, Bool, true, false, cond, ◌&&◌, ◌||◌, length, get_or, take, drop, set}
-use Rattle.std.proofs.Common.{add-one, arith, sym, ap, ap₂, ◌∙◌, inl, inr, length-take, drop_of_length-le, take-suc, length-take-le, take-suc-set}
-use Rattle.std.proofs.Math.Bool.{or-false, or_assoc, and-false, and_assoc}
+use Rattle.std.specs.Prelude.{ℕ, zero, suc, ◌+◌, ◌≤◌, ◌<◌, ◌≡◌, refl, ◌⊎◌, Bool, cond, ◌&&◌, ◌||◌, length, get_or, take, drop, set}
+use Rattle.std.proofs.Common.{add-one, drop-cons, arith, sym, ap, ◌∙◌, inl, inr, length-take, drop_of_length-le, take-suc, length-take-le, take-suc-set}
+use Rattle.std.proofs.Math.Bool.{or-false, or_assoc}
+use Rattle.std.specs.List.{list_all, list_any, range_with_len}
 use mathlib.Core.List.{List, [], ◌∷◌, ◌++◌}
 use mathlib.Core.List.Memᴰ
 use mathlib.Core.List.Memᴰ.{head as here}
@@ -10,10 +11,6 @@ use mathlib.Core.List.{Memᴰ as Mem}
 use Rattle.std.proofs.lemmas.List.{drop-append-le}
 use Rattle.forms.specs.Lists.{any, all, keep, below}
 use Rattle.forms.specs.ListLaws.{keep_append}
-use Rattle.history.specs.Tests.{take_split}
-use Rattle.table.specs.declared.Found.{Found}
-use Rattle.table.specs.declared.Found.TheVariants.{At, Nothing}
-use Rattle.table.specs.Lists.{one_later, first_at}
 
 -- ### The part of an array that counts
 
@@ -69,48 +66,25 @@ module _ {A : Type 0} (p : A → Bool) where
   pub any_snoc : (l : List A) (a : A) → any p (l ++ (a ∷ [])) ≡ (any p l || p a)
   any_snoc l a = any_append l (a ∷ []) ∙ ap (λ (t : Bool). any p l || t) (or-false (p a))
 
-  pub all_append : (a b : List A) → all p (a ++ b) ≡ (all p a && all p b)
-  all_append [] b = refl
-  all_append (x ∷ a) b = ap (λ (t : Bool). p x && t) (all_append a b) ∙ sym (and_assoc (p x) (all p a) (all p b))
+-- A test of the elements from a on, n of them, by their places.
+module _ {A : Type 0} (p : A → Bool) (d : A) (l : List A) where
+  pub all_places : (a n : ℕ) → a + n ≤ length l → list_all (λ (j : ℕ). p (get_or l j d)) (range_with_len a n) ≡ all p (take n (drop a l))
+  all_places a zero h = refl
+  all_places a (suc n) h =
+      ap (λ (t : Bool). p (get_or l a d) && t) (all_places (a + 1) n (omega arith))
+      ∙ ap (λ (k : ℕ). p (get_or l a d) && all p (take n (drop k l))) (add-one a)
+      ∙ sym (ap (λ (r : List A). all p (take (suc n) r)) (drop-cons l a d (omega arith)))
 
-  none_parts : (b : Bool) (f : Found) → cond b (At 0) (one_later f) ≡ Nothing → (b ≡ false) × (f ≡ Nothing)
-  none_parts true f e = ((cc), (cc))
-  none_parts false (At k) e = ((cc), (cc))
-  none_parts false Nothing e = (refl, refl)
-
-  -- where none of the first elements passes
-  pub first_snoc : (l : List A) (a : A) → first_at p l ≡ Nothing → p a ≡ false → first_at p (l ++ (a ∷ [])) ≡ Nothing
-  unfolding first_at
-  first_snoc [] a e h = rw h
-  first_snoc (x ∷ l) a e h =
-      let q = none_parts (p x) (first_at p l) e in
-      rw (q.0, first_snoc l a q.1 h)
-
-  pub first_mid : (l : List A) (a : A) (r : List A) → first_at p l ≡ Nothing → p a ≡ true → first_at p (l ++ a ∷ r) ≡ At (length l)
-  unfolding first_at
-  first_mid [] a r e h = rw h
-  first_mid (x ∷ l) a r e h =
-      let q = none_parts (p x) (first_at p l) e in
-      rw (q.0, first_mid l a r q.1 h)
+  pub any_places : (a n : ℕ) → a + n ≤ length l → list_any (λ (j : ℕ). p (get_or l j d)) (range_with_len a n) ≡ any p (take n (drop a l))
+  any_places a zero h = refl
+  any_places a (suc n) h =
+      ap (λ (t : Bool). p (get_or l a d) || t) (any_places (a + 1) n (omega arith))
+      ∙ ap (λ (k : ℕ). p (get_or l a d) || any p (take n (drop k l))) (add-one a)
+      ∙ sym (ap (λ (r : List A). any p (take (suc n) r)) (drop-cons l a d (omega arith)))
 
 module _ {A : Type 0} (p : A → Bool) (l : List A) (d : A) where
   pub any-more : (i : ℕ) → i < length l → any p (take (i + 1) l) ≡ (any p (take i l) || p (get_or l i d))
   any-more i h = ap (any p) (take_next l d i h) ∙ any_snoc p (take i l) (get_or l i d)
-
-  pub all-next : (i : ℕ) → i < length l → all p (take i l) ≡ true → p (get_or l i d) ≡ true → all p (take (i + 1) l) ≡ true
-  all-next i h e q =
-      ap (all p) (take_next l d i h) ∙ all_append p (take i l) (get_or l i d ∷ []) ∙ ap₂ (λ (s t : Bool). s && (t && true)) e q
-
-  pub all_miss : (i n : ℕ) → i < n → n ≤ length l → p (get_or l i d) ≡ false → all p (take n l) ≡ false
-  all_miss i n h g q =
-      ap (all p) (take_split l d i n h g)
-      ∙ all_append p (take i l) (get_or l i d ∷ drop (suc i) (take n l))
-      ∙ ap (λ (t : Bool). all p (take i l) && (t && all p (drop (suc i) (take n l)))) q
-      ∙ and-false (all p (take i l))
-
-pub first_none : {A : Type 0} (p : A → Bool) → first_at p [] ≡ Nothing
-unfolding first_at
-first_none p = refl
 
 -- ### Numbers that pass a test, rising
 

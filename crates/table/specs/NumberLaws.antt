@@ -1,5 +1,5 @@
 -- Laws of lists of numbers in a reply's array: a list that grows, and the numbers that pass a test.
-use Rattle.std.specs.Prelude.{ℕ, ◌+◌, ◌-◌, ◌≤◌, ◌<◌, ◌≡◌, Bool, true, false, List, [], ◌∷◌, ◌++◌, map, length, get_or}
+use Rattle.std.specs.Prelude.{ℕ, ◌+◌, ◌≤◌, ◌<◌, ◌≡◌, Bool, true, false, List, [], ◌∷◌, ◌++◌, map, length, get_or}
 use Rattle.std.proofs.Common.{arith, sym, ap, subst, ◌∙◌, append-nil}
 use Rattle.std.proofs.lemmas.List.{map-append}
 use Rattle.forms.specs.Lists.{keep, below}
@@ -59,20 +59,15 @@ kept_none p ws at l = record { few = omega arith; is = no_numbers ws at l }
 -- ### The ids of the entries of a range
 
 module _ (o ws : List ℕ) (from : ℕ) where
-  pub ids-start : (old : List ℕ) (at : ℕ) → length old ≡ 68 → IsNumbers old at (from - from) old (map id_of (rows_in o ws from from))
-  ids-start old at l =
-      let z : 0 ≡ from - from = omega arith in
-      subst (λ (n : ℕ). IsNumbers old at n old (map id_of (rows_in o ws from from))) z
-      (subst (IsNumbers old at 0 old) (ap (map id_of) (sym (range_none o ws from))) (no_numbers old at l))
+  pub ids-start : (old : List ℕ) (at : ℕ) → length old ≡ 68 → IsNumbers old at 0 old (map id_of (rows_in o ws from from))
+  ids-start old at l = subst (IsNumbers old at 0 old) (ap (map id_of) (sym (range_none o ws from))) (no_numbers old at l)
 
-  pub ids_next : (i : ℕ) (old : List ℕ) (at : ℕ) (ls vs : List ℕ) (x : ℕ) → from ≤ i → i < length o
-      → IsNumbers old at (i - from) ls (map id_of (rows_in o ws from i)) → x ≡ (row_at ws (get_or o i 0)).id
-      → Wrote ls (at + (i - from)) (x ∷ []) (at + (i - from) + 1) vs → at + (i - from) < 68
-      → IsNumbers old at (i + 1 - from) vs (map id_of (rows_in o ws from (i + 1)))
-  ids_next i old at ls vs x h l a e w room =
-      let z : i - from + 1 ≡ i + 1 - from = omega arith in
-      subst (λ (n : ℕ). IsNumbers old at n vs (map id_of (rows_in o ws from (i + 1)))) z
-      (numbers-next old at (i - from) ls x (map id_of (rows_in o ws from i)) (map id_of (rows_in o ws from (i + 1))) vs a w room
-      (ap (map id_of) (range_next o ws from i h l)
-      ∙ map-append id_of (rows_in o ws from i) (row_at ws (get_or o i 0) ∷ [])
-      ∙ ap (λ (y : ℕ). map id_of (rows_in o ws from i) ++ (y ∷ [])) (sym e)))
+  pub ids_next : (k : ℕ) (old : List ℕ) (at : ℕ) (ls vs : List ℕ) (x : ℕ) → from + k < length o
+      → IsNumbers old at k ls (map id_of (rows_in o ws from (from + k))) → x ≡ (row_at ws (get_or o (from + k) 0)).id
+      → Wrote ls (at + k) (x ∷ []) (at + k + 1) vs → at + k < 68
+      → IsNumbers old at (k + 1) vs (map id_of (rows_in o ws from (from + k + 1)))
+  ids_next k old at ls vs x l a e w room =
+      numbers-next old at k ls x (map id_of (rows_in o ws from (from + k))) (map id_of (rows_in o ws from (from + k + 1))) vs a w room
+      (ap (map id_of) (range_next o ws from (from + k) (omega arith) l)
+      ∙ map-append id_of (rows_in o ws from (from + k)) (row_at ws (get_or o (from + k) 0) ∷ [])
+      ∙ ap (λ (y : ℕ). map id_of (rows_in o ws from (from + k)) ++ (y ∷ [])) (sym e))

@@ -21,12 +21,11 @@ use Rattle.table.specs.declared.Dropped.{Dropped}
 use Rattle.table.specs.Lists.{IsNumbers}
 use Rattle.table.specs.LoopLaws.{any-more}
 use Rattle.table.specs.NumberLaws.{numbers-next, no_numbers}
-use Rattle.table.specs.Order.{moved}
 use Rattle.table.specs.Overtaken.{overtaken_entry, stays_entry, row_in, Covers, Leaves, Examines, Drops}
 use Rattle.table.specs.RangeLaws.{past_entry}
 use Rattle.table.specs.StepLaws.{frame_same, becomes_same}
 use Rattle.table.specs.TableLaws.{queue-length, queue-at, removed, removed_done}
-use Rattle.table.specs.Tables.{live_count, finished_rows, queue_rows, live_numbers, id_of, Owns, Becomes}
+use Rattle.table.specs.Tables.{finished_rows, queue_rows, live_numbers, id_of, Owns, Becomes}
 
 -- ### One element leaves a list
 
@@ -138,26 +137,6 @@ dropping_none t o ws book lists at own enough long early =
       named = no_numbers lists at long;
       counts = counts_none book;
       enough = enough;
-    }
-
--- what `lower` asks for, of an entry that was read
-pub covers_read : (book : List ℕ) (e x : Entry) → x ≡ e → Covers book (e ∷ []) → (h : ℕ) → 1 ≤ entry_in h x
-    → entry_in h x ≤ get_or (busy_in book) h 0
-covers_read book e x q enough h some =
-    let z : entry_in h x ≡ entry_in h e = ap (entry_in h) q in omega (arith, z, some, enough h (omega (arith, z, some)))
-
--- an entry that was read leaves
-pub leaves_read : (e x : Entry) → x ≡ e → (d : Dropped) (i : ℕ) (o book lists : List ℕ) (at : ℕ) (t : Table) (p book' lists' : List ℕ)
-    → t ≡ record { finished = d.table.finished; queue = d.table.queue - 1 }
-    → p ≡ moved (d.table.finished + i) (live_count d.table - 1) o
-    → CountsMore (x ∷ []) book' book → Wrote lists (at + d.count) (x.id ∷ []) (at + d.count + 1) lists'
-    → Leaves e d i o book lists at (record { table = t; count = d.count + 1 }) p book' lists'
-leaves_read e x q d i o book lists at t p book' lists' table order counts named =
-    record {
-      dropped = ap {B = Dropped} (λ (u : Table). record { table = u; count = d.count + 1 }) table;
-      order = order;
-      counts = subst (λ (y : Entry). CountsMore (y ∷ []) book' book) q counts;
-      named = subst (λ (y : Entry). Wrote lists (at + d.count) (y.id ∷ []) (at + d.count + 1) lists') q named;
     }
 
 -- an entry of a list that is covered

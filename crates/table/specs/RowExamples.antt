@@ -1,9 +1,7 @@
 -- Three rows and an order of two live entries, computed: the ids and versions of a range, and the entry of an id, that of a free one not.
-use Rattle.std.specs.Prelude.{ℕ, ◌≡◌, refl, List, [], ◌∷◌, ◌++◌, map, take, replicate}
+use Rattle.std.specs.Prelude.{ℕ, ◌≡◌, refl, List, [], ◌∷◌, ◌++◌, map, take, replicate, Some, None}
 use Rattle.forms.specs.Lists.{sum}
 use Rattle.history.specs.Words.{within, items_in, entry_in}
-use Rattle.table.specs.declared.Found.TheVariants.{At as FoundAt}
-use Rattle.table.specs.declared.Lookup.TheVariants.{At, Nothing}
 use Rattle.table.specs.Lists.{first_at}
 use Rattle.table.specs.Rows.{rule_named, item_at, entry_from}
 use Rattle.table.specs.Tables.{rows_in, id_of, has_id, entry_of, version_by, version_from}
@@ -23,16 +21,16 @@ pub ids_example : map id_of (rows_in order words 0 2) ≡ 5 ∷ 7 ∷ []
 unfolding entry_from
 ids_example = refl
 
-pub second_example : first_at (has_id 7) (rows_in order words 0 2) ≡ FoundAt 1
+pub second_example : first_at (has_id 7) (rows_in order words 0 2) ≡ Some 1
 unfolding entry_from first_at
 second_example = refl
 
-pub live_example : entry_of words 5 (take 2 order) ≡ At (record { 0 = 2 })
+pub live_example : entry_of words 5 (take 2 order) ≡ Some (record { 0 = 2 })
 unfolding entry_from entry_of
 live_example = refl
 
 -- "none exactly if it is not live": the row of the free entry still has the id
-pub freed_example : entry_of words 9 (take 2 order) ≡ Nothing
+pub freed_example : entry_of words 9 (take 2 order) ≡ None
 unfolding entry_from entry_of
 freed_example = refl
 

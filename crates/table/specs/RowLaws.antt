@@ -294,14 +294,6 @@ rows-set r old new (x ∷ es) (suc k) put h one =
     (λ q. omega (arith, one, l, tally_head x es, ap (λ (i : ℕ). tally i (x ∷ es)) q, ap (λ (i : ℕ). tally i es) q)))
     (rows-set r old new es k put (omega arith) (omega (arith, one)))
 
--- ### Room
-
-pub put_room : (at : ℕ) (x : Item) (old new : List ℕ) → PutItem at x old new → (n : ℕ) → n ≤ length old → n ≤ length new
-put_room at x old new q n h = omega (arith, q.long)
-
-pub first_room : (ws : List ℕ) (at a b d : ℕ) (n : ℕ) → n ≤ length ws → n ≤ length (puts (set ws at a) at 1 (b ∷ d ∷ []))
-first_room ws at a b d n h = omega (arith, puts_long (set ws at a) at 1 (b ∷ d ∷ []), length-set ws at a)
-
 -- ### Starting
 
 -- The store that sets an entry in progress.

@@ -1,13 +1,12 @@
 -- The table of a site: its live entries as lists of rows, what its calls keep, and what they leave alone.
-use Rattle.std.specs.Prelude.{ℕ, ◌+◌, ◌*◌, ◌≤◌, ◌<◌, ◌≡◌, Bool, cond, not, ◌&&◌, List, [], ◌∷◌, map, eqb, length, get_or, take, drop}
+use Rattle.std.specs.Prelude.{ℕ, ◌+◌, ◌*◌, ◌≤◌, ◌<◌, ◌≡◌, Bool, cond, not, ◌&&◌, List, [], ◌∷◌, map, eqb, length, get_or, take, drop, Option, Some, None}
 use Rattle.forms.specs.Limits.{live_limit}
 use Rattle.rules.specs.Book.{Cell}
 use Rattle.history.specs.declared.Item.{Item}
 use Rattle.history.specs.declared.Entry.{Entry}
 use Rattle.history.specs.Entries.{UsableEntry, items_of, can_run_in, did_of_entry}
 use Rattle.table.specs.declared.Table.{Table}
-use Rattle.table.specs.declared.Lookup.{Lookup}
-use Rattle.table.specs.declared.Lookup.TheVariants.{At, Nothing}
+use Rattle.table.specs.declared.EntryNumber.{EntryNumber}
 use Rattle.table.specs.Rows.{row_width, row_at, mark_at, HasRow}
 use Rattle.table.specs.Order.{tally}
 
@@ -67,9 +66,9 @@ version_from h v [] = v
 version_from h v (e ∷ es) = version_from h (version_by h v (items_of e)) es
 
 -- The entry of an id among some entries.
-unfoldable pub entry_of : List ℕ → ℕ → List ℕ → Lookup
-entry_of ws id [] = Nothing
-entry_of ws id (e ∷ es) = cond (eqb (row_at ws e).id id) (At (record { 0 = e })) (entry_of ws id es)
+unfoldable pub entry_of : List ℕ → ℕ → List ℕ → Option EntryNumber
+entry_of ws id [] = None
+entry_of ws id (e ∷ es) = cond (eqb (row_at ws e).id id) (Some (record { 0 = e })) (entry_of ws id es)
 
 -- ### What is kept
 

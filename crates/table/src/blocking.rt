@@ -1,6 +1,6 @@
-// What blocks an update: of each history, whether an update of some entries is in it, and whether a strong one is.
+// What blocks an update: of each history, whether an update of some entries is in it, and whether a strong one is. That a row is an entry's
+// and usable, and that order and rows fit, is asked of each call as in `search`.
 ghost use Rattle.std.specs.Prelude.{◌≡◌, ◌≤◌, ◌<◌, length};
-ghost use Rattle.forms.specs.Lists.{any};
 ghost use Rattle.forms.specs.Limits.{history_limit};
 ghost use Rattle.history.specs.Entries.{UsableEntry, item_update};
 ghost use Rattle.table.specs.Rows.{HasRow, row_at};
@@ -10,31 +10,21 @@ ghost use Rattle.table.specs.Tries.{entry_updates, held_of, gather, MarksOf, Mor
 use super::Marks;
 use super::rows::{count_at, item_in, runs_at};
 use forms::limits::HISTORIES;
+use history::Item;
 use history::update_rules::is_strong;
-use history::{Item, either};
 
 // The marks with those of the operation in the row of entry e.
-pub fn marked(m: Marks, rows: &[u64], e: usize) -> Marks
+pub fn marked(mut m: Marks, rows: &[u64], e: usize) -> Marks
     requires has_row { HasRow rows.now e × UsableEntry (row_at rows.now e) }
     requires any_len { (length m.any ≡ history_limit) × (length m.strong ≡ history_limit) }
     ensures { More result m (entry_updates (row_at rows.now e)) }
 {
-    let mut any = m.any;
-    let mut strong = m.strong;
-    let n = count_at(rows, e);
-    let mut j: usize = 0;
-    while j < n {
+    for j in 0..count_at(rows, e) {
         let x = item_in(rows, e, j);
-        let at = x.history as usize;
-        let rule = x.rule;
-        any[at] = true;
-        strong[at] = either(strong[at], is_strong(rule));
-        j += 1;
+        m.any[x.history as usize] = true;
+        m.strong[x.history as usize] |= is_strong(x.rule);
     }
-    Marks {
-        any: any,
-        strong: strong,
-    }
+    m
 }
 
 // The marks with those of the operation in the row of entry e, where it is in progress.
@@ -55,12 +45,10 @@ pub fn is_free(m: Marks, x: Item) -> bool
     requires { x.history < history_limit }
     ensures { result ≡ free_by m (item_update x) }
 {
-    let at = x.history as usize;
-    let rule = x.rule;
-    if is_strong(rule) {
-        !m.any[at]
+    if is_strong(x.rule) {
+        !m.any[x.history as usize]
     } else {
-        !m.strong[at]
+        !m.strong[x.history as usize]
     }
 }
 
@@ -73,10 +61,8 @@ pub fn in_progress(order: &[u8], rows: &[u64], from: usize, to: usize) -> Marks
         any: [false; HISTORIES],
         strong: [false; HISTORIES],
     };
-    let mut i = from;
-    while i < to {
-        m = marked_by(m, rows, order[i] as usize);
-        i += 1;
+    for e in &order[from..to] {
+        m = marked_by(m, rows, *e as usize);
     }
     m
 }

@@ -15,10 +15,7 @@ pub fn lower_rows(order: &[u8], rows: &[u64], book: &mut BookWords, from: usize,
         sum (entry_in h) (rows_in order.now rows.now from to) ≤ get_or (busy_in book.old) h 0 }
     ensures { CountsMore (rows_in order.now rows.now from to) book.new book.old }
 {
-    let mut i = from;
-    while i < to {
-        let e = row_at(rows, order[i] as usize);
-        lower(book, e);
-        i += 1;
+    for e in &order[from..to] {
+        lower(book, row_at(rows, *e as usize));
     }
 }

@@ -24,39 +24,26 @@ pub mod tries;
 pub mod versions;
 
 // The number of an entry. (In the field's terms: a slot of the table.)
-#[derive(Clone, Copy)]
+#[derive(Clone, Copy, PartialEq, Eq)]
 pub struct EntryNumber(pub u8);
 
-// Where an entry was found, counted from the first that was looked at.
-#[derive(Clone, Copy)]
-pub enum Found {
-    At(usize),
-    Nothing,
-}
-
-// The entry of an id.
-#[derive(Clone, Copy)]
-pub enum Lookup {
-    At(EntryNumber),
-    Nothing,
-}
-
-// Of each history: whether an update of those counted is in it, and whether a strong one is.
-#[derive(Clone, Copy)]
+// Of each history: whether an update of those counted is in it, and whether a strong one is. They are two arrays and not one of a kind with
+// three cases: `marked` sets each by itself and `is_free` asks one alone, where a kind would be matched.
+#[derive(Clone, Copy, PartialEq, Eq)]
 pub struct Marks {
     pub any: [bool; HISTORIES],
     pub strong: [bool; HISTORIES],
 }
 
 // The table by value: how many entries are done and have not left it, and how many are not done (or wait).
-#[derive(Clone, Copy)]
+#[derive(Clone, Copy, PartialEq, Eq)]
 pub struct Table {
     pub finished: usize,
     pub queue: usize,
 }
 
 // The table after operations that were overtaken have left it, and how many they were.
-#[derive(Clone, Copy)]
+#[derive(Clone, Copy, PartialEq, Eq)]
 pub struct Dropped {
     pub table: Table,
     pub count: usize,
@@ -78,8 +65,7 @@ impl Table {
         requires { (self.finished + i < length order.now) × HasRow rows.now (get_or order.now (self.finished + i) 0) }
         ensures { result ≡ row_at rows.now (get_or order.now (self.finished + i) 0) }
     {
-        let e = order[self.finished + i];
-        row_at(rows, e as usize)
+        row_at(rows, order[self.finished + i] as usize)
     }
 
     // One operation more behind those not done, in the first entry that is free. The caller sees to it that there is one.
@@ -91,8 +77,8 @@ impl Table {
         let free = order[self.finished + self.queue];
         put_row(rows, free as usize, e);
         Table {
-            finished: self.finished,
             queue: self.queue + 1,
+            ..self
         }
     }
 
@@ -115,8 +101,8 @@ impl Table {
         let last = self.finished + self.queue - 1;
         move_back(order, self.finished + i, last);
         Table {
-            finished: self.finished,
             queue: self.queue - 1,
+            ..self
         }
     }
 
@@ -145,13 +131,12 @@ impl Table {
         ensures { (result ≡ record { finished = self.finished + 1; queue = self.queue }) ×
             PutNoted (get_or order.now self.finished 0) e m.0 rows.old rows.new }
     {
-        let at = self.finished;
-        let number = order[at];
+        let number = order[self.finished];
         put_row(rows, number as usize, e);
         put_mark(rows, number as usize, m);
         Table {
             finished: self.finished + 1,
-            queue: self.queue,
+            ..self
         }
     }
 
@@ -164,7 +149,7 @@ impl Table {
         turn(order, k, self.finished + self.queue);
         Table {
             finished: self.finished - k,
-            queue: self.queue,
+            ..self
         }
     }
 }

@@ -5,25 +5,18 @@ ghost use Rattle.forms.specs.Limits.{live_limit};
 ghost use Rattle.table.specs.Order.{moved, turned};
 
 use forms::limits::LIVE;
-use forms::writer::write_word;
 
-// The numbers of a site's entries, of 8 bits each: first those of the done ones, in log order, then those that are not done, in order
-// of arrival (or waiting, in order of delivery), then those that are free. A site alone has 64 of them; one that shares its table is lent
-// those that it may use, at most 64.
+// The numbers of a site's entries, of 8 bits each: first those of the done ones, in log order, then those that are not done, in order of
+// arrival (or waiting, in order of delivery), then those that are free. A site alone has 64 of them; one that shares its table is lent
+// those that it may use, at most 64. They are numbers of rows and no references, since C lends both arrays.
 pub type Order = [u8; LIVE];
-
-// Numbers lent whole: there are as many as their type says.
-fn known_length(_order: &[u8]) {}
 
 // All entries free, in rising order.
 pub fn number_all(order: &mut Order)
     ensures { order.new ≡ below live_limit }
 {
-    known_length(order);
-    let mut i: usize = 0;
-    while i < LIVE {
-        order[i] = i as u8;
-        i += 1;
+    for (i, number) in order.iter_mut().enumerate() {
+        *number = i as u8;
     }
 }
 
@@ -32,13 +25,7 @@ pub fn move_forward(order: &mut [u8], from: usize, to: usize)
     requires { (to ≤ from) × (from < length order.old) }
     ensures { order.new ≡ moved from to order.old }
 {
-    let x = order[from];
-    let mut i = from;
-    while to < i {
-        order[i] = order[i - 1];
-        i -= 1;
-    }
-    order[to] = x;
+    order[to..=from].rotate_right(1);
 }
 
 // The number at `from` goes to the later place `to`; those between move up by one.
@@ -46,13 +33,7 @@ pub fn move_back(order: &mut [u8], from: usize, to: usize)
     requires { (from ≤ to) × (to < length order.old) }
     ensures { order.new ≡ moved from to order.old }
 {
-    let x = order[from];
-    let mut i = from;
-    while i < to {
-        order[i] = order[i + 1];
-        i += 1;
-    }
-    order[to] = x;
+    order[from..=to].rotate_left(1);
 }
 
 // Of the first n numbers, the first k go behind the others.
@@ -60,13 +41,5 @@ pub fn turn(order: &mut [u8], k: usize, n: usize)
     requires { (k ≤ n) × (n ≤ length order.old) × (length order.old ≤ live_limit) }
     ensures { order.new ≡ turned k n order.old }
 {
-    let mut first = [0u8; LIVE];
-    write_word(&mut first, 0, &order[..k]);
-    let rest = n - k;
-    let mut i: usize = 0;
-    while i < rest {
-        order[i] = order[i + k];
-        i += 1;
-    }
-    write_word(order, rest, &first[..k]);
+    order[..n].rotate_left(k);
 }

@@ -13,7 +13,7 @@ use super::rows::{count_at, item_in, runs_at};
 use super::search::push_number;
 use super::{Dropped, Table};
 use forms::ReplyNumbers;
-use history::book::{BookWords, history_at, known_length};
+use history::book::{BookWords, history_at};
 use history::busy::lower;
 use history::timing::is_never;
 
@@ -22,18 +22,10 @@ fn never_at(rows: &[u64], e: usize, book: &BookWords) -> bool
     requires { HasRow rows.now e × UsableEntry (row_at rows.now e) }
     ensures { result ≡ any (never_in (cells_of (histories_in book.now))) (entry_updates (row_at rows.now e)) }
 {
-    let n = count_at(rows, e);
-    let mut j: usize = 0;
-    while j < n {
+    (0..count_at(rows, e)).any(|j| {
         let x = item_in(rows, e, j);
-        let at = x.history as usize;
-        let h = history_at(book, at);
-        if is_never(h, x) {
-            return true;
-        }
-        j += 1;
-    }
-    false
+        is_never(history_at(book, x.history as usize), x)
+    })
 }
 
 // Whether the operation in the row of entry e is future and holds a never.
@@ -41,11 +33,7 @@ fn overtaken_at(rows: &[u64], e: usize, book: &BookWords) -> bool
     requires { HasRow rows.now e × UsableEntry (row_at rows.now e) }
     ensures { result ≡ overtaken_entry book.now (row_at rows.now e) }
 {
-    if runs_at(rows, e) {
-        false
-    } else {
-        never_at(rows, e, book)
-    }
+    !runs_at(rows, e) && never_at(rows, e, book)
 }
 
 impl Dropped {
@@ -65,12 +53,11 @@ impl Dropped {
         ensures { Leaves (row_in self.table order.old rows.now i) self i order.old book.old lists.old at
             result order.new book.new lists.new }
     {
-        let table = self.table;
-        let e = table.queued_at(order, rows, i);
+        let e = self.table.queued_at(order, rows, i);
         push_number(lists, at + self.count, e.id);
         lower(book, e);
         Dropped {
-            table: table.remove(order, i),
+            table: self.table.remove(order, i),
             count: self.count + 1,
         }
     }
@@ -92,12 +79,12 @@ impl Dropped {
             (row_in self.table order.old rows.now i) self i order.old book.old lists.old at
             result order.new book.new lists.new }
     {
-        let table = self.table;
-        let number = order[table.finished + i] as usize;
+        let number = order[self.table.finished + i] as usize;
         if overtaken_at(rows, number, book) {
-            return self.leave(order, rows, book, lists, at, i);
+            self.leave(order, rows, book, lists, at, i)
+        } else {
+            self
         }
-        self
     }
 }
 
@@ -117,16 +104,12 @@ impl Table {
         requires covers { Covers book.old (queue_rows self order.old rows.now) }
         ensures { Drops self order.old rows.now book.old lists.old at result order.new book.new lists.new }
     {
-        known_length(lists);
-        let queue = self.queue;
         let mut d = Dropped {
             table: self,
             count: 0,
         };
-        let mut seen: usize = 0;
-        while seen < queue {
+        for seen in 0..self.queue {
             d = d.examine(order, rows, book, lists, at, seen - d.count);
-            seen += 1;
         }
         d
     }

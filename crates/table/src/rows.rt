@@ -13,10 +13,11 @@ use history::{Entry, Item};
 // behind them the stable mark when its did line was written.
 pub const ROW: usize = 24;
 
-// The rows of a table of one site.
+// The rows of a table of one site. They are numbers, since C lends the array; and that a row is one of these (`HasRow`) is a fact about an
+// entry number and the words together.
 pub type Rows = [u64; LIVE * ROW];
 
-// The number of a rule.
+// The number of a rule, as it stands in a row: C lends its words, which are numbers.
 fn rule_number(rule: Rule) -> u64
     ensures { result ≡ rule_number rule }
 {
@@ -28,8 +29,8 @@ fn rule_number(rule: Rule) -> u64
     }
 }
 
-// The rule of a number.
-fn rule_named(n: u64) -> Rule
+// The rule of a number: that of a row's words, and of the words that C lends for an add.
+pub fn rule_named(n: u64) -> Rule
     ensures { result ≡ rule_named n }
 {
     match n {
@@ -44,7 +45,7 @@ fn rule_named(n: u64) -> Rule
 fn small_byte(n: u64) -> u8
     ensures { result ≡ within 256 n }
 {
-    if n < 256 { n as u8 } else { 0 }
+    u8::try_from(n).unwrap_or(0)
 }
 
 // The item whose words begin at `at`.
@@ -52,13 +53,12 @@ fn item_at(words: &[u64], at: usize) -> Item
     requires { at + 5 ≤ length words.now }
     ensures { result ≡ item_at words.now at }
 {
-    let rule = rule_named(words[at]);
     Item {
+        rule: rule_named(words[at]),
+        history: small_byte(words[at + 1]),
         version: Version(words[at + 2]),
         place: Place(words[at + 3]),
         operand: words[at + 4],
-        history: small_byte(words[at + 1]),
-        rule,
     }
 }
 
@@ -68,15 +68,16 @@ pub fn row_at(words: &[u64], e: usize) -> Entry
     ensures { result ≡ row_at words.now e }
 {
     let at = e * ROW;
-    let a = item_at(words, at + 3);
-    let b = item_at(words, at + 8);
-    let c = item_at(words, at + 13);
-    let d = item_at(words, at + 18);
     Entry {
         id: words[at],
         running: words[at + 1] == 1,
         count: words[at + 2] as usize,
-        items: [a, b, c, d],
+        items: [
+            item_at(words, at + 3),
+            item_at(words, at + 8),
+            item_at(words, at + 13),
+            item_at(words, at + 18),
+        ],
     }
 }
 
@@ -109,8 +110,7 @@ pub fn item_in(words: &[u64], e: usize, j: usize) -> Item
     requires { HasRow words.now e × (j < update_limit) }
     ensures { result ≡ get_or (row_at words.now e).items j no_item }
 {
-    let at = e * ROW + 3;
-    item_at(words, at + j * 5)
+    item_at(words, e * ROW + 3 + j * 5)
 }
 
 // Writes an item to the words that begin at `at`.
@@ -118,8 +118,7 @@ fn put_item(words: &mut [u64], at: usize, x: Item)
     requires { at + 5 ≤ length words.old }
     ensures { PutItem at x words.old words.new }
 {
-    let rule = x.rule;
-    words[at] = rule_number(rule);
+    words[at] = rule_number(x.rule);
     words[at + 1] = x.history as u64;
     words[at + 2] = x.version.0;
     words[at + 3] = x.place.0;
@@ -132,14 +131,13 @@ pub fn put_row(words: &mut [u64], e: usize, r: Entry)
     ensures { PutRow e r words.old words.new }
 {
     let at = e * ROW;
-    let items = r.items;
     words[at] = r.id;
     words[at + 1] = r.running as u64;
     words[at + 2] = r.count as u64;
-    put_item(words, at + 3, items[0]);
-    put_item(words, at + 8, items[1]);
-    put_item(words, at + 13, items[2]);
-    put_item(words, at + 18, items[3]);
+    put_item(words, at + 3, r.items[0]);
+    put_item(words, at + 8, r.items[1]);
+    put_item(words, at + 13, r.items[2]);
+    put_item(words, at + 18, r.items[3]);
 }
 
 // The operation in the row of entry e is in progress from now on.

@@ -1,7 +1,8 @@
 // Trying the future operations once, oldest arrival first.
-ghost use Rattle.std.specs.Prelude.{◌≡◌, ◌+◌, ◌≤◌};
+ghost use Rattle.std.specs.Prelude.{◌≡◌, ◌+◌, ◌≤◌, ◌<◌};
 ghost use Rattle.forms.specs.Lists.{all};
-ghost use Rattle.history.specs.Entries.{UsableEntry, cells_of, operation_of};
+ghost use Rattle.forms.specs.Limits.{history_limit};
+ghost use Rattle.history.specs.Entries.{UsableEntry, cells_of, item_update, operation_of};
 ghost use Rattle.history.specs.Words.{histories_in};
 ghost use Rattle.table.specs.Rows.{HasRow, row_at};
 ghost use Rattle.table.specs.Tables.{Owns};
@@ -12,32 +13,28 @@ use super::rows::{count_at, id_at, item_in, runs_at, start_row};
 use super::search::push_number;
 use super::{Marks, Table};
 use forms::ReplyNumbers;
-use history::book::{BookWords, history_at, known_length};
+use history::Item;
+use history::book::{BookWords, history_at};
 use history::update_rules::may_run;
+
+// Whether an update may run and is not blocked.
+fn is_ready(book: &BookWords, m: Marks, x: Item) -> bool
+    requires { x.history < history_limit }
+    ensures { result ≡ ready_by (cells_of (histories_in book.now)) m (item_update x) }
+{
+    may_run(
+        x.rule,
+        history_at(book, x.history as usize).version,
+        x.version,
+    ) && is_free(m, x)
+}
 
 // Whether each update of the operation in the row of entry e may run and is not blocked.
 fn all_ready(book: &BookWords, m: Marks, rows: &[u64], e: usize) -> bool
     requires { HasRow rows.now e × UsableEntry (row_at rows.now e) }
     ensures { result ≡ all (ready_by (cells_of (histories_in book.now)) m) (entry_updates (row_at rows.now e)) }
 {
-    let n = count_at(rows, e);
-    let mut j: usize = 0;
-    while j < n {
-        let x = item_in(rows, e, j);
-        let at = x.history as usize;
-        let h = history_at(book, at);
-        let rule = x.rule;
-        let u = x.version;
-        let c = h.version;
-        if !may_run(rule, c, u) {
-            return false;
-        }
-        if !is_free(m, x) {
-            return false;
-        }
-        j += 1;
-    }
-    true
+    (0..count_at(rows, e)).all(|j| is_ready(book, m, item_in(rows, e, j)))
 }
 
 // Whether the row of entry e is a future operation that is ready.
@@ -45,11 +42,7 @@ fn may_start(book: &BookWords, m: Marks, rows: &[u64], e: usize) -> bool
     requires { HasRow rows.now e × UsableEntry (row_at rows.now e) }
     ensures { result ≡ starts_by (cells_of (histories_in book.now)) m (operation_of (row_at rows.now e)) }
 {
-    if runs_at(rows, e) {
-        false
-    } else {
-        all_ready(book, m, rows, e)
-    }
+    !runs_at(rows, e) && all_ready(book, m, rows, e)
 }
 
 impl Table {
@@ -66,21 +59,18 @@ impl Table {
         requires { Owns self order.now rows.old × (at + self.queue ≤ 68) }
         ensures { Tries (cells_of (histories_in book.now)) self order.now rows.old rows.new lists.old at result lists.new }
     {
-        known_length(lists);
         let from = self.finished;
         let to = self.finished + self.queue;
         let mut m = in_progress(order, rows, from, to);
         let mut ready: usize = 0;
-        let mut i = from;
-        while i < to {
-            let number = order[i] as usize;
+        for e in &order[from..to] {
+            let number = *e as usize;
             if may_start(book, m, rows, number) {
                 m = marked(m, rows, number);
                 push_number(lists, at + ready, id_at(rows, number));
                 start_row(rows, number);
                 ready += 1;
             }
-            i += 1;
         }
         ready
     }

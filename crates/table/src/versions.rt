@@ -12,10 +12,10 @@ use super::rows::{count_at, item_in};
 use super::search::push_number;
 use forms::ReplyNumbers;
 use forms::limits::HISTORIES;
-use history::book::known_length;
 
 // What a reply names histories for: a version that rose, or that the last update which kept it from being dry is gone.
-#[derive(Clone, Copy)]
+// It is an enum and no closure: the contract names the test by it (`singled`).
+#[derive(Clone, Copy, PartialEq, Eq)]
 pub enum Naming {
     Risen,
     Dried,
@@ -26,14 +26,9 @@ fn stamp(versions: &mut [u64; HISTORIES], rows: &[u64], e: usize)
     requires { HasRow rows.now e × UsableEntry (row_at rows.now e) }
     ensures { Tabulates 0 versions.new (λ (h : ℕ). version_from h (get_or versions.old h 0) (row_at rows.now e ∷ [])) }
 {
-    known_length(versions);
-    let n = count_at(rows, e);
-    let mut j: usize = 0;
-    while j < n {
+    for j in 0..count_at(rows, e) {
         let x = item_in(rows, e, j);
-        let at = x.history as usize;
-        versions[at] = x.version.0;
-        j += 1;
+        versions[x.history as usize] = x.version.0;
     }
 }
 
@@ -41,20 +36,17 @@ fn stamp(versions: &mut [u64; HISTORIES], rows: &[u64], e: usize)
 pub fn advance(
     order: &[u8],
     rows: &[u64],
-    versions: [u64; HISTORIES],
+    mut versions: [u64; HISTORIES],
     from: usize,
     to: usize,
 ) -> [u64; HISTORIES]
     requires { Usable order.now rows.now to × (from ≤ to) }
     ensures { Tabulates 0 result (λ (h : ℕ). version_from h (get_or versions h 0) (rows_in order.now rows.now from to)) }
 {
-    let mut vs = versions;
-    let mut i = from;
-    while i < to {
-        stamp(&mut vs, rows, order[i] as usize);
-        i += 1;
+    for e in &order[from..to] {
+        stamp(&mut versions, rows, *e as usize);
     }
-    vs
+    versions
 }
 
 // Whether a reply names a history by its number before and after.
@@ -79,15 +71,12 @@ pub fn name_histories(
     requires { (n ≤ history_limit) × (at ≤ history_limit) }
     ensures { Lists lists.old at (keep (singled naming before after) (below n)) result lists.new }
 {
-    known_length(lists);
     let mut count: usize = 0;
-    let mut h = 0;
-    while h < n {
+    for h in 0..n {
         if is_named(naming, before[h], after[h]) {
             push_number(lists, at + count, h as u64);
             count += 1;
         }
-        h += 1;
     }
     count
 }

@@ -2,5 +2,5 @@
 use Rattle.std.proofs.Common.{arith}
 use Rattle.station.proofs.modules.two_modules.Goals as goal
 
-pub record-s1-requires : goal.record-s1-requires
-record-s1-requires g c = c.empty-s0.ensures.valid _ (omega arith)
+pub record-s-requires : goal.record-s-requires
+record-s-requires g c = c.empty-s.ensures.valid _ (omega arith)

@@ -1,0 +1,25 @@
+-- The open site's show keeps its own contract, and what it hands back is put away; without a site it is 14.
+use Rattle.std.proofs.Common.{sym, []}
+use Rattle.forms.specs.Refusals.{number_of}
+use Rattle.rules.specs.Calls.{Call}
+use Rattle.site.specs.Model.{lent}
+use Rattle.fitting_ledger.specs.CallLaws.{performs, performs_not}
+use Rattle.fitting_ledger.proofs.plain_calls.fl_show_parts.Goals as goal
+
+pub show-r-requires : goal.show-r-requires
+show-r-requires c = c.requires.session.site c.in-Some.site (sym c.in-Some.ensures)
+
+pub returns : goal.returns
+returns c =
+    let a = c.args in
+    let r = c.show-r in
+    let p = c.put_call in
+    performs c.in-Some.site a.counters.now (lent a.log.now a.rows.now a.order.now a.book.now []) (Call.Show a.history) r.result
+    (lent a.log.now a.rows.now a.order.now a.book.now []) p.result p.new.counters a.answer.now p.new.answer
+    (sym c.in-Some.ensures) c.requires (r.ensures []) p.ensures
+
+pub returns-in_default : goal.returns-in_default
+unfolding number_of
+returns-in_default c =
+    let a = c.args in
+    performs_not a.counters.now (lent a.log.now a.rows.now a.order.now a.book.now []) (Call.Show a.history) a.answer.now (sym c.in_default.ensures) c.requires

@@ -1,0 +1,8 @@
+-- The contract of the records' own call, with their number in the lent number.
+use Rattle.fitting_station.specs.RecordCallLaws.{performs}
+use Rattle.fitting_station.proofs.record_calls.fl_records_record_parts.Goals as goal
+
+pub returns : goal.returns
+returns c =
+    performs _ _ _ c.record-r.result _ c.record-r.ensures c.put_records.result c.put_records.new.count c.put_records.ensures.0
+    c.put_records.ensures.1

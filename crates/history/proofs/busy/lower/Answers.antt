@@ -1,0 +1,35 @@
+-- One more is counted with each item, and each history had as many as the entry has.
+use Rattle.std.proofs.Common.{get_or, arith, length-take}
+use Rattle.history.specs.Entries.{no_item, items_of}
+use Rattle.history.specs.EntryLaws.{usable_at}
+use Rattle.history.specs.WordLaws.{column_in}
+use Rattle.history.specs.BusyLaws.{counted_none, counted_down, counted-all, items-one}
+use Rattle.history.proofs.busy.lower.Goals as goal
+
+pub loop-x-init : goal.loop-x-init
+loop-x-init c = counted_none (items_of c.args.e) c.args.book.now c.told-book
+
+pub overflow_sub-book : goal.overflow_sub-book
+overflow_sub-book c =
+    let l = c.loop-x in
+    let xs = items_of c.args.e in
+    let k = (get_or xs l.x-index no_item).history in
+    let low = (usable_at c.args.e c.requires.0 l.x-index).history in
+    let some = items-one xs l.x-index c.loop-x-test.true in
+    omega (arith, l.invariant.numbers k low, some, c.requires.1 k (omega (arith, some)), column_in 5 c.args.book.now k low)
+
+pub loop-x-preserved : goal.loop-x-preserved
+loop-x-preserved c =
+    let l = c.loop-x in
+    let xs = items_of c.args.e in
+    let k = (get_or xs l.x-index no_item).history in
+    let low = (usable_at c.args.e c.requires.0 l.x-index).history in
+    let some = items-one xs l.x-index c.loop-x-test.true in
+    counted_down xs l.x-index l.book c.args.book.now l.invariant c.loop-x-test.true low
+    (omega (arith, l.invariant.numbers k low, some, c.requires.1 k (omega (arith, some)), column_in 5 c.args.book.now k low))
+
+pub returns : goal.returns
+returns c =
+    let e = c.args.e in
+    let l = c.loop-x in
+    counted-all e l.x-index l.book c.args.book.now c.requires.0 c.loop-x-test.false (omega (arith, length-take e.count e.items)) l.invariant

@@ -1,9 +1,0 @@
--- The loop's invariant: i is between `at` and the length.
-use Rattle.std.proofs.Common.{◌≤◌, ◌-◌, length}
-use Rattle.lines_demo.proofs.line_end.Given as goal
-
-abbrev pub invariant-loop-i : goal.invariant-loop-i
-invariant-loop-i l = (l.fn.at ≤ l.i) × (l.i ≤ length l.s)
-
-abbrev pub decreases-loop-i : goal.decreases-loop-i
-decreases-loop-i l = length l.s - l.i
