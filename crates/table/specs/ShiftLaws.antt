@@ -1,7 +1,11 @@
 -- Laws of numbers that change their places: one that moves, the first k of n, and the numbers below n.
 use Rattle.std.specs.Prelude.{ℕ, zero, suc, ◌+◌, ◌-◌, ◌≤◌, ◌<◌, ◌≡◌, refl, List, [], ◌∷◌, ◌++◌, length, get_or, take, drop, set}
-use Rattle.std.proofs.Common.{add-one, arith, sym, ap, ap₂, ◌∙◌, take-append-drop, take-suc-set, take_all, take-take}
-use Rattle.std.proofs.lemmas.List.{set_split, append_assoc}
+use Rattle.std.specs.List.{copy_within}
+use Rattle.std.proofs.Common.{add-one, arith, sym, ap, ap₂, ◌∙◌, take-append-drop, take-suc-set, take_all, take-take, take_at, drop_at, drop-drop}
+use Rattle.std.proofs.Common.{length-append, length-drop, length-take-le}
+use Rattle.std.proofs.Math.Seq.{take-add}
+use Rattle.std.proofs.lemmas.List.{set_split, append_assoc, drop-take, take-append-le}
+use borrow.Rule.Slice.PartMut.{put_mid}
 use Rattle.forms.specs.Lists.{below}
 use Rattle.table.specs.Lists.{omit}
 use Rattle.table.specs.Order.{moved, turned}
@@ -69,6 +73,112 @@ unfolding turned
 turned-is k n l h =
     append_assoc (drop k (take n l)) (take k (take n l)) (drop n l)
     ∙ ap (λ (r : List ℕ). drop k (take n l) ++ (r ++ drop n l)) (take-take k n l h)
+
+-- Of the first n numbers, those from k on have come to the front of the list w, and the first k are put behind them.
+pub turned_copied : (k n : ℕ) (l w s : List ℕ) → k ≤ n → n ≤ length l → w ≡ copy_within l k n 0 → s ≡ take k l
+    → put_mid (n - k) (n - (n - k)) w s ≡ turned k n l
+unfolding turned
+turned_copied k n l w s h g e f =
+    ap₂ (λ (x y : List ℕ). x ++ y) front (ap₂ (λ (x y : List ℕ). x ++ y) f behind)
+  where
+    long : length (take (n - k) (drop k l)) ≡ n - k
+    long = length-take-le (n - k) (drop k l) (omega (arith, h, g, length-drop k l))
+
+    front : take (n - k) w ≡ drop k (take n l)
+    front =
+        ap (take (n - k)) e
+        ∙ take_at (take (n - k) (drop k l)) (drop (0 + (n - k)) l) (n - k) long
+        ∙ sym (drop-take k (n - k) l)
+        ∙ ap (λ (j : ℕ). drop k (take j l)) (let z : k + (n - k) ≡ n = omega arith in z)
+
+    behind : drop (n - (n - k)) (drop (n - k) w) ≡ drop n l
+    behind =
+        ap (λ (x : List ℕ). drop (n - (n - k)) (drop (n - k) x)) e
+        ∙ ap (drop (n - (n - k))) (drop_at (take (n - k) (drop k l)) (drop (0 + (n - k)) l) (n - k) long)
+        ∙ drop-drop (n - (n - k)) (0 + (n - k)) l
+        ∙ ap (λ (j : ℕ). drop j l) (let z : 0 + (n - k) + (n - (n - k)) ≡ n = omega arith in z)
+
+-- The numbers from j to i have moved on by one, those before i: the number at i is put into its place.
+pub forward_copied : (i j : ℕ) (l r : List ℕ) → j ≤ i → i < length l → length r ≡ length l → r ≡ copy_within l j i (j + 1)
+    → set r j (get_or l i 0) ≡ moved i j l
+forward_copied i j l r h g m e = moved-end i j (get_or l i 0) l r (omega (arith, m)) same refl
+  where
+    part : List ℕ
+    part = take (i - j) (drop j l)
+
+    rest : List ℕ
+    rest = drop (j + 1 + (i - j)) l
+
+    long : length (take (j + 1) l) ≡ j + 1
+    long = length-take-le (j + 1) l (omega arith)
+
+    is : r ≡ take (j + 1) l ++ (part ++ rest)
+    is = e ∙ append_assoc (take (j + 1) l) part rest
+
+    front : take j r ≡ take j l
+    front =
+        ap (take j) is
+        ∙ take-append-le j (take (j + 1) l) (part ++ rest) (omega (arith, long))
+        ∙ take-take j (j + 1) l (omega arith)
+
+    behind : drop (suc j) r ≡ part ++ rest
+    behind = ap (drop (suc j)) is ∙ drop_at (take (j + 1) l) (part ++ rest) (suc j) (let z : j + 1 ≡ suc j = omega arith in long ∙ z)
+
+    up : take j l ++ part ≡ take i l
+    up = sym (take-add j (i - j) l) ∙ ap (λ (n : ℕ). take n l) (let z : j + (i - j) ≡ i = omega arith in z)
+
+    past : rest ≡ drop (suc i) l
+    past = ap (λ (n : ℕ). drop n l) (let z : j + 1 + (i - j) ≡ suc i = omega arith in z)
+
+    same : omit j r ≡ omit i l
+    same =
+        omit-is j r
+        ∙ ap₂ (λ (a b : List ℕ). a ++ b) front behind
+        ∙ sym (append_assoc (take j l) part rest)
+        ∙ ap₂ (λ (a b : List ℕ). a ++ b) up past
+        ∙ sym (omit-is i l)
+
+-- The numbers behind i up to j have moved up by one: the number at i is put into its place.
+pub back_copied : (i j : ℕ) (l r : List ℕ) → i ≤ j → j < length l → length r ≡ length l → r ≡ copy_within l (i + 1) (j + 1) i
+    → set r j (get_or l i 0) ≡ moved i j l
+back_copied i j l r h g m e = moved-end i j (get_or l i 0) l r (omega (arith, m)) same refl
+  where
+    up : ℕ
+    up = j + 1 - (i + 1)
+
+    part : List ℕ
+    part = take up (drop (i + 1) l)
+
+    long : length (take i l ++ part) ≡ j
+    long =
+        omega (
+          arith,
+          length-append (take i l) part,
+          length-take-le i l (omega arith),
+          length-take-le up (drop (i + 1) l) (omega (arith, length-drop (i + 1) l)),
+        )
+
+    front : take j r ≡ take i l ++ part
+    front = ap (take j) e ∙ take_at (take i l ++ part) (drop (i + up) l) j long
+
+    behind : drop (suc j) r ≡ drop up (drop (i + 1) l)
+    behind =
+        ap (λ (n : ℕ). drop n r) (let z : suc j ≡ j + 1 = omega arith in z)
+        ∙ sym (drop-drop 1 j r)
+        ∙ ap (λ (x : List ℕ). drop 1 (drop j x)) e
+        ∙ ap (drop 1) (drop_at (take i l ++ part) (drop (i + up) l) j long)
+        ∙ drop-drop 1 (i + up) l
+        ∙ ap (λ (n : ℕ). drop n l) (let z : i + up + 1 ≡ i + 1 + up = omega arith in z)
+        ∙ sym (drop-drop up (i + 1) l)
+
+    same : omit j r ≡ omit i l
+    same =
+        omit-is j r
+        ∙ ap₂ (λ (a b : List ℕ). a ++ b) front behind
+        ∙ append_assoc (take i l) part (drop up (drop (i + 1) l))
+        ∙ ap (λ (x : List ℕ). take i l ++ x) (take-append-drop up (drop (i + 1) l))
+        ∙ ap (λ (n : ℕ). take i l ++ drop n l) (let z : i + 1 ≡ suc i = omega arith in z)
+        ∙ sym (omit-is i l)
 
 -- ### Numbers written one behind the other
 

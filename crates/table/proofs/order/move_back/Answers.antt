@@ -1,10 +1,9 @@
--- The numbers from `from` to `to` are turned by one.
-use Rattle.std.proofs.Common.{◌+◌, ◌-◌, arith}
-use Rattle.table.specs.ShiftLaws.{moved_back}
+-- The numbers between move up by one, and the number itself goes into its place.
+use Rattle.table.specs.ShiftLaws.{back_copied}
 use Rattle.table.proofs.order.move_back.Goals as goal
 
 pub returns : goal.returns
 returns c =
     let a = c.args in
-    rw c.rotate_left.ensures.after
-    (moved_back a.from a.to (a.to + 1 - a.from) a.order.now (omega arith) (omega arith) (omega arith))
+    back_copied a.from a.to a.order.now c.copy_within.new.self c.requires.0 c.requires.1 c.copy_within.ensures.len
+    c.copy_within.ensures.after
