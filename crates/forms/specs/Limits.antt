@@ -49,7 +49,7 @@ record_limit = 64
 abbrev pub sites_limit : ℕ
 sites_limit = 8
 
--- What the longest reply has, its end among them: it has two lists of 64 numbers. 01 does not say it; the contract of `bound_line` shows
+-- What the longest reply has, its end among them: it has two lists of 64 numbers. 01 does not say it; the clause `bound` of `write_line` shows
 -- it.
 abbrev pub reply_limit : ℕ
 reply_limit = 2741
