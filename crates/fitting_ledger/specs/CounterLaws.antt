@@ -1,5 +1,5 @@
 -- Counters that were written are read as they were.
-use Rattle.std.specs.Prelude.{ℕ, ◌≡◌, refl, Bool, true, false, List, [], Option as Held, Some, None}
+use Rattle.std.specs.Prelude.{ℕ, ◌≡◌, refl, Bool, true, false, cond, List, [], ◌∷◌, eqb, set, get_or, drop, Option as Held, Some, None}
 use Rattle.std.proofs.Common.{sym, ap, ap₂, subst, ◌∙◌}
 use Rattle.std.proofs.lemmas.Option.{none-some, same_Some}
 use Rattle.site.specs.declared.Site.{Site}
@@ -51,3 +51,27 @@ opened-words ws s w o = go (open_at ws) o w
     go : (b : Bool) → site_if b (site_at ws) ≡ Some s → site_words b (site_at ws) [] ≡ ws → site_counters s ≡ ws
     go true e h = ap (λ (x : Site). site_words true x []) (sym (same_Some (site_at ws) s e)) ∙ h
     go false e h = absurd (none-some s e)
+
+-- ### Without a site
+
+-- Words that say that no site is open: the session has none.
+pub closed-words : (ws : List ℕ) → (session_at (set ws 0 0)).site ≡ None
+unfolding session_at
+closed-words [] = refl
+closed-words (w ∷ ws) = refl
+
+-- They are counters as much as those before them.
+pub closed-again : (ws : List ℕ) → words_again ws ≡ ws → words_again (set ws 0 0) ≡ set ws 0 0
+unfolding words_again site_at site_words
+closed-again [] e = e
+closed-again (w ∷ ws) e = ap (λ (l : List ℕ). 0 ∷ drop 1 l) e
+
+-- Where they said so before, they are the same.
+pub closed-same : (ws : List ℕ) → words_again ws ≡ ws → (session_at ws).site ≡ None → set ws 0 0 ≡ ws
+unfolding session_at words_again site_words
+closed-same [] e o = refl
+closed-same (w ∷ ws) e o = go (eqb w 1) o (ap (λ (l : List ℕ). get_or l 0 0) e)
+  where
+    go : (b : Bool) → site_if b (site_at (w ∷ ws)) ≡ None → cond b 1 0 ≡ w → 0 ∷ ws ≡ w ∷ ws
+    go true q f = absurd (none-some (site_at (w ∷ ws)) (sym q))
+    go false q f = ap (λ (x : ℕ). x ∷ ws) f

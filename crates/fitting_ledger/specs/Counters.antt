@@ -1,5 +1,5 @@
 -- A session's counters as thirteen words.
-use Rattle.std.specs.Prelude.{ℕ, Bool, true, false, List, [], replicate, Option as Held, Some, None}
+use Rattle.std.specs.Prelude.{ℕ, Bool, true, false, List, [], set, replicate, Option as Held, Some, None}
 use Rattle.site.specs.declared.Site.{Site}
 use Rattle.session.specs.declared.Session.{Session}
 use Rattle.call_words.specs.Counters.{open_at, site_at, site_words}
@@ -30,10 +30,10 @@ held_counters None = replicate counter_words 0
 unfoldable pub words_of : Session → List ℕ
 words_of s = held_counters s.site
 
--- .. after a turn that came to the site held: without one they are as they were
+-- .. after a turn that came to the site held: without one they say that none is open, and are else as they were
 abbrev pub counters_after : List ℕ → Held Site → List ℕ
 counters_after ws (Some s) = site_counters s
-counters_after ws None = ws
+counters_after ws None = set ws 0 0
 
 -- The words of what words say, whether it is open or not.
 unfoldable pub words_again : List ℕ → List ℕ

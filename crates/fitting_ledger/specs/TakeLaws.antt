@@ -1,22 +1,17 @@
 -- A turn of the session that the counters are, and its reply written.
 use Rattle.std.specs.Prelude.{ℕ, ◌≤◌, ◌<◌, ◌≡◌, refl, Bool, List, [], ◌++◌, length, drop, Option as Held, Some, None}
 use Rattle.std.proofs.Common.{arith, sym, ap, subst, ◌∙◌, le-leb}
-use Rattle.std.proofs.Math.Option.{Option, none, some}
+use Rattle.std.proofs.Math.Option.{Option}
 use Rattle.std.proofs.lemmas.Bool.{lt-leb}
-use Rattle.forms.specs.Decimal.{Step}
-use Rattle.forms.specs.Decimal.Step.{got, bad}
-use Rattle.forms.specs.Forms.{Command, Outcome, Refused, Accepted, outcome_text, did_text}
-use Rattle.forms.specs.Reading.{read_command}
-use Rattle.forms.specs.declared.Refusal.TheVariants.{Unreadable, OutOfTurn}
+use Rattle.forms.specs.Forms.{Outcome, Refused, Accepted, outcome_text}
 use Rattle.forms.specs.Limits.{reply_limit}
 use Rattle.forms.specs.Held.{replied, outcome_of}
 use Rattle.forms.specs.Write.{placed, Wrote, with_end}
-use Rattle.rules.specs.State.{State, Reply, refused, ok}
-use Rattle.rules.specs.Calls.{Call, step}
+use Rattle.rules.specs.State.{State}
 use Rattle.rules.specs.Log.{ended}
-use Rattle.rules.specs.Session.{Turn, turn_of, opening, calling, obey, on_command, turn}
+use Rattle.rules.specs.Session.{Turn, turn}
 use Rattle.site.specs.declared.Site.{Site}
-use Rattle.site.specs.Model.{Lent, lent, view}
+use Rattle.site.specs.Model.{Lent, lent}
 use Rattle.session.specs.declared.Session.{Session}
 use Rattle.session.specs.declared.LineResult.{LineResult}
 use Rattle.session.specs.Model.{view_of, session_view, used_of, ValidOpened, ValidSession, Keeps, Turns, TurnsLine}
@@ -25,7 +20,7 @@ use Rattle.stream.specs.LoggingLaws.{turn_logs}
 use Rattle.call_words.specs.Used.{used_by, site_used}
 use Rattle.fitting_ledger.specs.Counters.{session_at, held_counters, words_of, counters_after, words_again}
 use Rattle.fitting_ledger.specs.Model.{state_at, ValidState, UnusedLeft, KeepsAs, Takes, Answers, AnswersIf, AnswersIfRoom}
-use Rattle.fitting_ledger.specs.CounterLaws.{session_of, words_valid, opened-words}
+use Rattle.fitting_ledger.specs.CounterLaws.{session_of, words_valid, opened-words, closed-words, closed-again, closed-same}
 
 -- What is lent, without the lists of a reply.
 abbrev bare : Lent → Lent
@@ -39,47 +34,9 @@ view-bare s m = by_site s.site
     by_site (Some x) = refl
     by_site None = refl
 
--- A site that is open stays open.
-open_stays : (r : Reply) (st : State) → (turn_of r (some st)).after ≡ none → ⊥
-unfolding turn_of
-open_stays (refused q) st e = let z : ◌≡◌ {A = ℕ} 0 1 = cc in omega arith
-open_stays (ok st' a) st e = let z : ◌≡◌ {A = ℕ} 0 1 = cc in omega arith
-
-form_stays : (room : ℕ) (c : Command) (st : State) → (obey room c (some st)).after ≡ none → ⊥
-unfolding obey opening calling
-form_stays room (Command.SiteOf n) st e = open_stays (refused OutOfTurn) st e
-form_stays room (Command.Add i us) st e = open_stays (step (Call.Add i us) st) st e
-form_stays room (Command.Finish i) st e = open_stays (step (Call.Finish i) st) st e
-form_stays room (Command.Withdraw i) st e = open_stays (step (Call.Withdraw i) st) st e
-form_stays room (Command.Persistent n) st e = open_stays (step (Call.Persistent n) st) st e
-form_stays room (Command.Stable n) st e = open_stays (step (Call.Stable n) st) st e
-form_stays room (Command.Show h) st e = open_stays (step (Call.Show h) st) st e
-form_stays room (Command.Cut k) st e = open_stays (step (Call.Cut k room) st) st e
-form_stays room (Command.Redo d) st e = open_stays (step (Call.Redo (did_text d)) st) st e
-form_stays room Command.End st e = open_stays (step Call.End st) st e
-
-line_stays : (room : ℕ) (line : List ℕ) (st : State) → (turn room line (some st)).after ≡ none → ⊥
-unfolding turn on_command
-line_stays room line st e = go (read_command line) e
-  where
-    go : (x : Step Command) → (on_command room x (some st)).after ≡ none → ⊥
-    go bad h = open_stays (refused Unreadable) st h
-    go (got c rest) h = form_stays room c st h
-
--- .. so a session that a line's turn leaves without a site had none
-had_none : (room : ℕ) (line : List ℕ) (s : Session) (old : Lent) (r : LineResult) (new : Lent) →
-    Turns s old (turn room line (session_view s old)) r new → r.session.site ≡ None → s.site ≡ None
-had_none room line s old r new h o =
-    go s.site (sym (ap (λ (x : Held Site). view_of x new) o) ∙ h.after)
-  where
-    go : (x : Held Site) → none ≡ (turn room line (view_of x old)).after → x ≡ None
-    go (Some x) e = absurd (line_stays room line (view x old) (sym e))
-    go None e = refl
-
 -- The counters of the session after its turn.
 module _ (ws : List ℕ) (old : Lent) (t : Turn) (r : LineResult) (new : Lent) (after : List ℕ) (v : ValidState ws (bare old))
-    (h : Turns (session_at ws) old t r new) (none-was : r.session.site ≡ None → (session_at ws).site ≡ None)
-    (e : after ≡ counters_after ws r.session.site) where
+    (h : Turns (session_at ws) old t r new) (e : after ≡ counters_after ws r.session.site) where
   -- what they say, whether there is a site or not
   after_by : (x : Held Site) → r.session.site ≡ x → after ≡ counters_after ws x → (session_at after ≡ r.session) × (words_again after ≡ after)
   unfolding words_of
@@ -87,8 +44,8 @@ module _ (ws : List ℕ) (old : Lent) (t : Turn) (r : LineResult) (new : Lent) (
       let w : after ≡ words_of r.session = k ∙ ap held_counters (sym o) in
       (session_of r.session after w, (words_valid r.session after (bare new) w h.valid).words)
   after_by None o k = (
-    ap session_at k ∙ (λ i. record { site = (none-was o ∙ sym o) i }),
-    subst (λ (x : List ℕ). words_again x ≡ x) (sym k) v.words,
+    ap session_at k ∙ (λ i. record { site = (closed-words ws ∙ sym o) i }),
+    subst (λ (x : List ℕ). words_again x ≡ x) (sym k) (closed-again ws v.words),
   )
 
   said-session : session_at after ≡ r.session
@@ -100,7 +57,7 @@ module _ (ws : List ℕ) (old : Lent) (t : Turn) (r : LineResult) (new : Lent) (
     where
       by_site : (x : Held Site) → r.session.site ≡ x → after ≡ counters_after ws x → after ≡ ws
       by_site (Some x) o z = z ∙ opened-words ws x v.words (sym (ap (λ (y : Session). y.site) k) ∙ o)
-      by_site None o z = z
+      by_site None o z = z ∙ closed-same ws v.words (sym (ap (λ (y : Session). y.site) k) ∙ o)
 
   pub takes : Takes ws (bare old) t after (bare new)
   takes =
@@ -122,14 +79,13 @@ module _ (ws : List ℕ) (old : Lent) (t : Turn) (r : LineResult) (new : Lent) (
 
 -- .. with its reply written
 answers : (ws : List ℕ) (old : Lent) (t : Turn) (r : LineResult) (new : Lent) (after out page : List ℕ) (n : ℕ) →
-    ValidState ws (bare old) → Turns (session_at ws) old t r new → (r.session.site ≡ None → (session_at ws).site ≡ None) →
-    after ≡ counters_after ws r.session.site →
+    ValidState ws (bare old) → Turns (session_at ws) old t r new → after ≡ counters_after ws r.session.site →
     Wrote out 0 (with_end (outcome_text (outcome_of (replied r.reply new.lists)))) n page →
     Answers ws (bare old) t n after (bare new) out page
 unfolding ended placed
-answers ws old t r new after out page n v h o e w =
+answers ws old t r new after out page n v h e w =
     record {
-      takes = takes ws old t r new after v h o e;
+      takes = takes ws old t r new after v h e;
       reply = fronts (subst (λ (o : Outcome). Wrote out 0 (with_end (outcome_text o)) n page) h.answer.outcome w);
     }
   where
@@ -146,22 +102,16 @@ pub answers-line : (s : Session) (ws : List ℕ) (old : Lent) (line : List ℕ) 
     AnswersIfRoom ws (bare old) (turn (length old.log) line (state_at ws (bare old))) n after (bare new) out page
 answers-line s ws old line r new after out page n is room v h e w =
     subst (λ (b : Bool). AnswersIf b ws (bare old) t n after (bare new) out page) (sym (le-leb reply_limit (length out) room))
-    (answers ws old t r new after out page n v turns closed e w)
+    (answers ws old t r new after out page n v turns e w)
   where
     t : Turn
     t = turn (length old.log) line (state_at ws (bare old))
-
-    own : TurnsLine (session_at ws) old line r new
-    own = subst (λ (x : Session). TurnsLine x old line r new) is h
 
     turns : Turns (session_at ws) old t r new
     turns =
         subst (λ (x : Turn). Turns (session_at ws) old x r new)
         (ap (λ (x : Option State). turn (length old.log) line x) (view-bare (session_at ws) old))
-        own
-
-    closed : r.session.site ≡ None → (session_at ws).site ≡ None
-    closed = had_none (length old.log) line (session_at ws) old r new own
+        (subst (λ (x : Session). TurnsLine x old line r new) is h)
 
 -- Too little room.
 pub answers-short : (ws : List ℕ) (old : Lent) (t : Turn) (out : List ℕ) → length out < reply_limit

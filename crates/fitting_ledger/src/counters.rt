@@ -86,11 +86,12 @@ pub(crate) fn put_site(words: &mut Counters, site: Site)
     *words = words_of(site);
 }
 
-// .. or, without a site, stay as they are.
+// .. or, without a site, say that none is open, and are else as they were.
 pub(crate) fn put_session(words: &mut Counters, s: Session)
     ensures { words.new ≡ counters_after words.old s.site }
 {
-    if let Some(site) = s.site {
-        put_site(words, site);
+    match s.site {
+        Some(site) => put_site(words, site),
+        None => words[0] = 0,
     }
 }
