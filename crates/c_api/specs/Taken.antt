@@ -39,7 +39,7 @@ TakesUp reply log (Ok s) = TakenUp reply log s
 -- ### Behind a restart
 
 -- A refusal's form says the refusal, whatever the lists are.
-form_says : (r : ReplyLine) (ns : List ℕ) (q : Refusal) → r.form ≡ ReplyForm.Refused q → outcome_of (replied r ns) ≡ Refused q
+pub form_says : (r : ReplyLine) (ns : List ℕ) (q : Refusal) → r.form ≡ ReplyForm.Refused q → outcome_of (replied r ns) ≡ Refused q
 unfolding outcome_of outcome_with
 form_says r ns q e =
     ap (λ (f : ReplyForm). outcome_of (replied (record { form = f; first = r.first; second = r.second }) ns)) e

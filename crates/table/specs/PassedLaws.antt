@@ -39,7 +39,7 @@ module _ {A : Type 0} (p : A → Bool) where
       let q = none_parts (p x) (first_at p l) e in
       rw (q.0, first_mid l a r q.1 h)
 
-  first_none : first_at p [] ≡ None
+  pub first_none : first_at p [] ≡ None
   unfolding first_at
   first_none = refl
 
